@@ -1,0 +1,4 @@
+pub mod FormLengths
+pub mod KeyOrder
+pub mod Keys
+pub mod Refusals

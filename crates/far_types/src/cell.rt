@@ -1,0 +1,36 @@
+// Cells and their kinds.
+ghost use Rattle.std.specs.Prelude.{◌≡◌, IfOk, IfErr};
+
+use super::refusal::Refusal;
+use super::text::Text;
+
+/// What the cells of a column are, where they have a value.
+#[derive(Clone, Copy, Debug, PartialEq, Eq)]
+pub enum Kind {
+    /// Whole numbers of 64 bits, signed.
+    Int,
+    /// Texts of at most 4,096 bytes.
+    Text,
+}
+
+/// One cell of a row: a number, a text, or no value. A cell without a value is of either kind.
+#[derive(Drop, Debug)]
+pub enum Cell {
+    Int(i64),
+    Text(Text),
+    Missing,
+}
+
+impl Cell {
+    /// An equal cell. Refused with `NoMemory` (1) alone.
+    pub fn clone(&self) -> Result<Cell, Refusal>
+        ensures equal { IfOk result (λ cell. cell ≡ self.now) }
+        ensures memory { IfErr result (λ e. e ≡ Refusal.NoMemory) }
+    {
+        match self {
+            Cell::Int(number) => Ok(Cell::Int(*number)),
+            Cell::Text(text) => Ok(Cell::Text(text.clone()?)),
+            Cell::Missing => Ok(Cell::Missing),
+        }
+    }
+}

@@ -1,0 +1,99 @@
+// The keys of an aggregate's lines, and their order.
+ghost use Rattle.std.specs.Prelude.{◌≡◌, IfOk, IfErr};
+
+use super::refusal::Refusal;
+use super::text::Text;
+use std::cmp::Ordering;
+
+/// A key of an aggregate: the value of a row's cell in the key column. Numbers are in the order of their
+/// values, texts in that of their bytes; one column has one kind, so the order between the two kinds (numbers
+/// first) is never seen.
+#[derive(Drop, Debug)]
+pub enum Key {
+    Int(i64),
+    Text(Text),
+}
+
+impl Key {
+    /// An equal key. Refused with `NoMemory` (1) alone.
+    pub fn clone(&self) -> Result<Key, Refusal>
+        ensures equal { IfOk result (λ key. key ≡ self.now) }
+        ensures memory { IfErr result (λ e. e ≡ Refusal.NoMemory) }
+    {
+        match self {
+            Key::Int(number) => Ok(Key::Int(*number)),
+            Key::Text(text) => Ok(Key::Text(text.clone()?)),
+        }
+    }
+}
+
+/// A clone of a key, where there is one. Refused with `NoMemory` (1) alone.
+pub fn clone_key(key: &Option<Key>) -> Result<Option<Key>, Refusal>
+    ensures equal { IfOk result (λ clone. clone ≡ key.now) }
+    ensures memory { IfErr result (λ e. e ≡ Refusal.NoMemory) }
+{
+    match key {
+        None => Ok(None),
+        Some(key) => Ok(Some(key.clone()?)),
+    }
+}
+
+impl PartialEq for Key {
+    ghost use Rattle.std.specs.Ordering.{eq_by_cmp};
+    ghost use Rattle.std.specs.Cmp.{eq_by_cmp_equiv, partial_equiv_from_equiv};
+    ghost use Rattle.far_types.specs.Keys.{key_cmp};
+    ghost use Rattle.far_types.specs.KeyOrder.{key_total};
+
+    ghost eq = { eq_by_cmp key_cmp };
+
+    ghost laws = { partial_equiv_from_equiv (eq_by_cmp_equiv key_total) };
+
+    fn eq(&self, other: &Key) -> bool {
+        self.cmp(other) == Ordering::Equal
+    }
+}
+
+impl Eq for Key {
+    ghost use Rattle.std.specs.Cmp.{eq_by_cmp_equiv};
+    ghost use Rattle.far_types.specs.KeyOrder.{key_total};
+
+    ghost laws = { eq_by_cmp_equiv key_total };
+}
+
+impl PartialOrd for Key {
+    ghost use Rattle.std.specs.Ordering.{as_partial_cmp};
+    ghost use Rattle.std.specs.Cmp.{partial_order_from_total};
+    ghost use Rattle.far_types.specs.Keys.{key_cmp};
+    ghost use Rattle.far_types.specs.KeyOrder.{key_total};
+
+    ghost partial_cmp = { as_partial_cmp key_cmp };
+
+    ghost laws = { partial_order_from_total key_total };
+
+    fn partial_cmp(&self, other: &Key) -> Option<Ordering> {
+        Some(self.cmp(other))
+    }
+}
+
+impl Ord for Key {
+    ghost use Rattle.std.specs.Prelude.{refl};
+    ghost use Rattle.far_types.specs.Keys.{key_cmp};
+    ghost use Rattle.far_types.specs.KeyOrder.{key_total};
+
+    ghost cmp = { key_cmp };
+
+    ghost total = { key_total };
+
+    ghost matches_partial_cmp = { λ x y. refl };
+
+    ghost matches_eq = { λ x y. refl };
+
+    fn cmp(&self, other: &Key) -> Ordering {
+        match (self, other) {
+            (Key::Int(a), Key::Int(b)) => a.cmp(b),
+            (Key::Int(_), Key::Text(_)) => Ordering::Less,
+            (Key::Text(_), Key::Int(_)) => Ordering::Greater,
+            (Key::Text(s), Key::Text(t)) => s.cmp(t),
+        }
+    }
+}

@@ -1,0 +1,167 @@
+// Why a call was refused.
+ghost use Rattle.std.specs.Prelude.{◌≡◌, codes};
+ghost use Rattle.far_types.specs.Refusals.{number_of, name_of};
+
+use std::alloc::{AllocError, AllocFailed};
+use thiserror::Error;
+
+/// Why a call was refused. A refused call leaves rows, columns and answers as they were.
+///
+/// Where several refusals apply, a call answers the first in the order of their numbers, but that 20 stands
+/// directly before 16, 11 directly after 16, and 1 last. There is no number 23.
+#[derive(Debug, Drop, Clone, Copy, PartialEq, Eq, Error)]
+pub enum Refusal {
+    /// 1: a growth was refused for want of memory.
+    #[error("NoMemory")]
+    NoMemory,
+    /// 2: the schema or the limits are outside what a table may have.
+    #[error("BadSchema")]
+    BadSchema,
+    /// 3: more than 4 tests, a text constant of more than 4,096 bytes, or a gauge that is not totals without key.
+    #[error("BadSpec")]
+    BadSpec,
+    /// 4: there is no such column.
+    #[error("NoColumn")]
+    NoColumn,
+    /// 5: a cell, a constant or a column is of the other kind.
+    #[error("WrongKind")]
+    WrongKind,
+    /// 6: a row has another number of cells than the schema.
+    #[error("RowWidth")]
+    RowWidth,
+    /// 7: a text cell has more than 4,096 bytes.
+    #[error("TextTooLong")]
+    TextTooLong,
+    /// 8: there is no such place.
+    #[error("NoRow")]
+    NoRow,
+    /// 9: the place is dead.
+    #[error("RemovedRow")]
+    RemovedRow,
+    /// 10: the limit of places is reached.
+    #[error("TableFull")]
+    TableFull,
+    /// 11: the far form of a text object would be longer than a text segment.
+    #[error("ChunkFull")]
+    ChunkFull,
+    /// 12: no aggregate has this number.
+    #[error("NoAggregate")]
+    NoAggregate,
+    /// 13: 32 aggregates are registered, or 2^32 registrations were made.
+    #[error("TooManyAggregates")]
+    TooManyAggregates,
+    /// 14: a range, a group, a segment, a stripe, a count of workers or a set of sessions is not as asked.
+    #[error("OutOfRange")]
+    OutOfRange,
+    /// 15: as many row groups are still to be built into the aggregate.
+    #[error("Building {0}")]
+    Building(u32),
+    /// 16: the object of this column and row group is not local.
+    #[error("Absent {column} {group}")]
+    Absent { column: u32, group: u32 },
+    /// 17: what must be placed fits in no segment of the local region.
+    #[error("RegionFull")]
+    RegionFull,
+    /// 18: the object has no pin.
+    #[error("NotPinned")]
+    NotPinned,
+    /// 19: the object has a pin.
+    #[error("Pinned")]
+    Pinned,
+    /// 20: what the job or the scan rests on does not hold any more.
+    #[error("StaleJob")]
+    StaleJob,
+    /// 21: the far store failed in this call.
+    #[error("FarFault")]
+    FarFault,
+    /// 22: the number drawn from the far store is not below its capacity.
+    #[error("FarFull")]
+    FarFull,
+    /// 24: the limit of edits, of jobs, of writes to one object or of pins is reached.
+    #[error("EditsUsedUp")]
+    EditsUsedUp,
+}
+
+impl Refusal {
+    /// The number by which a script and its documentation name the refusal. Takes no memory.
+    pub fn number(&self) -> u32
+        ensures { result ≡ number_of self.now }
+    {
+        match self {
+            Refusal::NoMemory => 1,
+            Refusal::BadSchema => 2,
+            Refusal::BadSpec => 3,
+            Refusal::NoColumn => 4,
+            Refusal::WrongKind => 5,
+            Refusal::RowWidth => 6,
+            Refusal::TextTooLong => 7,
+            Refusal::NoRow => 8,
+            Refusal::RemovedRow => 9,
+            Refusal::TableFull => 10,
+            Refusal::ChunkFull => 11,
+            Refusal::NoAggregate => 12,
+            Refusal::TooManyAggregates => 13,
+            Refusal::OutOfRange => 14,
+            Refusal::Building(_) => 15,
+            Refusal::Absent { .. } => 16,
+            Refusal::RegionFull => 17,
+            Refusal::NotPinned => 18,
+            Refusal::Pinned => 19,
+            Refusal::StaleJob => 20,
+            Refusal::FarFault => 21,
+            Refusal::FarFull => 22,
+            Refusal::EditsUsedUp => 24,
+        }
+    }
+
+    /// The refusal's name, without what it carries. Takes no memory.
+    pub fn name(&self) -> &'static str
+        ensures { result.now ≡ name_of self.now }
+    {
+        match self {
+            Refusal::NoMemory => "NoMemory",
+            Refusal::BadSchema => "BadSchema",
+            Refusal::BadSpec => "BadSpec",
+            Refusal::NoColumn => "NoColumn",
+            Refusal::WrongKind => "WrongKind",
+            Refusal::RowWidth => "RowWidth",
+            Refusal::TextTooLong => "TextTooLong",
+            Refusal::NoRow => "NoRow",
+            Refusal::RemovedRow => "RemovedRow",
+            Refusal::TableFull => "TableFull",
+            Refusal::ChunkFull => "ChunkFull",
+            Refusal::NoAggregate => "NoAggregate",
+            Refusal::TooManyAggregates => "TooManyAggregates",
+            Refusal::OutOfRange => "OutOfRange",
+            Refusal::Building(_) => "Building",
+            Refusal::Absent { .. } => "Absent",
+            Refusal::RegionFull => "RegionFull",
+            Refusal::NotPinned => "NotPinned",
+            Refusal::Pinned => "Pinned",
+            Refusal::StaleJob => "StaleJob",
+            Refusal::FarFault => "FarFault",
+            Refusal::FarFull => "FarFull",
+            Refusal::EditsUsedUp => "EditsUsedUp",
+        }
+    }
+}
+
+impl From<AllocError> for Refusal {
+    ghost use Rattle.far_types.specs.declared.refusal.Refusal.TheVariants.{NoMemory};
+
+    ghost from_gives = { λ _ e. e ≡ NoMemory };
+
+    fn from(_e: AllocError) -> Refusal {
+        Refusal::NoMemory
+    }
+}
+
+impl<T: Drop> From<AllocFailed<T>> for Refusal {
+    ghost use Rattle.far_types.specs.declared.refusal.Refusal.TheVariants.{NoMemory};
+
+    ghost from_gives = { λ _ e. e ≡ NoMemory };
+
+    fn from(_e: AllocFailed<T>) -> Refusal {
+        Refusal::NoMemory
+    }
+}
