@@ -1,4 +1,12 @@
+pub mod Answers
+pub mod Bounds
+pub mod Cells
+pub mod Edits
+pub mod Filters
+pub mod FirstOf
 pub mod FormLengths
 pub mod KeyOrder
 pub mod Keys
+pub mod Pairs
 pub mod Refusals
+pub mod Table

@@ -1,12 +1,27 @@
 #![tactic(auto)]
-//! The words that every crate of the table shares: cells, keys, schemas, edits, aggregates and refusals.
+//! The words that every crate of the table shares: cells, rows, schemas, edits, aggregates, answers and refusals, and
+//! in `specs` the plain table that every contract above speaks of.
 
+pub mod answer;
 pub mod cell;
+pub mod edit;
+pub mod filter;
 pub mod key;
+pub mod limits;
 pub mod refusal;
+pub mod row;
+pub mod schema;
+pub mod spec;
 pub mod text;
 
+pub use answer::{Answer, ExtremaLines, TotalLines};
 pub use cell::{Cell, Kind};
-pub use key::Key;
+pub use edit::{Edit, Name};
+pub use filter::{Filter, Op, Test};
+pub use key::{Key, clone_key};
+pub use limits::Limits;
 pub use refusal::Refusal;
+pub use row::Row;
+pub use schema::Schema;
+pub use spec::{Fold, Spec};
 pub use text::Text;

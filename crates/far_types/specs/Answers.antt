@@ -1,0 +1,94 @@
+-- What an aggregate answers over the pairs of the folded rows.
+use Rattle.std.specs.Prelude.{ℕ, ℤ, pos, ◌+ℤ◌, Bool, List, [], ◌∷◌, length, map, filter, Option, None, Some}
+use Rattle.std.specs.Int.{int_min, int_max}
+use Rattle.std.specs.Ordering.{eq_by_cmp}
+use Rattle.std.specs.FinMap as fin
+use Rattle.far_types.specs.declared.key.Key.{Key}
+use Rattle.far_types.specs.declared.cell.Cell.{Cell}
+use Rattle.far_types.specs.declared.spec.Spec.{Spec}
+use Rattle.far_types.specs.declared.spec.Fold.{Fold}
+use Rattle.far_types.specs.declared.spec.Fold.TheVariants as fold
+use Rattle.far_types.specs.declared.answer.Answer.{Answer}
+use Rattle.far_types.specs.declared.answer.Answer.TheVariants as answer
+use Rattle.far_types.specs.Keys.{line_cmp}
+use Rattle.far_types.specs.Pairs.{Pair, pairs_of}
+
+abbrev pub is_under : Option Key → Pair → Bool
+is_under key pair = eq_by_cmp line_cmp key pair.0
+
+-- the values that stand under a key, in order
+abbrev pub values_of : Option Key → List Pair → List ℤ
+values_of key pairs = map (λ pair. pair.1) (filter (λ pair. is_under key pair) pairs)
+
+abbrev pub int_sum : List ℤ → ℤ
+int_sum [] = pos 0
+int_sum (value ∷ values) = value +ℤ int_sum values
+
+-- the least of some values, at least one
+abbrev pub least : List ℤ → ℤ
+least [] = pos 0
+least (value ∷ []) = value
+least (value ∷ next ∷ values) = int_min value (least (next ∷ values))
+
+-- the greatest of some values, at least one
+abbrev pub greatest : List ℤ → ℤ
+greatest [] = pos 0
+greatest (value ∷ []) = value
+greatest (value ∷ next ∷ values) = int_max value (greatest (next ∷ values))
+
+-- by key, ascending: only keys that occur, none twice
+abbrev pub ByKey : Type 0 → Type 0
+ByKey V = fin.FinMap line_cmp V
+
+-- the keys that occur, each with what its values come to
+abbrev pub grouped : {V : Type 0} → (List ℤ → V) → List Pair → ByKey V
+grouped fold pairs = fin.from_entries (map (λ (pair : Pair). (pair.0, fold (values_of pair.0 pairs))) pairs)
+
+-- how many values there are, and their sum
+abbrev pub tally : List ℤ → ℕ × ℤ
+tally values = (length values, int_sum values)
+
+-- the least value and the greatest
+abbrev pub span : List ℤ → ℤ × ℤ
+span values = (least values, greatest values)
+
+abbrev pub Totals : Type 0
+Totals = ByKey (ℕ × ℤ)
+
+abbrev pub totals : List Pair → Totals
+totals pairs = grouped tally pairs
+
+abbrev pub Extrema : Type 0
+Extrema = ByKey (ℤ × ℤ)
+
+abbrev pub extrema : List Pair → Extrema
+extrema pairs = grouped span pairs
+
+-- the lines of an answer: a key, a count and a sum
+abbrev pub TotalLines : Type 0
+TotalLines = List (Option Key × ℕ × ℤ)
+
+abbrev pub total_lines : Totals → TotalLines
+total_lines totals = map (λ (entry : Option Key × (ℕ × ℤ)). (entry.0, entry.1.0, entry.1.1)) (fin.entries totals)
+
+-- a key, a minimum and a maximum
+abbrev pub ExtremaLines : Type 0
+ExtremaLines = List (Option Key × ℤ × ℤ)
+
+abbrev pub extrema_lines : Extrema → ExtremaLines
+extrema_lines extrema = map (λ (entry : Option Key × (ℤ × ℤ)). (entry.0, entry.1.0, entry.1.1)) (fin.entries extrema)
+
+-- totals without key column always give one line
+abbrev pub or_zero : Option ℕ → TotalLines → TotalLines
+or_zero None [] = (None, 0, pos 0) ∷ []
+or_zero None (line ∷ lines) = line ∷ lines
+or_zero (Some column) lines = lines
+
+-- the answer over pairs of an aggregate with this fold and this key column
+abbrev pub answer_of : Fold → Option ℕ → List Pair → Answer
+answer_of fold.Totals key pairs = answer.Totals (or_zero key (total_lines (totals pairs)))
+answer_of fold.Extrema key pairs = answer.Extrema (extrema_lines (extrema pairs))
+
+-- the answer of an aggregate over rows
+abbrev pub answer_over : Spec → List (List Cell) → Answer
+answer_over spec rows = answer_of spec.fold spec.key (pairs_of spec rows)

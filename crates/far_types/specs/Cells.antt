@@ -1,0 +1,65 @@
+-- What a cell is, and what it gives to a test, a key or a sum.
+use Rattle.std.specs.Prelude.{ℕ, ℤ, Bool, true, false, nat_lt, List, length, Option, None, Some, slice_get, unwrap_or, FitsSigned}
+use Rattle.std.specs.Int.{w64}
+use Rattle.std.specs.List.{AllByRecursion}
+use Rattle.far_types.specs.declared.cell.Cell.{Cell}
+use Rattle.far_types.specs.declared.cell.Cell.TheVariants as cell
+use Rattle.far_types.specs.declared.cell.Kind.{Kind}
+use Rattle.far_types.specs.declared.cell.Kind.TheVariants as kind
+use Rattle.far_types.specs.declared.key.Key.{Key}
+use Rattle.far_types.specs.declared.key.Key.TheVariants as key
+
+-- a cell without a value is of either kind
+abbrev pub is_of_kind : Kind → Cell → Bool
+is_of_kind kind.Int (cell.Int number) = true
+is_of_kind kind.Int (cell.Text text) = false
+is_of_kind kind.Text (cell.Int number) = false
+is_of_kind kind.Text (cell.Text text) = true
+is_of_kind k cell.Missing = true
+
+-- a text cell has at most 4,096 bytes
+abbrev pub is_too_long : Cell → Bool
+is_too_long (cell.Int number) = false
+is_too_long (cell.Text text) = nat_lt 4096 (length text)
+is_too_long cell.Missing = false
+
+-- the number of a cell that has one
+abbrev pub number_in : Option Cell → Option ℤ
+number_in (Some (cell.Int number)) = Some number
+number_in (Some (cell.Text text)) = None
+number_in (Some cell.Missing) = None
+number_in None = None
+
+-- the text of a cell that has one
+abbrev pub text_in : Cell → Option (List ℕ)
+text_in (cell.Int number) = None
+text_in (cell.Text text) = Some text
+text_in cell.Missing = None
+
+-- the key that a cell with a value gives
+abbrev pub key_in : Option Cell → Option Key
+key_in (Some (cell.Int number)) = Some (key.Int number)
+key_in (Some (cell.Text text)) = Some (key.Text text)
+key_in (Some cell.Missing) = None
+key_in None = None
+
+-- what a row has in its columns, by the number of the column: nothing where there is no such column.
+-- Whoever holds only some columns of a row speaks of it in the same words
+abbrev pub Cells : Type 0
+Cells = ℕ → Option Cell
+
+abbrev pub cells_of : List Cell → Cells
+cells_of row = slice_get row
+
+-- the cell of one column of a row, which has all columns
+abbrev pub cell_at : ℕ → List Cell → Cell
+cell_at column row = unwrap_or (slice_get row column) cell.Missing
+
+-- the numbers of cells are those of 64 bits
+abbrev pub CellFits : Cell → Type 0
+CellFits (cell.Int number) = FitsSigned w64 number
+CellFits (cell.Text text) = Unit {0}
+CellFits cell.Missing = Unit {0}
+
+abbrev pub RowFits : List Cell → Type 0
+RowFits row = AllByRecursion CellFits row

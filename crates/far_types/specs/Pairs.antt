@@ -1,0 +1,43 @@
+-- What rows give to an aggregate: the folded rows, each as a pair of a key and a value.
+use Rattle.std.specs.Prelude.{ℕ, ℤ, List, filter, Option, None, Some, option_map, cond, FitsSigned}
+use Rattle.std.specs.Int.{w64}
+use Rattle.std.specs.List.{filter_map, AllByRecursion}
+use Rattle.far_types.specs.declared.cell.Cell.{Cell}
+use Rattle.far_types.specs.declared.key.Key.{Key}
+use Rattle.far_types.specs.declared.spec.Spec.{Spec}
+use Rattle.far_types.specs.Cells.{Cells, cells_of, number_in, key_in}
+use Rattle.far_types.specs.Filters.{keeps}
+
+-- the key of a folded row, none in an aggregate without key column, and its value
+abbrev pub Pair : Type 0
+Pair = Option Key × ℤ
+
+-- the key under which a row stands: nothing where the key column has no value
+abbrev pub key_under : Option ℕ → Cells → Option (Option Key)
+key_under None cells = Some None
+key_under (Some column) cells = option_map Some (key_in (cells column))
+
+abbrev pub paired : Option (Option Key) → Option ℤ → Option Pair
+paired (Some key) (Some value) = Some (key, value)
+paired (Some key) None = None
+paired None value = None
+
+-- a kept row is folded where its value and, with a key column, its key have values
+abbrev pub pair_in : Spec → Cells → Option Pair
+pair_in spec cells = paired (key_under spec.key cells) (number_in (cells spec.value))
+
+-- the pair of a row that is kept and folded
+abbrev pub pair_of : Spec → Cells → Option Pair
+pair_of spec cells = cond (keeps spec.filter cells) (pair_in spec cells) None
+
+-- the rows that a filter keeps, in order
+abbrev pub kept : Spec → List (List Cell) → List (List Cell)
+kept spec rows = filter (λ row. keeps spec.filter (cells_of row)) rows
+
+-- the pairs of the folded rows, in order
+abbrev pub pairs_of : Spec → List (List Cell) → List Pair
+pairs_of spec rows = filter_map (λ row. pair_in spec (cells_of row)) (kept spec rows)
+
+-- the values of pairs are numbers of 64 bits
+abbrev pub PairsFit : List Pair → Type 0
+PairsFit pairs = AllByRecursion (λ (pair : Pair). FitsSigned w64 pair.1) pairs

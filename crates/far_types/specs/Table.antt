@@ -1,0 +1,68 @@
+-- The plain table, which the code never forms: a list of rows, and every answer computed anew from all of them.
+use Rattle.std.specs.Prelude.{ℕ, ◌+◌, ◌-◌, ◌*◌, ◌/◌, Bool, true, false, List, [], ◌∷◌, map, filter, length, replicate, take, drop, slice_range, slice_index_or, count_by, Option, None, Some}
+use Rattle.far_types.specs.declared.cell.Cell.{Cell}
+use Rattle.far_types.specs.declared.cell.Kind.{Kind}
+use Rattle.far_types.specs.declared.limits.Limits.{Limits}
+use Rattle.far_types.specs.declared.spec.Spec.{Spec}
+use Rattle.far_types.specs.declared.answer.Answer.{Answer}
+use Rattle.far_types.specs.Cells.{cell_at}
+use Rattle.far_types.specs.Answers.{answer_over}
+
+-- a row of cells, of which a removal clears the flag and leaves the cells
+pub record Place : Type 0 where
+  pub cells : List Cell
+  pub alive : Bool
+
+-- an aggregate: how many registrations were made before it, and which row groups are still to be built into it,
+-- a flag for each row group that held a place when it was registered
+pub record Registered : Type 0 where
+  pub spec : Spec
+  pub registration : ℕ
+  pub unbuilt : List Bool
+
+-- the places, how many edits and registrations were accepted, and the aggregates by number, of which there are 32
+pub record Table : Type 0 where
+  pub schema : List Kind
+  pub limits : Limits
+  pub places : List Place
+  pub edits : ℕ
+  pub registrations : ℕ
+  pub aggregates : List (Option Registered)
+
+abbrev pub empty_table : List Kind → Limits → Table
+empty_table schema limits = record { schema = schema; limits = limits; places = []; edits = 0; registrations = 0; aggregates = replicate 32 None }
+
+-- the rows: the cells of the places that are alive, in order of place
+abbrev pub rows_of : List Place → List (List Cell)
+rows_of places = map (λ place. place.cells) (filter (λ place. place.alive) places)
+
+-- a column: its cells over all places, dead ones too
+abbrev pub column : ℕ → List Place → List Cell
+column c places = map (λ place. cell_at c place.cells) places
+
+-- the places from one up to another of a column
+abbrev pub part : ℕ → ℕ → ℕ → List Place → List Cell
+part c from to places = slice_range (column c places) from to
+
+-- row group g holds places g * size to g * size + size - 1
+abbrev pub in_group : {A : Type 0} → ℕ → ℕ → List A → List A
+in_group size g places = take size (drop (g * size) places)
+
+-- how many row groups hold a place
+abbrev pub groups : ℕ → ℕ → ℕ
+groups size places = (places + size - 1) / size
+
+-- all row groups that hold a place are still to be built into an aggregate that is registered now. One made later never is
+abbrev pub all_unbuilt : ℕ → List Place → List Bool
+all_unbuilt size places = replicate (groups size (length places)) true
+
+abbrev pub is_unbuilt : List Bool → ℕ → Bool
+is_unbuilt unbuilt g = slice_index_or unbuilt g false
+
+-- how many row groups are still to be built in
+abbrev pub left : List Bool → ℕ
+left unbuilt = count_by (λ flag. flag) unbuilt
+
+-- what an aggregate answers over the table's rows as they are now
+abbrev pub answer_now : Spec → Table → Answer
+answer_now spec table = answer_over spec (rows_of table.places)

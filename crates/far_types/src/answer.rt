@@ -1,0 +1,105 @@
+// What an aggregate answers.
+ghost use Rattle.std.specs.Prelude.{◌≡◌, IfOk, IfErr};
+
+use super::key::Key;
+use super::refusal::Refusal;
+use std::marker::Model;
+
+/// Keys, ascending, each with a count and a sum. Contracts see their list.
+#[derive(Drop, Debug)]
+pub struct TotalLines {
+    lines: Vec<(Option<Key>, u64, i128)>,
+}
+
+impl Model for TotalLines {
+    ghost use Rattle.std.specs.Prelude.{List, Option, ℕ, ℤ};
+    ghost use Rattle.far_types.specs.declared.key.Key.{Key};
+
+    ghost Value = { List (Option Key × ℕ × ℤ) };
+
+    ghost view = { λ answer. answer.lines.items };
+}
+
+impl TotalLines {
+    ghost use Rattle.far_types.specs.Answers.{or_zero};
+
+    /// These lines. Takes no memory.
+    pub fn new(lines: Vec<(Option<Key>, u64, i128)>) -> TotalLines
+        ensures { result ≡ lines.items }
+    {
+        TotalLines { lines }
+    }
+
+    /// The lines, lent in place.
+    pub fn as_slice(&self) -> &[(Option<Key>, u64, i128)]
+        ensures { result.now ≡ self.now }
+    {
+        self.lines.as_slice()
+    }
+
+    /// The lines that these were made of. Takes no memory.
+    pub fn into_lines(self) -> Vec<(Option<Key>, u64, i128)>
+        ensures { result.items ≡ self }
+    {
+        self.lines
+    }
+
+    /// The same lines, or the line of count 0 and sum 0 where there is none and the aggregate has no key column.
+    /// Refused with `NoMemory` (1) alone.
+    pub fn or_zero(self, key: Option<u32>) -> Result<TotalLines, Refusal>
+        ensures lines { IfOk result (λ lines. lines ≡ or_zero key self) }
+        ensures memory { IfErr result (λ e. e ≡ Refusal.NoMemory) }
+    {
+        let mut lines = self.lines;
+        if key.is_none() && lines.is_empty() {
+            lines.push((None, 0, 0))?;
+        }
+        Ok(TotalLines { lines })
+    }
+}
+
+/// Keys, ascending, each with a least and a greatest value. Contracts see their list.
+#[derive(Drop, Debug)]
+pub struct ExtremaLines {
+    lines: Vec<(Option<Key>, i64, i64)>,
+}
+
+impl Model for ExtremaLines {
+    ghost use Rattle.std.specs.Prelude.{List, Option, ℤ};
+    ghost use Rattle.far_types.specs.declared.key.Key.{Key};
+
+    ghost Value = { List (Option Key × ℤ × ℤ) };
+
+    ghost view = { λ answer. answer.lines.items };
+}
+
+impl ExtremaLines {
+    /// These lines. Takes no memory.
+    pub fn new(lines: Vec<(Option<Key>, i64, i64)>) -> ExtremaLines
+        ensures { result ≡ lines.items }
+    {
+        ExtremaLines { lines }
+    }
+
+    /// The lines, lent in place.
+    pub fn as_slice(&self) -> &[(Option<Key>, i64, i64)]
+        ensures { result.now ≡ self.now }
+    {
+        self.lines.as_slice()
+    }
+
+    /// The lines that these were made of. Takes no memory.
+    pub fn into_lines(self) -> Vec<(Option<Key>, i64, i64)>
+        ensures { result.items ≡ self }
+    {
+        self.lines
+    }
+}
+
+/// What an aggregate answers: its keys, ascending (numbers by value, texts by bytes), each with what its values come
+/// to. Totals without key column have one line always, extrema have none where no row is folded.
+#[derive(Drop, Debug)]
+pub enum Answer {
+    Totals(TotalLines),
+    Extrema(ExtremaLines),
+}

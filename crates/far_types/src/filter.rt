@@ -1,0 +1,180 @@
+// Tests of rows.
+ghost use Rattle.std.specs.Prelude.{◌≡◌, IfOk, IfErr, length, take};
+ghost use Rattle.std.specs.Option.{option_copied};
+
+use super::cell::Cell;
+use super::refusal::Refusal;
+use super::row::Row;
+use super::text::Text;
+use std::marker::Model;
+
+/// How a number is compared with a constant.
+#[derive(Clone, Copy, Debug, PartialEq, Eq)]
+pub enum Op {
+    Eq,
+    Ne,
+    Lt,
+    Le,
+    Gt,
+    Ge,
+}
+
+impl Op {
+    ghost use Rattle.far_types.specs.Filters.{compares};
+
+    /// Whether a number stands so to the constant.
+    pub fn holds(self, number: i64, constant: i64) -> bool
+        ensures { result ≡ compares self number constant }
+    {
+        match self {
+            Op::Eq => number == constant,
+            Op::Ne => number != constant,
+            Op::Lt => number < constant,
+            Op::Le => number <= constant,
+            Op::Gt => number > constant,
+            Op::Ge => number >= constant,
+        }
+    }
+}
+
+/// A test of one column. It is false where the row has no such column, where the cell is of the other kind, and
+/// where it has no value, `Ne` too.
+#[derive(Drop, Debug)]
+pub enum Test {
+    /// The number stands so to the constant.
+    Int { column: u32, op: Op, value: i64 },
+    /// The text is the constant, byte by byte.
+    TextIs { column: u32, text: Text },
+    /// The text begins with the constant's bytes. Each text begins with the empty one.
+    TextBegins { column: u32, text: Text },
+}
+
+impl Test {
+    ghost use Rattle.far_types.specs.Filters.{passes};
+    ghost use Rattle.far_types.specs.Bounds.{column_of, has_long_constant};
+    ghost use Rattle.far_types.specs.Cells.{cells_of};
+
+    /// The column that the test looks at.
+    pub fn column(&self) -> u32
+        ensures { result ≡ column_of self.now }
+    {
+        match self {
+            Test::Int { column, .. } => *column,
+            Test::TextIs { column, .. } => *column,
+            Test::TextBegins { column, .. } => *column,
+        }
+    }
+
+    /// Whether the test's constant is a text of more than 4,096 bytes.
+    pub fn is_too_long(&self) -> bool
+        ensures { result ≡ has_long_constant self.now }
+    {
+        match self {
+            Test::Int { .. } => false,
+            Test::TextIs { text, .. } => text.len() > 4096,
+            Test::TextBegins { text, .. } => text.len() > 4096,
+        }
+    }
+
+    /// Whether the test holds of a row.
+    pub fn holds(&self, row: &Row) -> bool
+        ensures { result ≡ passes self.now (cells_of row.now) }
+    {
+        match self {
+            Test::Int { column, op, value } => match row.get(*column as usize) {
+                Some(Cell::Int(number)) => op.holds(*number, *value),
+                _ => false,
+            },
+            Test::TextIs { column, text } => match row.get(*column as usize) {
+                Some(Cell::Text(cell)) => cell == text,
+                _ => false,
+            },
+            Test::TextBegins { column, text } => match row.get(*column as usize) {
+                Some(Cell::Text(cell)) => cell.as_bytes().starts_with(text.as_bytes()),
+                _ => false,
+            },
+        }
+    }
+
+    /// An equal test. Refused with `NoMemory` (1) alone.
+    pub fn clone(&self) -> Result<Test, Refusal>
+        ensures equal { IfOk result (λ test. test ≡ self.now) }
+        ensures memory { IfErr result (λ e. e ≡ Refusal.NoMemory) }
+    {
+        match self {
+            Test::Int { column, op, value } => Ok(Test::Int {
+                column: *column,
+                op: *op,
+                value: *value,
+            }),
+            Test::TextIs { column, text } => Ok(Test::TextIs {
+                column: *column,
+                text: text.clone()?,
+            }),
+            Test::TextBegins { column, text } => Ok(Test::TextBegins {
+                column: *column,
+                text: text.clone()?,
+            }),
+        }
+    }
+}
+
+/// Tests that must all hold. Contracts see their list.
+#[derive(Drop, Debug)]
+pub struct Filter {
+    tests: Vec<Test>,
+}
+
+impl Model for Filter {
+    ghost use Rattle.std.specs.Prelude.{List};
+    ghost use Rattle.far_types.specs.declared.filter.Test.{Test};
+
+    ghost Value = { List Test };
+
+    ghost view = { λ filter. filter.tests.items };
+}
+
+impl Filter {
+    ghost use Rattle.far_types.specs.Filters.{keeps};
+    ghost use Rattle.far_types.specs.Cells.{cells_of};
+
+    /// The filter of these tests; none keeps every row. Takes no memory.
+    pub fn new(tests: Vec<Test>) -> Filter
+        ensures { result ≡ tests.items }
+    {
+        Filter { tests }
+    }
+
+    /// The tests that the filter was made of. Takes no memory.
+    pub fn into_tests(self) -> Vec<Test>
+        ensures { result.items ≡ self }
+    {
+        self.tests
+    }
+
+    /// The tests, lent in place.
+    pub fn as_slice(&self) -> &[Test]
+        ensures { result.now ≡ self.now }
+    {
+        self.tests.as_slice()
+    }
+
+    /// Whether every test holds of the row. Takes no memory.
+    pub fn keeps(&self, row: &Row) -> bool
+        ensures { result ≡ keeps self.now (cells_of row.now) }
+    {
+        self.tests.iter().all(|test| test.holds(row))
+    }
+
+    /// An equal filter. Refused with `NoMemory` (1) alone.
+    pub fn clone(&self) -> Result<Filter, Refusal>
+        ensures equal { IfOk result (λ filter. filter ≡ self.now) }
+        ensures memory { IfErr result (λ e. e ≡ Refusal.NoMemory) }
+    {
+        let mut tests = Vec::with_capacity(*self.tests.allocator(), self.tests.len())?;
+        for test in &self.tests {
+            tests.push(test.clone()?)?;
+        }
+        Ok(Filter { tests })
+    }
+}

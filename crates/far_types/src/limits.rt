@@ -1,0 +1,60 @@
+// The limits of a table.
+ghost use Rattle.std.specs.Prelude.{◌≡◌, OnOk, IfErr};
+
+use super::refusal::Refusal;
+
+/// What a table is opened for.
+#[derive(Clone, Copy, Debug, PartialEq, Eq)]
+pub struct Limits {
+    /// How many places a row group has: 1 to 65,536.
+    pub group: u32,
+    /// How many places the table may have: 1 to 2^24.
+    pub places: u32,
+    /// How many edits, and how many jobs, are accepted: 1 to 2^40.
+    pub edits: u64,
+    /// How many segments the local region of numbers has: 1 to 1,024.
+    pub int_segments: u32,
+    /// How many numbers one of them holds: from `group` to 1,048,576.
+    pub int_size: u32,
+    /// How many segments the local region of texts has: 1 to 1,024.
+    pub text_segments: u32,
+    /// How many bytes one of them holds: 64 to 16,777,216.
+    pub text_size: u32,
+}
+
+impl Limits {
+    ghost use Rattle.far_types.specs.Bounds.{AreLimits};
+
+    /// Whether a table may have these limits. Refused with `BadSchema` (2) exactly where one is out of its bounds.
+    /// Takes no memory.
+    pub fn check(&self) -> Result<(), Refusal>
+        ensures ok { OnOk result (AreLimits self.now) }
+        ensures bad { IfErr result (λ e. (e ≡ Refusal.BadSchema) × ¬ (AreLimits self.now)) }
+    {
+        let limits = *self;
+        if limits.group < 1
+            || limits.group > 65_536
+            || limits.places < 1
+            || limits.places > 16_777_216
+            || limits.edits < 1
+            || limits.edits > 1_099_511_627_776
+        {
+            return Err(Refusal::BadSchema);
+        }
+        if limits.int_segments < 1
+            || limits.int_segments > 1_024
+            || limits.int_size < limits.group
+            || limits.int_size > 1_048_576
+        {
+            return Err(Refusal::BadSchema);
+        }
+        if limits.text_segments < 1
+            || limits.text_segments > 1_024
+            || limits.text_size < 64
+            || limits.text_size > 16_777_216
+        {
+            return Err(Refusal::BadSchema);
+        }
+        Ok(())
+    }
+}

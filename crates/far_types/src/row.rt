@@ -1,0 +1,95 @@
+// Rows of cells.
+ghost use Rattle.std.specs.Prelude.{◌≡◌, IfOk, IfErr, length, slice_get, take};
+ghost use Rattle.std.specs.Option.{option_copied};
+ghost use Rattle.far_types.specs.Cells.{RowFits, CellFits};
+
+use super::cell::Cell;
+use super::refusal::Refusal;
+use std::marker::Model;
+
+/// The cells of a row, in the order of the columns. Contracts see their list.
+#[derive(Drop, Debug)]
+pub struct Row {
+    cells: Vec<Cell>,
+}
+
+impl Model for Row {
+    ghost use Rattle.std.specs.Prelude.{List};
+    ghost use Rattle.far_types.specs.declared.cell.Cell.{Cell};
+    ghost use Rattle.far_types.specs.Cells.{RowFits};
+
+    ghost Value = { List Cell };
+
+    ghost view = { λ row. row.cells.items };
+
+    ghost invariant = { λ row. RowFits row.cells.items };
+}
+
+/// The number of a cell is one of 64 bits, which nobody knows of a cell behind a reference before it is read.
+fn read_number(cell: &Cell)
+    ensures { CellFits cell.now }
+{
+    if let Cell::Int(number) = cell {
+        let _number = *number;
+    }
+}
+
+fn read_numbers(cells: &[Cell])
+    ensures { RowFits cells.now }
+{
+    for cell in cells {
+        read_number(cell);
+    }
+}
+
+impl Row {
+    /// The row of these cells. Takes no memory.
+    pub fn new(cells: Vec<Cell>) -> Row
+        ensures { result ≡ cells.items }
+    {
+        read_numbers(cells.as_slice());
+        Row { cells }
+    }
+
+    /// The cells that the row was made of. Takes no memory.
+    pub fn into_cells(self) -> Vec<Cell>
+        ensures cells { result.items ≡ self }
+        ensures fit { RowFits self }
+    {
+        self.cells
+    }
+
+    /// How many cells the row has.
+    pub fn len(&self) -> usize
+        ensures { result ≡ length self.now }
+    {
+        self.cells.len()
+    }
+
+    /// The cell of a column, or `None` where the row has no such column.
+    pub fn get(&self, column: usize) -> Option<&Cell>
+        ensures { option_copied result ≡ slice_get self.now column }
+    {
+        self.cells.get(column)
+    }
+
+    /// The cells, lent in place. Each number is one of 64 bits.
+    pub fn as_slice(&self) -> &[Cell]
+        ensures cells { result.now ≡ self.now }
+        ensures fit { RowFits self.now }
+    {
+        self.cells.as_slice()
+    }
+
+    /// An equal row. Refused with `NoMemory` (1) alone.
+    pub fn clone(&self) -> Result<Row, Refusal>
+        ensures equal { IfOk result (λ row. row ≡ self.now) }
+        ensures memory { IfErr result (λ e. e ≡ Refusal.NoMemory) }
+    {
+        let mut cells = Vec::with_capacity(*self.cells.allocator(), self.cells.len())?;
+        for cell in &self.cells {
+            cells.push(cell.clone()?)?;
+        }
+        Ok(Row { cells })
+    }
+}

@@ -1,0 +1,71 @@
+// The kinds of a table's columns.
+ghost use Rattle.std.specs.Prelude.{◌≡◌, IfOk, IfErr, length, slice_get};
+ghost use Rattle.far_types.specs.Bounds.{IsSchema};
+
+use super::cell::Kind;
+use super::refusal::Refusal;
+use std::marker::Model;
+
+/// The kinds of a table's columns, 1 to 16 of them. Contracts see their list.
+#[derive(Drop, Debug)]
+pub struct Schema {
+    kinds: Vec<Kind>,
+}
+
+impl Model for Schema {
+    ghost use Rattle.std.specs.Prelude.{List};
+    ghost use Rattle.far_types.specs.declared.cell.Kind.{Kind};
+    ghost use Rattle.far_types.specs.Bounds.{IsSchema};
+
+    ghost Value = { List Kind };
+
+    ghost view = { λ schema. schema.kinds.items };
+
+    ghost invariant = { λ schema. IsSchema schema.kinds.items };
+}
+
+impl Schema {
+    /// The schema with these columns. Refused with `BadSchema` (2) exactly where there are not 1 to 16. Takes no
+    /// memory.
+    pub fn new(kinds: Vec<Kind>) -> Result<Schema, Refusal>
+        ensures ok { IfOk result (λ schema. (schema ≡ kinds.items) × IsSchema kinds.items) }
+        ensures bad { IfErr result (λ e. (e ≡ Refusal.BadSchema) × ¬ (IsSchema kinds.items)) }
+    {
+        if kinds.len() < 1 || kinds.len() > 16 {
+            return Err(Refusal::BadSchema);
+        }
+        Ok(Schema { kinds })
+    }
+
+    /// How many columns there are.
+    pub fn len(&self) -> usize
+        ensures len { result ≡ length self.now }
+        ensures within { IsSchema self.now }
+    {
+        self.kinds.len()
+    }
+
+    /// The kind of a column, or `None` where there is no such column.
+    pub fn get(&self, column: usize) -> Option<Kind>
+        ensures { result ≡ slice_get self.now column }
+    {
+        self.kinds.get(column).copied()
+    }
+
+    /// The kinds, lent in place.
+    pub fn as_slice(&self) -> &[Kind]
+        ensures { result.now ≡ self.now }
+    {
+        self.kinds.as_slice()
+    }
+
+    /// An equal schema. Refused with `NoMemory` (1) alone.
+    pub fn clone(&self) -> Result<Schema, Refusal>
+        ensures equal { IfOk result (λ schema. schema ≡ self.now) }
+        ensures memory { IfErr result (λ e. e ≡ Refusal.NoMemory) }
+    {
+        Ok(Schema {
+            kinds: self.kinds.clone()?,
+        })
+    }
+}

@@ -1,0 +1,137 @@
+// What an aggregate computes.
+ghost use Rattle.std.specs.Prelude.{◌≡◌, ◌==◌, IfOk, IfErr, OnOk, slice_get, Some, None};
+ghost use Rattle.std.specs.List.{list_any, list_all};
+
+use super::cell::Kind;
+use super::filter::{Filter, Test};
+use super::refusal::Refusal;
+use super::schema::Schema;
+
+/// What an aggregate makes of the values under each key.
+#[derive(Clone, Copy, Debug, PartialEq, Eq)]
+pub enum Fold {
+    /// How many there are, and their sum.
+    Totals,
+    /// The least and the greatest.
+    Extrema,
+}
+
+/// An aggregate: what it makes of the values of which rows, by which key.
+#[derive(Drop, Debug)]
+pub struct Spec {
+    pub fold: Fold,
+    /// The column of the values, of whole numbers.
+    pub value: u32,
+    /// The column of the keys, of either kind. Without one all rows stand under the one key "none".
+    pub key: Option<u32>,
+    /// Which rows are kept.
+    pub filter: Filter,
+}
+
+/// Whether a test is of its column's kind.
+fn has_its_kind(schema: &Schema, test: &Test) -> bool
+    ensures { result ≡ has_its_kind schema.now test.now }
+{
+    match test {
+        Test::Int { column, .. } => schema.get(*column as usize) == Some(Kind::Int),
+        Test::TextIs { column, .. } => schema.get(*column as usize) == Some(Kind::Text),
+        Test::TextBegins { column, .. } => schema.get(*column as usize) == Some(Kind::Text),
+    }
+}
+
+fn have_their_kinds(schema: &Schema, tests: &[Test]) -> bool
+    ensures { result ≡ list_all (has_its_kind schema.now) tests.now }
+{
+    tests.iter().all(|test| has_its_kind(schema, test))
+}
+
+fn are_too_many(tests: &[Test]) -> bool
+    ensures { result ≡ nat_lt 4 (length tests.now) }
+{
+    tests.len() > 4
+}
+
+fn is_one_too_long(tests: &[Test]) -> bool
+    ensures { result ≡ list_any has_long_constant tests.now }
+{
+    tests.iter().any(|test| test.is_too_long())
+}
+
+fn look_at(tests: &[Test], column: u32) -> bool
+    ensures { result ≡ list_any (λ test. column_of test == column) tests.now }
+{
+    tests.iter().any(|test| test.column() == column)
+}
+
+fn are_within(tests: &[Test], columns: usize) -> bool
+    ensures { result ≡ list_all (λ test. nat_lt (column_of test) columns) tests.now }
+{
+    tests.iter().all(|test| (test.column() as usize) < columns)
+}
+
+ghost use Rattle.far_types.specs.Bounds.{has_its_kind, has_long_constant, column_of};
+ghost use Rattle.std.specs.Prelude.{nat_lt, length};
+
+impl Spec {
+    ghost use Rattle.far_types.specs.Bounds.{needs, is_within, spec_refusal};
+
+    /// Whether the aggregate needs a column: that of a test, of its key or of its value. Takes no memory.
+    pub fn needs(&self, column: u32) -> bool
+        ensures { result ≡ needs self.now column }
+    {
+        if look_at(self.filter.as_slice(), column) {
+            return true;
+        }
+        match self.key {
+            Some(key) if key == column => true,
+            _ => self.value == column,
+        }
+    }
+
+    /// Whether all columns that the aggregate needs are among the first `columns`.
+    fn is_within(&self, columns: usize) -> bool
+        ensures { result ≡ is_within columns self.now }
+    {
+        if !are_within(self.filter.as_slice(), columns) {
+            return false;
+        }
+        match self.key {
+            Some(key) if key as usize >= columns => false,
+            _ => (self.value as usize) < columns,
+        }
+    }
+
+    /// Whether a table with this schema may register the aggregate. Refused with `BadSpec` (3) exactly where it has
+    /// more than 4 tests or a text constant of more than 4,096 bytes; else with `NoColumn` (4) exactly where a
+    /// column that it needs does not exist; else with `WrongKind` (5) exactly where the value's column is not of
+    /// numbers or a test is of another kind than its column. Takes no memory.
+    pub fn check(&self, schema: &Schema) -> Result<(), Refusal>
+        ensures ok { OnOk result (spec_refusal schema.now self.now ≡ None) }
+        ensures refused { IfErr result (λ e. spec_refusal schema.now self.now ≡ Some e) }
+    {
+        let tests = self.filter.as_slice();
+        if are_too_many(tests) || is_one_too_long(tests) {
+            return Err(Refusal::BadSpec);
+        }
+        if !self.is_within(schema.len()) {
+            return Err(Refusal::NoColumn);
+        }
+        if schema.get(self.value as usize) != Some(Kind::Int) || !have_their_kinds(schema, tests) {
+            return Err(Refusal::WrongKind);
+        }
+        Ok(())
+    }
+
+    /// An equal aggregate. Refused with `NoMemory` (1) alone.
+    pub fn clone(&self) -> Result<Spec, Refusal>
+        ensures equal { IfOk result (λ spec. spec ≡ self.now) }
+        ensures memory { IfErr result (λ e. e ≡ Refusal.NoMemory) }
+    {
+        Ok(Spec {
+            fold: self.fold,
+            value: self.value,
+            key: self.key,
+            filter: self.filter.clone()?,
+        })
+    }
+}
