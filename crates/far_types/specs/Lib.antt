@@ -1,6 +1,8 @@
 pub mod Answers
 pub mod Bounds
 pub mod Cells
+pub mod Changes
+pub mod Codes
 pub mod Edits
 pub mod Filters
 pub mod FirstOf
