@@ -24,17 +24,17 @@ abbrev pub int_sum : List ℤ → ℤ
 int_sum [] = pos 0
 int_sum (value ∷ values) = value +ℤ int_sum values
 
--- the least of some values, at least one
-abbrev pub least : List ℤ → ℤ
-least [] = pos 0
-least (value ∷ []) = value
-least (value ∷ next ∷ values) = int_min value (least (next ∷ values))
+-- what is picked of some values, two by two; of none it is no value
+abbrev pub picked : (ℤ → ℤ → ℤ) → List ℤ → ℤ
+picked pick [] = pos 0
+picked pick (value ∷ []) = value
+picked pick (value ∷ next ∷ values) = pick value (picked pick (next ∷ values))
 
--- the greatest of some values, at least one
+abbrev pub least : List ℤ → ℤ
+least values = picked int_min values
+
 abbrev pub greatest : List ℤ → ℤ
-greatest [] = pos 0
-greatest (value ∷ []) = value
-greatest (value ∷ next ∷ values) = int_max value (greatest (next ∷ values))
+greatest values = picked int_max values
 
 -- by key, ascending: only keys that occur, none twice
 abbrev pub ByKey : Type 0 → Type 0
