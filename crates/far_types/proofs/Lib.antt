@@ -1,2 +1,4 @@
 pub mod Grouping
+pub mod LineLaws
+pub mod TotalLaws
 pub mod Values

@@ -7,6 +7,7 @@ pub mod cell;
 pub mod edit;
 pub mod filter;
 pub mod key;
+pub mod laws;
 pub mod limits;
 pub mod refusal;
 pub mod row;
