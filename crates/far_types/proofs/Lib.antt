@@ -1,4 +1,5 @@
 pub mod Grouping
 pub mod LineLaws
+pub mod PlaceLaws
 pub mod TotalLaws
 pub mod Values
