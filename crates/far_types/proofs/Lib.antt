@@ -1,3 +1,4 @@
+pub mod Computed
 pub mod Grouping
 pub mod LineLaws
 pub mod PlaceLaws
