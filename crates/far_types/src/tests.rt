@@ -74,8 +74,8 @@ fn each_refusal_has_its_number_and_name(rt: HostRuntime) -> Result<(), Fail> {
         (Refusal::EditsUsedUp, 24, "EditsUsedUp"),
     ];
     for (refusal, number, name) in table {
-        assert_eq!(rt; refusal.number(), number, "{name}");
-        assert!(rt; refusal.name() == name, "{name}");
+        assert!(rt; refusal.number() == number, "refusal {number}");
+        assert!(rt; refusal.name() == name, "refusal {number}");
     }
     Ok(())
 }
@@ -312,7 +312,8 @@ fn totals_without_key_always_have_a_line(rt: HostRuntime) -> Result<(), Fail> {
             .as_slice()
             .is_empty()
     );
-    let lines = TotalLines::new(Vec::new(alloc)).or_zero(None)?;
-    assert!(rt; matches!(lines.as_slice(), [(None, 0, 0)]));
+    let lines = TotalLines::new(Vec::new(alloc)).or_zero(None)?.into_lines();
+    assert_eq!(rt; lines.len(), 1);
+    assert!(rt; lines[0].0.is_none() && lines[0].1 == 0 && lines[0].2 == 0);
     Ok(())
 }
