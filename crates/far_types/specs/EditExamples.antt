@@ -1,5 +1,6 @@
--- Worked examples of what edits do, of how long text objects may grow, and of row groups and parts.
+-- Worked examples of what edits do, of how long text objects may grow, of the order of refusals, and of row groups.
 use Rattle.std.specs.Prelude.{◌≡◌, ℕ, ℤ, pos, true, false, [], ◌∷◌, map, None, Some, codes, replicate}
+use Rattle.far_types.specs.declared.cell.Cell.{Cell}
 use Rattle.far_types.specs.declared.cell.Cell.TheVariants as cell
 use Rattle.far_types.specs.declared.cell.Kind.TheVariants as kind
 use Rattle.far_types.specs.declared.edit.Edit.{Edit}
@@ -55,6 +56,36 @@ RoomForTexts =
     × (edit_refusal (edited (letters (pos 2) 1) one_alone) (edit.Set 1 1 (cell.Text (replicate 55 97))) ≡ Some refusal.ChunkFull)
     × (edit_refusal one_text (letters (pos 2) 4096) ≡ Some refusal.ChunkFull)
     × (edit_refusal one_text (letters (pos 2) 4097) ≡ Some refusal.TextTooLong)
+
+-- a table for one row of 54 letters, and for as many edits
+abbrev pub with_edits : ℕ → Table
+with_edits edits = edited (letters (pos 1) 54) (empty_table (kind.Int ∷ kind.Text ∷ []) (record { group = 4; places = 1; edits = edits; int_segments = 1; int_size = 4; text_segments = 2; text_size = 64 }))
+
+-- the row is removed, and then no place is left and no edit: everything is wrong with an edit
+abbrev pub used_up : Table
+used_up = edited (edit.Remove 0) (with_edits 2)
+
+-- a text that is too long for a cell
+abbrev pub long : Cell
+long = cell.Text (replicate 4097 97)
+
+-- of all that is wrong with an edit, the answer is the first in the order of the numbers
+abbrev pub OrderOfRefusals : Type 0
+OrderOfRefusals =
+    (edit_refusal used_up (edit.Insert (long ∷ long ∷ long ∷ [])) ≡ Some refusal.WrongKind)
+    × (edit_refusal used_up (edit.Insert (cell.Missing ∷ long ∷ long ∷ [])) ≡ Some refusal.RowWidth)
+    × (edit_refusal used_up (edit.Insert (cell.Missing ∷ long ∷ [])) ≡ Some refusal.TextTooLong)
+    × (edit_refusal used_up (letters (pos 2) 55) ≡ Some refusal.TableFull)
+    × (edit_refusal used_up (edit.Set 0 2 long) ≡ Some refusal.NoColumn)
+    × (edit_refusal used_up (edit.Set 0 0 long) ≡ Some refusal.WrongKind)
+    × (edit_refusal used_up (edit.Set 0 1 long) ≡ Some refusal.TextTooLong)
+    × (edit_refusal used_up (edit.Set 1 1 (cell.Text b)) ≡ Some refusal.NoRow)
+    × (edit_refusal used_up (edit.Set 0 1 (cell.Text (replicate 55 97))) ≡ Some refusal.RemovedRow)
+    × (edit_refusal used_up (edit.Remove 1) ≡ Some refusal.NoRow)
+    × (edit_refusal used_up (edit.Remove 0) ≡ Some refusal.RemovedRow)
+    × (edit_refusal (with_edits 1) (edit.Set 0 1 (cell.Text (replicate 55 97))) ≡ Some refusal.ChunkFull)
+    × (edit_refusal (with_edits 1) (edit.Set 0 1 (cell.Text b)) ≡ Some refusal.EditsUsedUp)
+    × (edit_refusal (with_edits 1) (edit.Remove 0) ≡ Some refusal.EditsUsedUp)
 
 -- five places in row groups of 4: the second group has the fifth place, and a third group is none
 abbrev pub RowGroups : Type 0

@@ -12,7 +12,7 @@ ghost use Rattle.far_types.specs.Answers.{totals, extrema, total_lines, extrema_
 ghost use Rattle.far_types.specs.Changes.{with_pair, without_pair, with_seen, joined_totals, joined_extrema};
 ghost use Rattle.far_types.specs.Examples.{OverNoRows, TotalsByKey, ExactSum, LeastAndGreatest, Filtered, WithMissing, UsedUp, FirstRefusal, OverLength};
 ghost use Rattle.far_types.specs.FilterExamples.{Comparisons, TestsOfTexts, AllowedAggregates};
-ghost use Rattle.far_types.specs.EditExamples.{WhatEditsDo, RoomForTexts, RowGroups};
+ghost use Rattle.far_types.specs.EditExamples.{WhatEditsDo, RoomForTexts, OrderOfRefusals, RowGroups};
 
 /// What the rows of a table give to an aggregate is what its places give, in order.
 pub fn pairs_follow_the_places()
@@ -73,5 +73,6 @@ pub fn worked_examples()
     ensures allowed_aggregates { AllowedAggregates }
     ensures what_edits_do { WhatEditsDo }
     ensures room_for_texts { RoomForTexts }
+    ensures order_of_refusals { OrderOfRefusals }
     ensures row_groups { RowGroups }
 {}

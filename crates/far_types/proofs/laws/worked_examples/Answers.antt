@@ -34,5 +34,6 @@ returns c = record {
   allowed_aggregates = (refl, refl, refl, refl, refl, refl, refl, refl, refl);
   what_edits_do = (refl, refl, refl, refl);
   room_for_texts = (refl, refl, refl, refl, refl, refl, refl, refl, refl, refl);
+  order_of_refusals = (refl, refl, refl, refl, refl, refl, refl, refl, refl, refl, refl, refl, refl, refl);
   row_groups = (refl, refl, refl, refl, refl);
 }
