@@ -1,4 +1,7 @@
-// The agent store: worked examples, and four threads at once.
+// The agent store: worked examples, four threads at once, and memory that is refused.
+ghost use Rattle.std.specs.Prelude.{◌≡◌, ◌+◌, ◌<◌, ◌^◌, IfOk};
+ghost use Rattle.far_store.specs.Faults.{faults_in};
+
 use super::generic::{answer_of_put, carry_over, gets_all, puts_all, reads_alike, round_trip};
 use super::shelf_store::ShelfStore;
 use crate::{AgentStore, FarRead, FarStore, Meter};
@@ -96,4 +99,58 @@ fn four_threads_read_back_their_own(rt: HostRuntime) -> Result<(), Fail> {
     }
     assert_eq!(rt; answer_of_put(&store, alloc), (Some(Refusal::FarFull), 0));
     Ok(())
+}
+
+#[test]
+fn a_call_refused_for_want_of_memory_can_be_made_again(rt: HostRuntime) -> Result<(), Fail> {
+    let alloc = rt.alloc();
+    let store = agent_at_last(&rt, alloc, 2)?;
+    let mut meter = Meter::new();
+    let ticket = put_at_last(&store, alloc, &mut meter, &[1, 2, 3])?;
+    assert_eq!(rt; store.number(&ticket), 0);
+    let got = get_at_last(&store, alloc, &mut meter, &ticket)?;
+    assert_eq!(rt; got.as_slice(), [1, 2, 3].as_slice());
+    assert_eq!(rt; meter.faults(), 0);
+    Ok(())
+}
+
+// A call that finds no memory is made once more, so these answer if one allocation is refused.
+fn agent_at_last<R: Copy>(rt: R, alloc: Global, capacity: u64) -> Result<AgentStore<R>, Refusal> {
+    match AgentStore::new(rt, alloc, capacity) {
+        Err(Refusal::NoMemory) => AgentStore::new(rt, alloc, capacity),
+        answer => answer,
+    }
+}
+
+fn put_at_last<S: FarStore>(
+    store: &S,
+    alloc: Global,
+    meter: &mut Meter,
+    bytes: &[u8],
+) -> Result<S::Ticket, Refusal>
+    requires { meter.old < 2 ^ 62 }
+    ensures here { IfOk result (λ t. S.is_of t (S.name store.now)) }
+    ensures faults { meter.new ≡ meter.old + faults_in result }
+{
+    match store.put(alloc, meter, bytes) {
+        Err(Refusal::NoMemory) => store.put(alloc, meter, bytes),
+        answer => answer,
+    }
+}
+
+fn get_at_last<S: FarRead>(
+    store: &S,
+    alloc: Global,
+    meter: &mut Meter,
+    ticket: &S::Ticket,
+) -> Result<Vec<u8>, Refusal>
+    requires few { meter.old < 2 ^ 62 }
+    requires here { S.is_of ticket.now (S.name store.now) }
+{
+    let mut buffer = Vec::new(alloc);
+    match store.get(alloc, meter, ticket, &mut buffer) {
+        Err(Refusal::NoMemory) => store.get(alloc, meter, ticket, &mut buffer)?,
+        answer => answer?,
+    }
+    Ok(buffer)
 }
