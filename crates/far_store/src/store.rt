@@ -9,8 +9,8 @@ use std::alloc::Global;
 /// What can be read of a far store.
 ///
 /// It is apart from [`FarStore`] since only putting may have to wait for other threads. A caller that only reads
-/// asks for `FarRead`, and is known to return. The idea of a far side behind a small interface is AIFM's remote
-/// device (OSDI 2020, section 4).
+/// asks for `FarRead`, and is known to return. A far side behind a small interface is AIFM's remote device (OSDI
+/// 2020); tickets that name one content for good are this project's own.
 pub trait FarRead: Sync + Drop {
     /// What stands for one content that was put. It is kept by value, outlives every borrow of the store, and goes
     /// from thread to thread.
