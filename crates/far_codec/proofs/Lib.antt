@@ -1,3 +1,5 @@
 pub mod Chunks
 pub mod Compared
+pub mod Heads
+pub mod Masks
 pub mod PlainWords

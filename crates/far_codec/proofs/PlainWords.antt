@@ -9,7 +9,8 @@ use Rattle.std.proofs.lemmas.Nat.{le_bytes_8}
 use Rattle.std.proofs.lemmas.Int.{of_z-to_z}
 use Rattle.std.proofs.Math.Facts.{sfits_to_z}
 use Rattle.far_codec.specs.FarForm.{number_bytes}
-use Rattle.far_codec.specs.PlainNumbers.{plain_form, number_of, IsPlain}
+use Rattle.far_codec.specs.PlainNumbers.{plain_form, IsPlain}
+use Rattle.far_codec.specs.Reading.{number_of}
 use Rattle.far_codec.specs.PlainLaws.{plain_form_is, words_again, length-numbers}
 use Rattle.far_codec.proofs.Chunks.{chunks_joined}
 

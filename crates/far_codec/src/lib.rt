@@ -2,6 +2,8 @@
 //! Far forms: how the values of one column and row group lie in the far store, and the elements of objects.
 
 mod elem;
+mod head;
 mod numbers;
+mod words;
 
 pub use elem::Elem;
