@@ -3,7 +3,8 @@ use Rattle.std.proofs.Common.{◌≡◌, ℕ, zero, suc, ◌⊎◌, inl, inr, Op
 use Rattle.std.specs.Prelude.{IfSome, IsSomeAnd}
 use Rattle.std.proofs.lemmas.List.Folds.{list_any_none}
 use Rattle.std.proofs.lemmas.List.FromFn.{get_or-map-range_with_len}
-use Rattle.std.specs.Int.{w32, to_le_bytes, from_le_bytes}
+use Rattle.std.proofs.lemmas.List.{take-append-drop}
+use Rattle.std.specs.Int.{w32, w64, to_le_bytes, from_le_bytes}
 use Rattle.std.proofs.lemmas.Bool.{false≢true, cases_Bool}
 use Rattle.std.proofs.lemmas.Nat.{le_bytes_4, from_le_bytes-to_le_bytes_4}
 use Rattle.far_codec.specs.FarForm.{version, mask_of, head, some_missing, FitsCount}
@@ -105,3 +106,29 @@ some_with (Some x) P Q f h = f x h
 pub some_and_with : {T : Type 0} (o : Option T) (P Q : T → Type 0) → ((x : T) → P x → Q x) → IsSomeAnd o P → IsSomeAnd o Q
 some_and_with None P Q f h = h
 some_and_with (Some x) P Q f h = f x h
+
+-- the first six bytes of a head, made from the count in eight bytes
+pub front_made : (kind version_byte n : ℕ) (flags : List Bool) (count : List ℕ) (missing : Bool) → version_byte ≡ cond missing 2 1 → missing ≡ some_missing flags → count ≡ to_le_bytes w64 n → n ≡ length flags → version_byte ∷ kind ∷ get_or count 0 0 ∷ get_or count 1 0 ∷ get_or count 2 0 ∷ get_or count 3 0 ∷ [] ≡ version flags ∷ kind ∷ to_le_bytes w32 (length flags)
+front_made kind version_byte n flags count missing v m e len =
+    ap (λ b. b ∷ kind ∷ get_or count 0 0 ∷ get_or count 1 0 ∷ get_or count 2 0 ∷ get_or count 3 0 ∷ []) (v ∙ ap (λ b. cond b 2 1) m)
+    ∙ ap (λ l. version flags ∷ kind ∷ get_or l 0 0 ∷ get_or l 1 0 ∷ get_or l 2 0 ∷ get_or l 3 0 ∷ []) e
+    ∙ ap (λ k. version flags ∷ kind ∷ to_le_bytes w32 k) len
+
+-- the parts of bytes that begin with a head
+pub record HeadParts (bytes : List ℕ) (kind : ℕ) (flags : List Bool) (rest : List ℕ) : Type 0 where
+  pub long : 6 ≤ length bytes
+  pub front : take 6 bytes ≡ version flags ∷ kind ∷ to_le_bytes w32 (length flags)
+  pub back : drop 6 bytes ≡ mask_of flags ++ rest
+
+pub head_split : (bytes : List ℕ) (kind : ℕ) (flags : List Bool) (rest : List ℕ) → bytes ≡ head kind flags ++ rest → HeadParts bytes kind flags rest
+unfolding head
+head_split bytes kind flags rest e = record { long = omega (arith, ap length e); front = ap (take 6) e; back = ap (drop 6) e }
+
+pub head_join : (bytes : List ℕ) (kind : ℕ) (flags : List Bool) (rest : List ℕ) → take 6 bytes ≡ version flags ∷ kind ∷ to_le_bytes w32 (length flags) → drop 6 bytes ≡ mask_of flags ++ rest → bytes ≡ head kind flags ++ rest
+unfolding head
+head_join bytes kind flags rest front back =
+    sym (take-append-drop 6 bytes) ∙ ap (λ l. l ++ drop 6 bytes) front ∙ ap (λ l. version flags ∷ kind ∷ to_le_bytes w32 (length flags) ++ l) back
+
+pub head_is : (kind : ℕ) (flags : List Bool) → head kind flags ≡ (version flags ∷ kind ∷ to_le_bytes w32 (length flags)) ++ mask_of flags
+unfolding head
+head_is kind flags = refl

@@ -10,9 +10,9 @@ use Rattle.std.proofs.lemmas.List.Folds.{list_any_none}
 use Rattle.std.proofs.lemmas.List.FromFn.{get_or-map-range_with_len, length-map-range_with_len}
 use Rattle.std.proofs.lemmas.Nat.Bits.{bit_at-zero, same_from_bits_below}
 use Rattle.std.proofs.Math.Nat.{div-eq_of_lt, div-lt_iff_lt-mul, pow-le-pow_right, one-le-pow}
-use Rattle.far_codec.specs.FarForm.{mask_byte, mask_of, some_missing}
+use Rattle.far_codec.specs.FarForm.{mask_byte, mask_bytes, mask_of, some_missing}
 use Rattle.far_codec.specs.Reading.{is_missing, flags_of}
-use Rattle.far_codec.specs.MaskLaws.{bit, part, bit_at-mask_byte, mask_byte-lt, flag_of_part, masked, no_mask, mask_at, length-mask, no_flag, missing_by_mask}
+use Rattle.far_codec.specs.MaskLaws.{bit, part, bit_at-mask_byte, mask_byte-lt, flag_of_part, masked, no_mask, mask_at, mask_byte_at, length-mask_bytes, no_flag, missing_by_mask}
 use Rattle.far_codec.proofs.PlainWords.{IsBytes}
 
 pub length-flags_of : (mask : List ℕ) (count : ℕ) → length (flags_of mask count) ≡ count
@@ -79,11 +79,9 @@ byte_again mask count k fits spare h =
 pub mask_again : (mask : List ℕ) (count : ℕ) → IsBytes mask → length mask ≡ (count + 7) / 8 → HasNoSpare mask count → some_missing (flags_of mask count) ≡ true → mask ≡ mask_of (flags_of mask count)
 mask_again mask count fits len spare any =
     let flags = flags_of mask count in
-    let n = (length flags + 7) / 8 in
-    let same_count : n ≡ (count + 7) / 8 = ap (λ c. (c + 7) / 8) (length-flags_of mask count) in
-    let lens : length mask ≡ length (map (part flags) (range_with_len 0 n)) = len ∙ sym same_count ∙ sym (length-map-range_with_len (part flags) 0 n) in
-    same_number_lists mask (map (part flags) (range_with_len 0 n)) lens (λ k h.
-      sym (byte_again mask count k fits spare (omega (arith, len))) ∙ sym (get_or-map-range_with_len (part flags) 0 n k k 0 (omega (arith, len, same_count)) (omega arith)))
+    let same_count : (length flags + 7) / 8 ≡ (count + 7) / 8 = ap (λ c. (c + 7) / 8) (length-flags_of mask count) in
+    same_number_lists mask (mask_bytes flags) (len ∙ sym same_count ∙ sym (length-mask_bytes flags)) (λ k h.
+      sym (byte_again mask count k fits spare (omega (arith, len))) ∙ sym (mask_byte_at flags k (omega (arith, len, same_count))))
     ∙ sym (masked flags any)
 
 -- a byte with a bit tells a missing value

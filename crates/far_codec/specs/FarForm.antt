@@ -13,9 +13,13 @@ mask_byte (missing ∷ flags) = cond missing 1 0 + 2 * mask_byte flags
 abbrev pub some_missing : List Bool → Bool
 some_missing flags = list_any (λ missing. missing) flags
 
--- where a value is missing, a byte for each eight values; else no byte
+-- a byte for each eight flags
+unfoldable pub mask_bytes : List Bool → List ℕ
+mask_bytes flags = map (λ k. mask_byte (take 8 (drop (8 * k) flags))) (range_with_len 0 ((length flags + 7) / 8))
+
+-- the mask: no byte where nothing is missing
 unfoldable pub mask_of : List Bool → List ℕ
-mask_of flags = cond (some_missing flags) (map (λ k. mask_byte (take 8 (drop (8 * k) flags))) (range_with_len 0 ((length flags + 7) / 8))) []
+mask_of flags = cond (some_missing flags) (mask_bytes flags) []
 
 -- the first byte: 2 where a value is missing, else 1
 abbrev pub version : List Bool → ℕ

@@ -7,7 +7,7 @@ use Rattle.std.proofs.lemmas.List.{get_or-take, get_or-drop}
 use Rattle.std.proofs.lemmas.List.FromFn.{get_or-map-range_with_len, length-map-range_with_len}
 use Rattle.std.proofs.lemmas.Nat.Bits.{bit_at-suc, bit_at_lowest, bit_at-zero}
 use Rattle.std.proofs.Math.Nat.{pow-suc}
-use Rattle.far_codec.specs.FarForm.{mask_byte, mask_of, some_missing}
+use Rattle.far_codec.specs.FarForm.{mask_byte, mask_bytes, mask_of, some_missing}
 use Rattle.far_codec.specs.Reading.{is_missing}
 
 abbrev pub bit : Bool → ℕ
@@ -43,20 +43,28 @@ flag_of_part flags k j h = get_or-take 8 (drop (8 * k) flags) j false h ∙ get_
 abbrev pub part : List Bool → ℕ → ℕ
 part flags k = mask_byte (take 8 (drop (8 * k) flags))
 
-pub masked : (flags : List Bool) → some_missing flags ≡ true → mask_of flags ≡ map (part flags) (range_with_len 0 ((length flags + 7) / 8))
+pub masked : (flags : List Bool) → some_missing flags ≡ true → mask_of flags ≡ mask_bytes flags
 unfolding mask_of
-masked flags any = ap (λ b. cond b (map (part flags) (range_with_len 0 ((length flags + 7) / 8))) []) any
+masked flags any = ap (λ b. cond b (mask_bytes flags) []) any
 
 pub no_mask : (flags : List Bool) → some_missing flags ≡ false → mask_of flags ≡ []
 unfolding mask_of
-no_mask flags none = ap (λ b. cond b (map (part flags) (range_with_len 0 ((length flags + 7) / 8))) []) none
+no_mask flags none = ap (λ b. cond b (mask_bytes flags) []) none
+
+pub length-mask_bytes : (flags : List Bool) → length (mask_bytes flags) ≡ (length flags + 7) / 8
+unfolding mask_bytes
+length-mask_bytes flags = length-map-range_with_len (part flags) 0 ((length flags + 7) / 8)
+
+pub mask_byte_at : (flags : List Bool) (k : ℕ) → k < (length flags + 7) / 8 → get_or (mask_bytes flags) k 0 ≡ part flags k
+unfolding mask_bytes
+mask_byte_at flags k h = get_or-map-range_with_len (part flags) 0 ((length flags + 7) / 8) k k 0 h (omega arith)
 
 -- the mask has a byte for each eight values
 pub mask_at : (flags : List Bool) (k : ℕ) → some_missing flags ≡ true → k < (length flags + 7) / 8 → get_or (mask_of flags) k 0 ≡ part flags k
-mask_at flags k any h = ap (λ m. get_or m k 0) (masked flags any) ∙ get_or-map-range_with_len (part flags) 0 ((length flags + 7) / 8) k k 0 h (omega arith)
+mask_at flags k any h = ap (λ m. get_or m k 0) (masked flags any) ∙ mask_byte_at flags k h
 
 pub length-mask : (flags : List Bool) → some_missing flags ≡ true → length (mask_of flags) ≡ (length flags + 7) / 8
-length-mask flags any = ap length (masked flags any) ∙ length-map-range_with_len (part flags) 0 ((length flags + 7) / 8)
+length-mask flags any = ap length (masked flags any) ∙ length-mask_bytes flags
 
 tells_bit : (b : Bool) → eqb (bit b) 1 ≡ b
 tells_bit true = refl

@@ -3,6 +3,8 @@
 
 mod elem;
 mod head;
+mod ints;
+mod mask;
 mod numbers;
 mod words;
 
