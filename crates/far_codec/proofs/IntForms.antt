@@ -1,5 +1,5 @@
 -- Which bytes are the far form of numbers.
-use Rattle.std.proofs.Common.{◌≡◌, ℕ, zero, suc, ◌+◌, ◌-◌, ◌*◌, ◌/◌, ◌^◌, ◌<◌, ◌≤◌, Bool, true, false, cond, ℤ, List, [], ◌∷◌, ◌++◌, length, get_or, map, take, drop, Option, None, Some, All, FitsSigned, refl, sym, ap, subst, ◌∙◌, arith, inl, inr}
+use Rattle.std.proofs.Common.{◌≡◌, ℕ, zero, suc, ◌+◌, ◌-◌, ◌*◌, ◌/◌, ◌%◌, ◌^◌, ◌<◌, ◌≤◌, Bool, true, false, cond, ℤ, List, [], ◌∷◌, ◌++◌, length, get_or, map, take, drop, Option, None, Some, All, FitsSigned, refl, sym, ap, subst, ◌∙◌, arith, inl, inr}
 use Rattle.std.specs.Prelude.{is_none, IfSome}
 use Rattle.std.specs.Int.{w64}
 use Rattle.std.specs.List.{flat_map, range_with_len}
@@ -147,3 +147,26 @@ zeros_in mask fields count numbers words parts is i h missing =
         sym (missing_by_mask (map is_none numbers) i (omega (arith, length-map numbers is_none))) ∙ ap (λ m. is_missing m i) (sym parts.mask_is) ∙ missing in
     let none : get_or numbers i None ≡ None = missing_none (get_or numbers i None) (sym (get_or-map is_none numbers i None false in_list) ∙ flagged) in
     ap (λ l. get_or l i []) are ∙ get_or-map number_bytes numbers i None [] in_list ∙ ap number_bytes none
+
+pub ints_form_is : (numbers : List (Option ℤ)) → ints_form numbers ≡ head 0 (map is_none numbers) ++ flat_map number_bytes numbers
+unfolding ints_form
+ints_form_is numbers = refl
+
+-- the words of fields with no spare byte join to the fields
+pub words_joined : (fields : List ℕ) (words : List (List ℕ)) → words ≡ first_chunks 8 (length fields / 8) fields → length fields % 8 ≡ 0 → flat_map (λ x. x) words ≡ fields
+words_joined fields words is none =
+    let n = length fields / 8 in
+    let all : drop (n * 8) fields ≡ [] = nil_from_length (drop (n * 8) fields) (omega (arith, length-drop (n * 8) fields)) in
+    ap (flat_map (λ x. x)) is
+    ∙ sym (append-nil (flat_map (λ x. x) (first_chunks 8 n fields)))
+    ∙ ap (λ l. flat_map (λ x. x) (first_chunks 8 n fields) ++ l) (sym all)
+    ∙ chunks_joined 8 n (n * 8) fields refl
+
+-- fields are the words of numbers where their words are
+pub fields_from_words : (fields : List ℕ) (words : List (List ℕ)) (numbers : List (Option ℤ)) → words ≡ first_chunks 8 (length fields / 8) fields → length fields % 8 ≡ 0 → words ≡ map number_bytes numbers → fields ≡ flat_map number_bytes numbers
+fields_from_words fields words numbers is none same = sym (words_joined fields words is none) ∙ ap (flat_map (λ x. x)) same ∙ flat_map-map (λ x. x) number_bytes numbers
+
+pub words_from_fields : (fields : List ℕ) (words : List (List ℕ)) (numbers : List (Option ℤ)) → words ≡ first_chunks 8 (length fields / 8) fields → fields ≡ flat_map number_bytes numbers → words ≡ map number_bytes numbers
+words_from_fields fields words numbers is e =
+    let many : length fields / 8 ≡ length numbers = omega (arith, ap length e, length-numbers numbers) in
+    is ∙ ap (λ n. first_chunks 8 n fields) many ∙ ap (first_chunks 8 (length numbers)) e ∙ chunks_again 8 number_bytes length-number_bytes numbers

@@ -11,7 +11,7 @@ use Rattle.std.proofs.lemmas.Nat.{from_le_bytes-to_le_bytes_8, from_le_bytes-to_
 use Rattle.std.proofs.lemmas.Int.{to_z-of_z}
 use Rattle.std.proofs.Math.Facts.{Fits-of_z}
 use Rattle.std.proofs.Math.Seq.{drop-drop}
-use Rattle.far_codec.specs.FarForm.{version, mask_of, head, number_bytes, ints_form, FitsCount, AreInts}
+use Rattle.far_codec.specs.FarForm.{version, mask_of, some_missing, head, number_bytes, ints_form, FitsCount, AreInts}
 use Rattle.far_codec.specs.Reading.{count_in, mask_in, fields_in, is_missing, number_of, numbers_of, ints_meaning}
 use Rattle.far_codec.specs.MaskLaws.{no_mask, length-mask, missing_by_mask}
 
@@ -88,3 +88,63 @@ ints_read_back numbers are =
     ∙ ap (λ l. numbers_of (mask_of flags) (first_chunks 8 (length numbers) l)) read.fields
     ∙ ap (numbers_of (mask_of flags)) (chunks_again 8 number_bytes length-number_bytes numbers)
     ∙ numbers_again numbers are.range
+
+pub ints_list_reads_back : (numbers : List (Option ℤ)) → All (λ number. IfSome number (FitsSigned w64)) numbers → FitsCount numbers → ints_meaning (ints_form numbers) ≡ numbers
+ints_list_reads_back numbers range few = ints_read_back numbers (record { range = range; count = few })
+
+length-words : (numbers : List (Option ℤ)) → length (flat_map number_bytes numbers) ≡ 8 * length numbers
+length-words [] = refl
+length-words (x ∷ numbers) = omega (arith, length-append (number_bytes x) (flat_map number_bytes numbers), length-number_bytes x, length-words numbers)
+
+pub length-head : (kind : ℕ) (flags : List Bool) → length (head kind flags) ≡ 6 + length (mask_of flags)
+unfolding head
+length-head kind flags = omega arith
+
+pub length-mask_of : (flags : List Bool) → length (mask_of flags) ≡ cond (some_missing flags) ((length flags + 7) / 8) 0
+length-mask_of flags =
+    elim (cases_Bool (some_missing flags)) [
+      | inl any ↦ length-mask flags any ∙ ap (λ b. cond b ((length flags + 7) / 8) 0) (sym any)
+      | inr none ↦ ap length (no_mask flags none) ∙ ap (λ b. cond b ((length flags + 7) / 8) 0) (sym none)
+    ]
+
+pub length-ints_form : (numbers : List (Option ℤ)) → length (ints_form numbers) ≡ 6 + length (mask_of (map is_none numbers)) + 8 * length numbers
+unfolding ints_form
+length-ints_form numbers = omega (arith, length-append (head 0 (map is_none numbers)) (flat_map number_bytes numbers), length-head 0 (map is_none numbers), length-words numbers)
+
+-- the first byte tells whether a value is missing
+first_byte : (kind : ℕ) (flags : List Bool) (rest : List ℕ) → get_or (head kind flags ++ rest) 0 0 ≡ version flags
+unfolding head
+first_byte kind flags rest = refl
+
+abbrev version_of : Bool → ℕ
+version_of missing = cond missing 2 1
+
+same_version : (b c : Bool) → version_of b ≡ version_of c → b ≡ c
+same_version true true e = refl
+same_version true false e = absurd (omega arith)
+same_version false true e = absurd (omega arith)
+same_version false false e = refl
+
+pub same_missing : (kind other : ℕ) (one two : List Bool) (rest more : List ℕ) → head kind one ++ rest ≡ head other two ++ more → some_missing one ≡ some_missing two
+same_missing kind other one two rest more e = same_version (some_missing one) (some_missing two) (sym (first_byte kind one rest) ∙ ap (λ l. get_or l 0 0) e ∙ first_byte other two more)
+
+counts_agree : (m n : ℕ) (b : Bool) → 6 + cond b ((m + 7) / 8) 0 + 8 * m ≡ 6 + cond b ((n + 7) / 8) 0 + 8 * n → m ≡ n
+counts_agree m n true e = omega arith
+counts_agree m n false e = omega arith
+
+same_form_heads : (one other : List (Option ℤ)) → ints_form one ≡ ints_form other → some_missing (map is_none one) ≡ some_missing (map is_none other)
+unfolding ints_form
+same_form_heads one other e = same_missing 0 0 (map is_none one) (map is_none other) (flat_map number_bytes one) (flat_map number_bytes other) e
+
+-- no other list has the form of numbers that have one
+pub one_ints_list : (one other : List (Option ℤ)) → All (λ number. IfSome number (FitsSigned w64)) one → All (λ number. IfSome number (FitsSigned w64)) other → FitsCount one → ints_form one ≡ ints_form other → one ≡ other
+one_ints_list one other range range_too few e =
+    let m = length one in
+    let n = length other in
+    let b = some_missing (map is_none other) in
+    let mask_one : length (mask_of (map is_none one)) ≡ cond b ((m + 7) / 8) 0 = length-mask_of (map is_none one) ∙ ap (λ c. cond c ((length (map is_none one) + 7) / 8) 0) (same_form_heads one other e) ∙ ap (λ k. cond b ((k + 7) / 8) 0) (length-map one is_none) in
+    let mask_other : length (mask_of (map is_none other)) ≡ cond b ((n + 7) / 8) 0 = length-mask_of (map is_none other) ∙ ap (λ k. cond b ((k + 7) / 8) 0) (length-map other is_none) in
+    let lengths : 6 + cond b ((m + 7) / 8) 0 + 8 * m ≡ 6 + cond b ((n + 7) / 8) 0 + 8 * n =
+        ap (λ k. 6 + k + 8 * m) (sym mask_one) ∙ sym (length-ints_form one) ∙ ap length e ∙ length-ints_form other ∙ ap (λ k. 6 + k + 8 * n) mask_other in
+    let few_too : FitsCount other = omega (arith, counts_agree m n b lengths) in
+    sym (ints_list_reads_back one range few) ∙ ap ints_meaning e ∙ ints_list_reads_back other range_too few_too

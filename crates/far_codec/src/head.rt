@@ -5,6 +5,7 @@ ghost use Rattle.far_codec.specs.FarForm.{head, mask_of, some_missing, FitsCount
 ghost use Rattle.far_codec.specs.Reading.{is_missing, flags_of};
 
 /// A far form of a kind, parted: how many values it counts, its mask, and what follows.
+#[derive(Clone, Copy)]
 pub(crate) struct Masked<'a> {
     pub count: usize,
     pub mask: &'a [u8],

@@ -1,6 +1,7 @@
 // The head and the mask of values, written and compared.
 ghost use Rattle.std.specs.Prelude.{◌≡◌, ◌++◌, ◌+◌, ◌*◌, ◌/◌, ◌<◌, ◌≤◌, ◌^◌, ℕ, List, length, map, take, drop, cond, is_none, OnOk, IfSome, IsSomeAnd};
 ghost use Rattle.std.specs.List.{list_any};
+ghost use Rattle.far_types.specs.FormLengths.{mask_length};
 ghost use Rattle.far_codec.specs.FarForm.{mask_byte, mask_bytes, head};
 
 use std::alloc::AllocError;
@@ -10,6 +11,17 @@ fn any_missing<T>(values: &[Option<T>]) -> bool
     ensures { result ≡ list_any is_none values.now }
 {
     values.iter().any(|value| value.is_none())
+}
+
+/// How many bytes the mask of values has.
+pub(crate) fn mask_length<T>(values: &[Option<T>]) -> usize
+    ensures { result ≡ mask_length values.now }
+{
+    if any_missing(values) {
+        values.len().div_ceil(8)
+    } else {
+        0
+    }
 }
 
 /// The first byte of a form.
