@@ -5,3 +5,5 @@ pub mod PlainNumbers
 pub mod Reading
 pub mod ReadingLaws
 pub mod Spelling
+pub mod TextForm
+pub mod TextLaws
