@@ -5,3 +5,4 @@ pub mod IntForms
 pub mod MaskWriting
 pub mod Masks
 pub mod PlainWords
+pub mod TextForms

@@ -1,5 +1,5 @@
 -- The far form of texts, and what bytes mean that are one.
-use Rattle.std.specs.Prelude.{◌≡◌, ℕ, ◌+◌, ◌*◌, ◌<◌, ◌^◌, cond, List, [], ◌∷◌, ◌++◌, length, map, take, drop, All, Option, None, Some, IfSome, unwrap_or, is_none, slice_index, slice_range}
+use Rattle.std.specs.Prelude.{◌≡◌, ℕ, ◌+◌, ◌*◌, ◌<◌, ◌≤◌, ◌^◌, true, false, cond, List, [], ◌∷◌, ◌++◌, length, map, take, drop, All, Option, None, Some, IfSome, unwrap_or, is_none, slice_index, slice_range}
 use Rattle.std.specs.List.{flat_map, range_with_len}
 use Rattle.std.specs.Int.{w32, to_le_bytes, from_le_bytes}
 use Rattle.std.specs.Simd.{first_chunks}
@@ -46,3 +46,15 @@ texts_meaning bytes = texts_of (mask_in bytes) (ends_in (first_chunks 4 (count_i
 pub record IsTextsForm (bytes : List ℕ) : Type 0 where
   pub texts : AreTexts (texts_meaning bytes)
   pub is : bytes ≡ texts_form (texts_meaning bytes)
+
+-- text i of these parts is one: it begins where the one before it ends; a missing one has no bytes, another is UTF-8
+pub record IsTextAt (mask ends body : List ℕ) (i : ℕ) : Type 0 where
+  pub ordered : slice_index (0 ∷ ends) i ≤ slice_index ends i
+  pub inside : slice_index ends i ≤ length body
+  pub missing : is_missing mask i ≡ true → slice_index ends i ≡ slice_index (0 ∷ ends) i
+  pub there : is_missing mask i ≡ false → IsUtf8 (slice_range body (slice_index (0 ∷ ends) i) (slice_index ends i))
+
+-- the parts are those of texts: each is one, and the last ends where the text bytes do
+pub record AreTextParts (mask ends body : List ℕ) : Type 0 where
+  pub each : (i : ℕ) → i < length ends → IsTextAt mask ends body i
+  pub whole : slice_index (0 ∷ ends) (length ends) ≡ length body

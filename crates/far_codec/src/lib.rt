@@ -6,6 +6,7 @@ mod head;
 mod ints;
 mod mask;
 mod numbers;
+mod texts;
 mod words;
 
 pub use elem::Elem;
