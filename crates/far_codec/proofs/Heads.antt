@@ -1,15 +1,15 @@
 -- What bytes say that begin with a head.
-use Rattle.std.proofs.Common.{◌≡◌, ℕ, zero, suc, ◌⊎◌, inl, inr, Option, None, Some, ◌+◌, ◌-◌, ◌<◌, ◌≤◌, ◌^◌, Bool, true, false, cond, List, [], ◌∷◌, ◌++◌, length, get_or, take, drop, refl, sym, ap, ◌∙◌, arith}
-use Rattle.std.specs.Prelude.{IfSome, IsSomeAnd}
+use Rattle.std.proofs.Common.{◌≡◌, ℕ, zero, suc, ◌⊎◌, inl, inr, Option, None, Some, ◌<◌, ◌≤◌, ◌^◌, Bool, true, false, cond, List, [], ◌∷◌, ◌++◌, length, get_or, take, drop, refl, sym, ap, ◌∙◌, arith}
+use Rattle.std.specs.Prelude.{IfSome, IsSome, IsSomeAnd, is_some}
 use Rattle.std.proofs.lemmas.List.Folds.{list_any_none}
 use Rattle.std.proofs.lemmas.List.FromFn.{get_or-map-range_with_len}
 use Rattle.std.proofs.lemmas.List.{take-append-drop}
 use Rattle.std.specs.Int.{w32, w64, to_le_bytes, from_le_bytes}
-use Rattle.std.proofs.lemmas.Bool.{false≢true, cases_Bool}
+use Rattle.std.proofs.lemmas.Bool.{false≢true}
 use Rattle.std.proofs.lemmas.Nat.{le_bytes_4, from_le_bytes-to_le_bytes_4}
 use Rattle.far_codec.specs.FarForm.{version, mask_of, head, some_missing, FitsCount}
 use Rattle.far_codec.specs.Reading.{flags_of, is_missing}
-use Rattle.far_codec.specs.MaskLaws.{no_mask, missing_in_none}
+use Rattle.far_codec.specs.MaskLaws.{missing_in_none}
 use Rattle.far_codec.proofs.PlainWords.{IsBytes}
 use Rattle.far_codec.proofs.Masks.{length-flags_of}
 
@@ -83,7 +83,7 @@ version_2 flags e = tells_2 (some_missing flags) e
 pub none_missing : (count : ℕ) → some_missing (flags_of [] count) ≡ false
 none_missing count =
     list_any_none (λ missing. missing) (flags_of [] count) (λ k d h.
-      get_or-map-range_with_len (is_missing []) 0 count k k d (omega (arith, length-flags_of [] count)) (omega arith) ∙ missing_in_none k)
+    get_or-map-range_with_len (is_missing []) 0 count k k d (omega (arith, length-flags_of [] count)) (omega arith) ∙ missing_in_none k)
 
 pub version_either : (flags : List Bool) → (version flags ≡ 1) ⊎ (version flags ≡ 2)
 version_either flags = either (some_missing flags)
@@ -132,3 +132,12 @@ head_join bytes kind flags rest front back =
 pub head_is : (kind : ℕ) (flags : List Bool) → head kind flags ≡ (version flags ∷ kind ∷ to_le_bytes w32 (length flags)) ++ mask_of flags
 unfolding head
 head_is kind flags = refl
+
+-- what holds of the value that is there
+pub some_value : {T : Type 0} (o : Option T) (P : T → Type 0) → IfSome o P → is_some o ≡ true → (x : T) × P x
+some_value None P h e = absurd (false≢true e)
+some_value (Some x) P h e = (x, h)
+
+pub some_is : {T : Type 0} (o : Option T) → IsSome o → is_some o ≡ true
+some_is None h = h
+some_is (Some x) h = refl

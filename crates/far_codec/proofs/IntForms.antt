@@ -1,15 +1,15 @@
 -- Which bytes are the far form of numbers.
-use Rattle.std.proofs.Common.{◌≡◌, ℕ, zero, suc, ◌+◌, ◌-◌, ◌*◌, ◌/◌, ◌%◌, ◌^◌, ◌<◌, ◌≤◌, Bool, true, false, cond, ℤ, List, [], ◌∷◌, ◌++◌, length, get_or, map, take, drop, Option, None, Some, All, FitsSigned, refl, sym, ap, subst, ◌∙◌, arith, inl, inr}
+use Rattle.std.proofs.Common.{◌≡◌, ℕ, zero, suc, ◌+◌, ◌*◌, ◌/◌, ◌%◌, ◌^◌, ◌<◌, Bool, true, false, cond, ℤ, List, [], ◌∷◌, ◌++◌, length, get_or, map, take, drop, Option, None, Some, All, FitsSigned, refl, sym, ap, subst, ◌∙◌, arith, inl, inr}
 use Rattle.std.specs.Prelude.{is_none, IfSome}
 use Rattle.std.specs.Int.{w64}
-use Rattle.std.specs.List.{flat_map, range_with_len}
+use Rattle.std.specs.List.{flat_map}
 use Rattle.std.specs.Simd.{first_chunks}
 use Rattle.std.proofs.lemmas.Bool.{cases_Bool, false≢true}
 use Rattle.std.proofs.lemmas.List.{get_or-map, length-map, length-append, length-take, length-drop, append-nil, ext_get_or, nil_from_length}
 use Rattle.std.proofs.lemmas.List.Folds.{flat_map-map}
 use Rattle.std.proofs.lemmas.List.FromFn.{get_or-map-range_with_len, length-map-range_with_len}
 use Rattle.std.proofs.Math.Seq.{drop-drop}
-use Rattle.far_codec.specs.FarForm.{mask_of, head, number_bytes, ints_form, FitsCount, AreInts}
+use Rattle.far_codec.specs.FarForm.{mask_of, head, number_bytes, ints_form, AreInts}
 use Rattle.far_codec.specs.Reading.{is_missing, flags_of, number_of, numbers_of}
 use Rattle.far_codec.specs.MaskLaws.{missing_in_none, missing_by_mask}
 use Rattle.far_codec.specs.ReadingLaws.{chunks_again, length-number_bytes}
@@ -49,11 +49,11 @@ flags_are mask words =
     let many = length-numbers_of mask words in
     let len : length (map is_none numbers) ≡ length (flags_of mask (length words)) = length-map numbers is_none ∙ many ∙ sym (length-flags_of mask (length words)) in
     ext_get_or false (map is_none numbers) (flags_of mask (length words)) len (λ i h.
-      let in_words : i < length words = omega (arith, length-map numbers is_none, many) in
-      get_or-map is_none numbers i None false (omega (arith, many))
-      ∙ ap is_none (numbers_of_at mask words i None in_words)
-      ∙ none_is (is_missing mask i) (number_of (get_or words i []))
-      ∙ sym (flag_at mask (length words) i in_words))
+    let in_words : i < length words = omega (arith, length-map numbers is_none, many) in
+    get_or-map is_none numbers i None false (omega (arith, many))
+    ∙ ap is_none (numbers_of_at mask words i None in_words)
+    ∙ none_is (is_missing mask i) (number_of (get_or words i []))
+    ∙ sym (flag_at mask (length words) i in_words))
 
 -- each word of eight bytes is written again
 abbrev pub AreWords : List (List ℕ) → Type 0
@@ -71,10 +71,10 @@ words_written mask words are zeros =
     let numbers = numbers_of mask words in
     let many = length-numbers_of mask words in
     ext_get_or [] (map number_bytes numbers) words (length-map numbers number_bytes ∙ many) (λ i h.
-      let in_words : i < length words = omega (arith, length-map numbers number_bytes, many) in
-      get_or-map number_bytes numbers i None [] (omega (arith, many))
-      ∙ ap number_bytes (numbers_of_at mask words i None in_words)
-      ∙ written_at mask words i in_words are zeros)
+    let in_words : i < length words = omega (arith, length-map numbers number_bytes, many) in
+    get_or-map number_bytes numbers i None [] (omega (arith, many))
+    ∙ ap number_bytes (numbers_of_at mask words i None in_words)
+    ∙ written_at mask words i in_words are zeros)
 
 fits_at : (missing : Bool) (word : List ℕ) → IsBytes word → IfSome (cond missing None (Some (number_of word))) (FitsSigned w64)
 fits_at true word fits = tt
@@ -88,10 +88,9 @@ numbers_fit mask words are k d h =
 pub chunks_are_words : (count : ℕ) (fields : List ℕ) (words : List (List ℕ)) → IsBytes fields → length fields ≡ count * 8 → words ≡ first_chunks 8 count fields → AreWords words
 chunks_are_words count fields words fits len is i h =
     let in_count : i < count = omega (arith, ap length is, length-first_chunks 8 count fields) in
-    let word : get_or words i [] ≡ take 8 (drop (8 * i) fields) = ap (λ l. get_or l i []) is ∙ chunk_at 8 count i fields [] in_count in
-    (
+    let word : get_or words i [] ≡ take 8 (drop (8 * i) fields) = ap (λ l. get_or l i []) is ∙ chunk_at 8 count i fields [] in_count in (
       ap length word ∙ omega (arith, length-take 8 (drop (8 * i) fields), length-drop (8 * i) fields),
-      subst IsBytes (sym word) (IsBytes-take 8 (drop (8 * i) fields) (IsBytes-drop (8 * i) fields fits))
+      subst IsBytes (sym word) (IsBytes-take 8 (drop (8 * i) fields) (IsBytes-drop (8 * i) fields fits)),
     )
 
 -- without a mask no number is missing
@@ -99,10 +98,10 @@ pub plain_numbers : (words : List (List ℕ)) → map (λ w. Some (number_of w))
 plain_numbers words =
     let many = length-numbers_of [] words in
     ext_get_or None (map (λ w. Some (number_of w)) words) (numbers_of [] words) (length-map words (λ w. Some (number_of w)) ∙ sym many) (λ i h.
-      let in_words : i < length words = omega (arith, length-map words (λ w. Some (number_of w))) in
-      get_or-map (λ w. Some (number_of w)) words i [] None in_words
-      ∙ ap (λ b. cond b None (Some (number_of (get_or words i [])))) (sym (missing_in_none i))
-      ∙ sym (numbers_of_at [] words i None in_words))
+    let in_words : i < length words = omega (arith, length-map words (λ w. Some (number_of w))) in
+    get_or-map (λ w. Some (number_of w)) words i [] None in_words
+    ∙ ap (λ b. cond b None (Some (number_of (get_or words i [])))) (sym (missing_in_none i))
+    ∙ sym (numbers_of_at [] words i None in_words))
 
 -- a head, a mask and words are the form of these numbers
 pub ints_found : (bytes mask fields : List ℕ) (words : List (List ℕ)) (count : ℕ) → IsBytes fields → count < 2 ^ 32 → bytes ≡ head 0 (flags_of mask count) ++ fields → length fields ≡ count * 8 → words ≡ first_chunks 8 count fields → AreZero mask words → AreInts (numbers_of mask words) × (bytes ≡ ints_form (numbers_of mask words))
@@ -113,14 +112,13 @@ ints_found bytes mask fields words count fits few e len is zeros =
     let are = chunks_are_words count fields words fits len is in
     let all : drop (count * 8) fields ≡ [] = nil_from_length (drop (count * 8) fields) (omega (arith, length-drop (count * 8) fields)) in
     let body : flat_map number_bytes numbers ≡ fields =
-        sym (flat_map-map (λ x. x) number_bytes numbers)
-        ∙ ap (flat_map (λ x. x)) (words_written mask words are zeros ∙ is)
-        ∙ sym (append-nil (flat_map (λ x. x) (first_chunks 8 count fields)))
-        ∙ ap (λ (l : List ℕ). flat_map (λ x. x) (first_chunks 8 count fields) ++ l) (sym all)
-        ∙ chunks_joined 8 count (count * 8) fields refl in
-    (
+    sym (flat_map-map (λ x. x) number_bytes numbers)
+    ∙ ap (flat_map (λ x. x)) (words_written mask words are zeros ∙ is)
+    ∙ sym (append-nil (flat_map (λ x. x) (first_chunks 8 count fields)))
+    ∙ ap (λ (l : List ℕ). flat_map (λ x. x) (first_chunks 8 count fields) ++ l) (sym all)
+    ∙ chunks_joined 8 count (count * 8) fields refl in (
       record { range = numbers_fit mask words are; count = omega (arith, length-numbers_of mask words) },
-      e ∙ ap (λ (l : List Bool). head 0 l ++ fields) (ap (flags_of mask) (sym many) ∙ sym (flags_are mask words)) ∙ ap (λ (l : List ℕ). head 0 (map is_none numbers) ++ l) (sym body)
+      e ∙ ap (λ (l : List Bool). head 0 l ++ fields) (ap (flags_of mask) (sym many) ∙ sym (flags_are mask words)) ∙ ap (λ (l : List ℕ). head 0 (map is_none numbers) ++ l) (sym body),
     )
 
 -- a form of numbers has these parts
@@ -144,7 +142,7 @@ zeros_in mask fields count numbers words parts is i h missing =
     let are : words ≡ map number_bytes numbers = is ∙ ap (λ n. first_chunks 8 n fields) many ∙ ap (first_chunks 8 (length numbers)) parts.fields_are ∙ chunks_again 8 number_bytes length-number_bytes numbers in
     let in_list : i < length numbers = omega (arith, ap length are, length-map numbers number_bytes) in
     let flagged : get_or (map is_none numbers) i false ≡ true =
-        sym (missing_by_mask (map is_none numbers) i (omega (arith, length-map numbers is_none))) ∙ ap (λ m. is_missing m i) (sym parts.mask_is) ∙ missing in
+    sym (missing_by_mask (map is_none numbers) i (omega (arith, length-map numbers is_none))) ∙ ap (λ m. is_missing m i) (sym parts.mask_is) ∙ missing in
     let none : get_or numbers i None ≡ None = missing_none (get_or numbers i None) (sym (get_or-map is_none numbers i None false in_list) ∙ flagged) in
     ap (λ l. get_or l i []) are ∙ get_or-map number_bytes numbers i None [] in_list ∙ ap number_bytes none
 

@@ -4,5 +4,6 @@ pub mod Heads
 pub mod IntForms
 pub mod MaskWriting
 pub mod Masks
+pub mod Meaning
 pub mod PlainWords
 pub mod TextForms

@@ -1,9 +1,9 @@
 -- The mask of values, byte by byte.
-use Rattle.std.proofs.Common.{◌≡◌, ℕ, ◌+◌, ◌*◌, ◌/◌, ◌%◌, ◌<◌, ◌≤◌, Bool, true, false, List, [], ◌∷◌, ◌++◌, length, get_or, map, take, drop, Option, min, refl, sym, ap, ◌∙◌, arith}
+use Rattle.std.proofs.Common.{◌≡◌, ℕ, ◌+◌, ◌*◌, ◌/◌, ◌<◌, Bool, List, [], ◌∷◌, ◌++◌, length, get_or, map, take, drop, Option, refl, sym, ap, ◌∙◌, arith}
 use Rattle.std.specs.Prelude.{is_none, ◌||◌}
 use Rattle.std.specs.Int.{div_ceil}
 use Rattle.std.specs.List.{list_any, range_with_len}
-use Rattle.std.proofs.lemmas.List.{length-map, length-append, take_at, drop_at, take-map, drop-map, take-append-drop}
+use Rattle.std.proofs.lemmas.List.{length-map, take_at, drop_at, take-map, drop-map}
 use Rattle.std.proofs.lemmas.Grind.{same_number_lists}
 use Rattle.far_codec.specs.FarForm.{mask_byte, mask_bytes, some_missing}
 use Rattle.far_codec.specs.MaskLaws.{part, length-mask_bytes, mask_byte_at}
@@ -35,7 +35,7 @@ mask_same values mask len is many same =
     let all = mask_len values len is in
     let bytes : (length (flags_in values) + 7) / 8 ≡ len = sym (length-mask_bytes (flags_in values)) ∙ all in
     same_number_lists mask (mask_bytes (flags_in values)) (many ∙ sym all) (λ k h.
-      same k (omega arith) ∙ sym (mask_byte_at (flags_in values) k (omega arith)))
+    same k (omega arith) ∙ sym (mask_byte_at (flags_in values) k (omega arith)))
 
 -- the front of bytes that begin with a mask
 pub mask_front : {A : Type 0} (values : List (Option A)) (bytes front rest : List ℕ) (len : ℕ) → len ≡ div_ceil (length values) 8 → bytes ≡ mask_bytes (flags_in values) ++ rest → front ≡ take len bytes → front ≡ mask_bytes (flags_in values)

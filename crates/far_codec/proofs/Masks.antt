@@ -1,8 +1,8 @@
 -- Which bytes are a mask.
-use Rattle.std.proofs.Common.{◌≡◌, ◌≢◌, ℕ, zero, suc, ◌+◌, ◌-◌, ◌*◌, ◌/◌, ◌%◌, ◌^◌, ◌<◌, ◌≤◌, Bool, true, false, cond, eqb, List, [], ◌∷◌, ◌++◌, length, get_or, map, take, drop, refl, sym, ap, subst, ◌∙◌, arith, inl, inr}
+use Rattle.std.proofs.Common.{◌≡◌, ◌≢◌, ℕ, zero, suc, ◌+◌, ◌*◌, ◌/◌, ◌%◌, ◌^◌, ◌<◌, ◌≤◌, Bool, true, false, eqb, List, [], ◌∷◌, length, get_or, take, drop, refl, sym, ap, ◌∙◌, arith, inl, inr}
 use Rattle.std.specs.Prelude.{not, ◌||◌}
 use Rattle.std.specs.Int.{bit_at}
-use Rattle.std.specs.List.{list_any, range_with_len}
+use Rattle.std.specs.List.{list_any}
 use Rattle.std.proofs.lemmas.Bool.{cases_Bool, cases_lt, false≢true, ne_eqb}
 use Rattle.std.proofs.lemmas.List.{get_or_past, length-take, length-drop, ext_get_or}
 use Rattle.std.proofs.lemmas.Grind.{same_number_lists}
@@ -10,9 +10,9 @@ use Rattle.std.proofs.lemmas.List.Folds.{list_any_none}
 use Rattle.std.proofs.lemmas.List.FromFn.{get_or-map-range_with_len, length-map-range_with_len}
 use Rattle.std.proofs.lemmas.Nat.Bits.{bit_at-zero, same_from_bits_below}
 use Rattle.std.proofs.Math.Nat.{div-eq_of_lt, div-lt_iff_lt-mul, pow-le-pow_right, one-le-pow}
-use Rattle.far_codec.specs.FarForm.{mask_byte, mask_bytes, mask_of, some_missing}
+use Rattle.far_codec.specs.FarForm.{mask_bytes, mask_of, some_missing}
 use Rattle.far_codec.specs.Reading.{is_missing, flags_of}
-use Rattle.far_codec.specs.MaskLaws.{bit, part, bit_at-mask_byte, mask_byte-lt, flag_of_part, masked, no_mask, mask_at, mask_byte_at, length-mask_bytes, no_flag, missing_by_mask}
+use Rattle.far_codec.specs.MaskLaws.{bit, part, bit_at-mask_byte, mask_byte-lt, flag_of_part, masked, mask_at, mask_byte_at, length-mask_bytes, no_flag, missing_by_mask}
 use Rattle.far_codec.proofs.PlainWords.{IsBytes}
 
 pub length-flags_of : (mask : List ℕ) (count : ℕ) → length (flags_of mask count) ≡ count
@@ -26,7 +26,7 @@ pub flags_again : (flags : List Bool) → flags_of (mask_of flags) (length flags
 flags_again flags =
     let len = length-flags_of (mask_of flags) (length flags) in
     ext_get_or false (flags_of (mask_of flags) (length flags)) flags len (λ k h.
-      flag_at (mask_of flags) (length flags) k (omega arith) ∙ missing_by_mask flags k (omega arith))
+    flag_at (mask_of flags) (length flags) k (omega arith) ∙ missing_by_mask flags k (omega arith))
 
 -- no bit stands past the values
 abbrev pub HasNoSpare : List ℕ → ℕ → Type 0
@@ -69,11 +69,11 @@ byte_again mask count k fits spare h =
     let few : 2 ^ length chunk ≤ 2 ^ 8 = pow-le-pow_right {n = 2} (omega arith) {i = length chunk} {j = 8} (omega (arith, length-take 8 (drop (8 * k) flags))) in
     let byte : get_or mask k 0 < 2 ^ 8 = omega (arith, fits k) in
     same_from_bits_below 8 (part flags k) (get_or mask k 0) (omega (arith, mask_byte-lt chunk)) byte (λ j small.
-      bit_at-mask_byte chunk j ∙ ap bit (flag_of_part flags k j small)
-      ∙ elim (cases_lt (8 * k + j) count) [
-          | inl lt ↦ bit_below mask count k j small lt
-          | inr past ↦ ap bit (get_or_past flags (8 * k + j) false (omega (arith, length-flags_of mask count))) ∙ sym (spare k j h small past)
-        ])
+    bit_at-mask_byte chunk j ∙ ap bit (flag_of_part flags k j small)
+    ∙ elim (cases_lt (8 * k + j) count) [
+      | inl lt ↦ bit_below mask count k j small lt
+      | inr past ↦ ap bit (get_or_past flags (8 * k + j) false (omega (arith, length-flags_of mask count))) ∙ sym (spare k j h small past)
+    ])
 
 -- such bytes are the mask of their flags
 pub mask_again : (mask : List ℕ) (count : ℕ) → IsBytes mask → length mask ≡ (count + 7) / 8 → HasNoSpare mask count → some_missing (flags_of mask count) ≡ true → mask ≡ mask_of (flags_of mask count)
@@ -81,7 +81,7 @@ mask_again mask count fits len spare any =
     let flags = flags_of mask count in
     let same_count : (length flags + 7) / 8 ≡ (count + 7) / 8 = ap (λ c. (c + 7) / 8) (length-flags_of mask count) in
     same_number_lists mask (mask_bytes flags) (len ∙ sym same_count ∙ sym (length-mask_bytes flags)) (λ k h.
-      sym (byte_again mask count k fits spare (omega (arith, len))) ∙ sym (mask_byte_at flags k (omega (arith, len, same_count))))
+    sym (byte_again mask count k fits spare (omega (arith, len))) ∙ sym (mask_byte_at flags k (omega (arith, len, same_count))))
     ∙ sym (masked flags any)
 
 -- a byte with a bit tells a missing value
@@ -93,10 +93,10 @@ bit_tells mask count k fits spare h byte =
       | inl any ↦ any
       | inr none ↦
           absurd (byte (same_from_bits_below 8 (get_or mask k 0) 0 small (omega arith) (λ j low.
-            elim (cases_lt (8 * k + j) count) [
-              | inl lt ↦ sym (bit_below mask count k j low lt) ∙ ap bit (no_flag flags (8 * k + j) none)
-              | inr past ↦ spare k j h low past
-            ] ∙ sym (bit_at-zero j))))
+          elim (cases_lt (8 * k + j) count) [
+            | inl lt ↦ sym (bit_below mask count k j low lt) ∙ ap bit (no_flag flags (8 * k + j) none)
+            | inr past ↦ spare k j h low past
+          ] ∙ sym (bit_at-zero j))))
     ]
 
 -- a mask has no spare bit
@@ -136,6 +136,6 @@ pub no_bit : (mask : List ℕ) (count : ℕ) → list_any is_set mask ≡ false 
 no_bit mask count e =
     let len = length-flags_of mask count in
     list_any_none (λ missing. missing) (flags_of mask count) (λ k d h.
-      get_or-map-range_with_len (is_missing mask) 0 count k k d (omega (arith, len)) (omega arith)
-      ∙ ap (λ b. eqb (bit_at b (k % 8)) 1) (all_zero mask (k / 8) e)
-      ∙ ap (λ b. eqb b 1) (bit_at-zero (k % 8)))
+    get_or-map-range_with_len (is_missing mask) 0 count k k d (omega (arith, len)) (omega arith)
+    ∙ ap (λ b. eqb (bit_at b (k % 8)) 1) (all_zero mask (k / 8) e)
+    ∙ ap (λ b. eqb b 1) (bit_at-zero (k % 8)))

@@ -1,5 +1,5 @@
 -- Which bytes are the far form of texts.
-use Rattle.std.proofs.Common.{◌≡◌, ℕ, zero, suc, ◌+◌, ◌-◌, ◌*◌, ◌/◌, ◌^◌, ◌<◌, ◌≤◌, Bool, true, false, cond, List, [], ◌∷◌, ◌++◌, length, get_or, map, take, drop, Option, None, Some, All, refl, sym, ap, subst, ◌∙◌, arith, inl, inr}
+use Rattle.std.proofs.Common.{◌≡◌, ℕ, zero, suc, ◌+◌, ◌-◌, ◌*◌, ◌/◌, ◌^◌, ◌<◌, ◌≤◌, Bool, true, false, cond, List, [], ◌∷◌, ◌++◌, length, get_or, map, take, drop, Option, None, Some, refl, sym, ap, subst, ◌∙◌, arith, inl, inr}
 use Rattle.std.specs.Prelude.{is_none, IfSome, slice_range, slice_get, option_and_then}
 use Rattle.std.specs.Str.{IsUtf8}
 use Rattle.std.specs.Int.{w32, to_le_bytes, from_le_bytes}
@@ -10,8 +10,7 @@ use Rattle.std.proofs.lemmas.List.{get_or-map, length-map, length-append, length
 use Rattle.std.proofs.lemmas.Nat.{le_bytes_4}
 use Rattle.std.proofs.lemmas.Option.{slice_get-get_or, slice_get_past}
 use Rattle.std.proofs.Math.Seq.{take-add, take-length}
-use Rattle.far_types.specs.FormLengths.{text_bytes}
-use Rattle.far_codec.specs.FarForm.{head, mask_of, FitsCount}
+use Rattle.far_codec.specs.FarForm.{head, mask_of}
 use Rattle.far_codec.specs.Reading.{is_missing, flags_of}
 use Rattle.far_codec.specs.MaskLaws.{missing_by_mask}
 use Rattle.far_codec.specs.TextForm.{bytes_of, bytes_before, ends_of, texts_form, texts_of, ends_in, AreTexts, IsTextAt, AreTextParts}
@@ -81,12 +80,12 @@ ends_are mask ends body parts =
     let texts = texts_of mask ends body in
     let many = length-texts_of mask ends body in
     ext_get_or 0 (ends_of texts) ends (length-ends_of texts ∙ many) (λ i h.
-      let in_ends : i < length ends = omega (arith, length-ends_of texts, many) in
-      let next : i + 1 ≡ suc i = omega arith in
-      end_at texts i (omega (arith, many))
-      ∙ ap (bytes_before texts) next
-      ∙ ap length (bytes_taken mask ends body parts (suc i) (omega arith))
-      ∙ omega (arith, length-take (get_or ends i 0) body, (parts.each i in_ends).inside))
+    let in_ends : i < length ends = omega (arith, length-ends_of texts, many) in
+    let next : i + 1 ≡ suc i = omega arith in
+    end_at texts i (omega (arith, many))
+    ∙ ap (bytes_before texts) next
+    ∙ ap length (bytes_taken mask ends body parts (suc i) (omega arith))
+    ∙ omega (arith, length-take (get_or ends i 0) body, (parts.each i in_ends).inside))
 
 none_is : {A : Type 0} (b : Bool) (x : A) → is_none (cond b None (Some x)) ≡ b
 none_is true x = refl
@@ -98,11 +97,11 @@ flags_are mask ends body =
     let many = length-texts_of mask ends body in
     let len : length (map is_none texts) ≡ length (flags_of mask (length ends)) = length-map texts is_none ∙ many ∙ sym (length-flags_of mask (length ends)) in
     ext_get_or false (map is_none texts) (flags_of mask (length ends)) len (λ i h.
-      let in_ends : i < length ends = omega (arith, length-map texts is_none, many) in
-      get_or-map is_none texts i None false (omega (arith, many))
-      ∙ ap is_none (texts_of_at mask ends body i None in_ends)
-      ∙ none_is (is_missing mask i) (slice_range body (get_or (0 ∷ ends) i 0) (get_or ends i 0))
-      ∙ sym (flag_at mask (length ends) i in_ends))
+    let in_ends : i < length ends = omega (arith, length-map texts is_none, many) in
+    get_or-map is_none texts i None false (omega (arith, many))
+    ∙ ap is_none (texts_of_at mask ends body i None in_ends)
+    ∙ none_is (is_missing mask i) (slice_range body (get_or (0 ∷ ends) i 0) (get_or ends i 0))
+    ∙ sym (flag_at mask (length ends) i in_ends))
 
 text_fits : (missing : Bool) (text : List ℕ) → (missing ≡ false → IsUtf8 text) → IfSome (cond missing None (Some text)) IsUtf8
 text_fits true text h = tt
@@ -117,8 +116,8 @@ are_texts mask ends body parts few below =
     let texts = texts_of mask ends body in
     record {
       utf8 = λ k d h.
-        let in_ends : k < length ends = omega (arith, length-texts_of mask ends body) in
-        subst (λ o. IfSome o IsUtf8) (sym (texts_of_at mask ends body k d in_ends)) (text_fits (is_missing mask k) (slice_range body (get_or (0 ∷ ends) k 0) (get_or ends k 0)) (parts.each k in_ends).there);
+          let in_ends : k < length ends = omega (arith, length-texts_of mask ends body) in
+          subst (λ o. IfSome o IsUtf8) (sym (texts_of_at mask ends body k d in_ends)) (text_fits (is_missing mask k) (slice_range body (get_or (0 ∷ ends) k 0) (get_or ends k 0)) (parts.each k in_ends).there);
       count = omega (arith, length-texts_of mask ends body);
       bytes = omega (arith, text_bytes_is texts, ap length (body_is mask ends body parts), parts.whole, last_below ends below);
     }
@@ -152,14 +151,13 @@ texts_found bytes mask front body words count fits few e len is parts =
     let many : length ends ≡ count = length-ends_in words ∙ ap length is ∙ length-first_chunks 4 count front in
     let ends_is : ends ≡ ends_in (first_chunks 4 count front) = ap ends_in is in
     let below : (i : ℕ) → i < length ends → get_or ends i 0 < 2 ^ 32 = λ i h. omega (arith, ap (λ l. get_or l i 0) ends_is, ends_below count front i fits (omega arith)) in
-    let front_is : flat_map (to_le_bytes w32) (ends_of texts) ≡ front = ap (flat_map (to_le_bytes w32)) (ends_are mask ends body parts ∙ ends_is) ∙ ends_written count front fits len in
-    (
+    let front_is : flat_map (to_le_bytes w32) (ends_of texts) ≡ front = ap (flat_map (to_le_bytes w32)) (ends_are mask ends body parts ∙ ends_is) ∙ ends_written count front fits len in (
       are_texts mask ends body parts (omega (arith, many)) below,
       e
-      ∙ ap (λ l. head 1 l ++ (front ++ body)) (ap (flags_of mask) (sym many) ∙ sym (flags_are mask ends body))
-      ∙ ap (λ l. head 1 (map is_none texts) ++ (l ++ body)) (sym front_is)
-      ∙ ap (λ l. head 1 (map is_none texts) ++ (flat_map (to_le_bytes w32) (ends_of texts) ++ l)) (sym (body_is mask ends body parts))
-      ∙ sym (texts_form_is texts)
+          ∙ ap (λ l. head 1 l ++ (front ++ body)) (ap (flags_of mask) (sym many) ∙ sym (flags_are mask ends body))
+          ∙ ap (λ l. head 1 (map is_none texts) ++ (l ++ body)) (sym front_is)
+          ∙ ap (λ l. head 1 (map is_none texts) ++ (flat_map (to_le_bytes w32) (ends_of texts) ++ l)) (sym (body_is mask ends body parts))
+          ∙ sym (texts_form_is texts),
     )
 
 -- ---- the parts of a form
@@ -182,20 +180,20 @@ parts_of_form texts are =
     let many = length-ends_of texts in
     record {
       each = λ i h.
-        let in_list : i < length texts = omega (arith, many) in
-        let text = get_or texts i None in
-        let start = start_at texts i (omega (arith, in_list)) in
-        let end = end_at texts i in_list in
-        let more = ap length (before_more texts i in_list) ∙ length-append (flat_map bytes_of (take i texts)) (bytes_of text) in
-        let flag : is_missing m i ≡ is_none text = missing_by_mask flags i (omega (arith, length-map texts is_none)) ∙ get_or-map is_none texts i None false in_list in
-        let slice : bytes_of text ≡ slice_range body (get_or (0 ∷ ends) i 0) (get_or ends i 0) =
-            sym (text_between texts i in_list) ∙ ap (slice_range body (bytes_before texts i)) (sym end) ∙ ap (λ a. slice_range body a (get_or ends i 0)) (sym start) in
-        record {
-          ordered = omega (arith, start, end, more);
-          inside = omega (arith, end, before_le texts (i + 1));
-          missing = λ e. omega (arith, start, end, more, ap length (missing_none text (sym flag ∙ e)));
-          there = λ e. subst IsUtf8 slice (there_utf8 text (sym flag ∙ e) (are.utf8 i None in_list));
-        };
+          let in_list : i < length texts = omega (arith, many) in
+          let text = get_or texts i None in
+          let start = start_at texts i (omega (arith, in_list)) in
+          let end = end_at texts i in_list in
+          let more = ap length (before_more texts i in_list) ∙ length-append (flat_map bytes_of (take i texts)) (bytes_of text) in
+          let flag : is_missing m i ≡ is_none text = missing_by_mask flags i (omega (arith, length-map texts is_none)) ∙ get_or-map is_none texts i None false in_list in
+          let slice : bytes_of text ≡ slice_range body (get_or (0 ∷ ends) i 0) (get_or ends i 0) =
+          sym (text_between texts i in_list) ∙ ap (slice_range body (bytes_before texts i)) (sym end) ∙ ap (λ a. slice_range body a (get_or ends i 0)) (sym start) in
+          record {
+            ordered = omega (arith, start, end, more);
+            inside = omega (arith, end, before_le texts (i + 1));
+            missing = λ e. omega (arith, start, end, more, ap length (missing_none text (sym flag ∙ e)));
+            there = λ e. subst IsUtf8 slice (there_utf8 text (sym flag ∙ e) (are.utf8 i None in_list));
+          };
       whole =
           ap (λ k. get_or (0 ∷ ends) k 0) many
           ∙ start_at texts (length texts) (omega arith)

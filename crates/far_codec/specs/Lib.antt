@@ -1,4 +1,6 @@
+pub mod BytesLaws
 pub mod FarForm
+pub mod Forms
 pub mod MaskLaws
 pub mod PlainLaws
 pub mod PlainNumbers

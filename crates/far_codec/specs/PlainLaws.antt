@@ -1,10 +1,10 @@
 -- That numbers of which none is missing have one far form, and are read back from it.
-use Rattle.std.proofs.Common.{◌≡◌, ℕ, ◌+◌, ◌*◌, ◌/◌, Bool, false, cond, ℤ, List, [], ◌∷◌, ◌++◌, length, map, take, drop, Option, Some, All, FitsSigned, refl, sym, ap, ◌∙◌, arith}
+use Rattle.std.proofs.Common.{◌≡◌, ℕ, ◌+◌, ◌*◌, Bool, false, cond, ℤ, List, [], ◌∷◌, ◌++◌, length, map, Some, All, FitsSigned, refl, sym, ap, ◌∙◌, arith}
 use Rattle.std.specs.Prelude.{is_none}
 use Rattle.std.specs.Int.{w32, w64, to_le_bytes, cast_unsigned, cast_signed}
-use Rattle.std.specs.List.{list_any, flat_map, range_with_len, AllByRecursion}
+use Rattle.std.specs.List.{list_any, flat_map, AllByRecursion}
 use Rattle.std.specs.Simd.{first_chunks}
-use Rattle.std.proofs.lemmas.List.{length-map, length-append, append-nil, take_at, drop_at}
+use Rattle.std.proofs.lemmas.List.{length-map, length-append, append-nil}
 use Rattle.std.proofs.lemmas.List.Elements.{recursion_from_All}
 use Rattle.std.proofs.lemmas.List.Folds.{flat_map-map}
 use Rattle.std.proofs.lemmas.Nat.{from_le_bytes-to_le_bytes_8, from_le_bytes-to_le_bytes_4}

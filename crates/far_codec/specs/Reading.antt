@@ -1,8 +1,9 @@
 -- What bytes mean, where they are a far form.
-use Rattle.std.specs.Prelude.{ℕ, ◌+◌, ◌*◌, ◌/◌, ◌%◌, Bool, ◌==◌, cond, ℤ, List, [], length, map, take, drop, Option, None, Some, slice_index, slice_index_or}
+use Rattle.std.specs.Prelude.{◌≡◌, ℕ, ◌+◌, ◌/◌, ◌%◌, Bool, ◌==◌, cond, ℤ, List, [], length, map, take, drop, Option, None, Some, slice_index, slice_index_or}
 use Rattle.std.specs.List.{range_with_len}
 use Rattle.std.specs.Int.{w32, w64, bit_at, from_le_bytes, cast_signed}
 use Rattle.std.specs.Simd.{first_chunks}
+use Rattle.far_codec.specs.FarForm.{ints_form, AreInts}
 
 -- how many values the head counts
 abbrev pub count_in : List ℕ → ℕ
@@ -35,3 +36,8 @@ numbers_of mask words = map (λ i. cond (is_missing mask i) None (Some (number_o
 -- the numbers that bytes mean
 abbrev pub ints_meaning : List ℕ → List (Option ℤ)
 ints_meaning bytes = numbers_of (mask_in bytes) (first_chunks 8 (count_in bytes) (fields_in bytes))
+
+-- the bytes are a far form of numbers
+pub record IsIntsForm (bytes : List ℕ) : Type 0 where
+  pub ints : AreInts (ints_meaning bytes)
+  pub is : bytes ≡ ints_form (ints_meaning bytes)

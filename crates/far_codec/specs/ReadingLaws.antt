@@ -1,8 +1,8 @@
 -- What the head of a far form says, and that a form of numbers reads back.
-use Rattle.std.proofs.Common.{◌≡◌, ℕ, zero, suc, ◌+◌, ◌-◌, ◌*◌, ◌/◌, ◌%◌, ◌^◌, ◌<◌, ◌≤◌, Bool, true, false, cond, eqb, ℤ, pos, List, [], ◌∷◌, ◌++◌, length, get_or, map, take, drop, Option, None, Some, All, FitsSigned, refl, sym, ap, subst, ◌∙◌, arith, inl, inr}
+use Rattle.std.proofs.Common.{◌≡◌, ℕ, ◌+◌, ◌*◌, ◌/◌, ◌<◌, Bool, true, false, cond, eqb, ℤ, List, [], ◌∷◌, ◌++◌, length, get_or, map, take, drop, Option, None, Some, All, FitsSigned, refl, sym, ap, ◌∙◌, arith, inl, inr}
 use Rattle.std.specs.Prelude.{is_none, IfSome}
-use Rattle.std.specs.Int.{w32, w64, to_le_bytes, from_le_bytes, cast_signed, cast_unsigned}
-use Rattle.std.specs.List.{list_any, flat_map, range_with_len}
+use Rattle.std.specs.Int.{w64, cast_signed, cast_unsigned}
+use Rattle.std.specs.List.{list_any, flat_map}
 use Rattle.std.specs.Simd.{first_chunks}
 use Rattle.std.proofs.lemmas.Bool.{cases_Bool}
 use Rattle.std.proofs.lemmas.List.{get_or-map, length-map, length-append, take_at, drop_at, same_lists}
@@ -72,10 +72,10 @@ numbers_again numbers fits =
     let words = map number_bytes numbers in
     let len : length (numbers_of m words) ≡ length numbers = length-map-range_with_len (λ i. cond (is_missing m i) None (Some (number_of (get_or words i [])))) 0 (length words) ∙ length-map numbers number_bytes in
     same_lists (numbers_of m words) numbers len (λ k d h.
-      let in_list : k < length numbers = omega arith in
-      get_or-map-range_with_len (λ i. cond (is_missing m i) None (Some (number_of (get_or words i [])))) 0 (length words) k k d (omega (arith, length-map numbers number_bytes)) (omega arith)
-      ∙ ap (λ w. cond (is_missing m k) None (Some (number_of w))) (get_or-map number_bytes numbers k d [] in_list)
-      ∙ number_again (get_or numbers k d) (is_missing m k) (missing_by_mask flags k (omega (arith, length-map numbers is_none)) ∙ get_or-map is_none numbers k d false in_list) (fits k d in_list))
+    let in_list : k < length numbers = omega arith in
+    get_or-map-range_with_len (λ i. cond (is_missing m i) None (Some (number_of (get_or words i [])))) 0 (length words) k k d (omega (arith, length-map numbers number_bytes)) (omega arith)
+    ∙ ap (λ w. cond (is_missing m k) None (Some (number_of w))) (get_or-map number_bytes numbers k d [] in_list)
+    ∙ number_again (get_or numbers k d) (is_missing m k) (missing_by_mask flags k (omega (arith, length-map numbers is_none)) ∙ get_or-map is_none numbers k d false in_list) (fits k d in_list))
 
 -- a form of numbers reads back
 pub ints_read_back : (numbers : List (Option ℤ)) → AreInts numbers → ints_meaning (ints_form numbers) ≡ numbers
@@ -145,6 +145,6 @@ one_ints_list one other range range_too few e =
     let mask_one : length (mask_of (map is_none one)) ≡ cond b ((m + 7) / 8) 0 = length-mask_of (map is_none one) ∙ ap (λ c. cond c ((length (map is_none one) + 7) / 8) 0) (same_form_heads one other e) ∙ ap (λ k. cond b ((k + 7) / 8) 0) (length-map one is_none) in
     let mask_other : length (mask_of (map is_none other)) ≡ cond b ((n + 7) / 8) 0 = length-mask_of (map is_none other) ∙ ap (λ k. cond b ((k + 7) / 8) 0) (length-map other is_none) in
     let lengths : 6 + cond b ((m + 7) / 8) 0 + 8 * m ≡ 6 + cond b ((n + 7) / 8) 0 + 8 * n =
-        ap (λ k. 6 + k + 8 * m) (sym mask_one) ∙ sym (length-ints_form one) ∙ ap length e ∙ length-ints_form other ∙ ap (λ k. 6 + k + 8 * n) mask_other in
+    ap (λ k. 6 + k + 8 * m) (sym mask_one) ∙ sym (length-ints_form one) ∙ ap length e ∙ length-ints_form other ∙ ap (λ k. 6 + k + 8 * n) mask_other in
     let few_too : FitsCount other = omega (arith, counts_agree m n b lengths) in
     sym (ints_list_reads_back one range few) ∙ ap ints_meaning e ∙ ints_list_reads_back other range_too few_too

@@ -1,8 +1,8 @@
 -- That a form of texts reads back.
-use Rattle.std.proofs.Common.{◌≡◌, ℕ, zero, suc, ◌+◌, ◌-◌, ◌*◌, ◌/◌, ◌^◌, ◌<◌, ◌≤◌, Bool, true, false, cond, List, [], ◌∷◌, ◌++◌, length, get_or, map, take, drop, Option, None, Some, All, refl, sym, ap, subst, ◌∙◌, arith, append_assoc}
-use Rattle.std.specs.Prelude.{is_none, IfSome, slice_range}
-use Rattle.std.specs.Int.{w32, to_le_bytes, from_le_bytes}
-use Rattle.std.specs.List.{flat_map, range_with_len, AllByRecursion}
+use Rattle.std.proofs.Common.{◌≡◌, ℕ, zero, suc, ◌+◌, ◌-◌, ◌*◌, ◌^◌, ◌<◌, ◌≤◌, Bool, false, cond, List, [], ◌∷◌, ◌++◌, length, get_or, map, take, drop, Option, None, Some, refl, sym, ap, ◌∙◌, arith, append_assoc}
+use Rattle.std.specs.Prelude.{is_none, slice_range}
+use Rattle.std.specs.Int.{w32, to_le_bytes}
+use Rattle.std.specs.List.{flat_map, AllByRecursion}
 use Rattle.std.specs.Option.{option_map_or}
 use Rattle.std.specs.Simd.{first_chunks}
 use Rattle.std.proofs.lemmas.List.{get_or-map, length-map, length-append, take_at, drop_at, ext_get_or, take-append-drop, take_more, append-nil}
@@ -12,8 +12,8 @@ use Rattle.std.proofs.lemmas.List.FromFn.{get_or-map-range_with_len, length-map-
 use Rattle.std.proofs.lemmas.Grind.{flat_map-append}
 use Rattle.std.proofs.lemmas.Nat.{from_le_bytes-to_le_bytes_4}
 use Rattle.far_types.specs.FormLengths.{text_bytes}
-use Rattle.far_codec.specs.FarForm.{head, mask_of, FitsCount}
-use Rattle.far_codec.specs.Reading.{count_in, mask_in, fields_in, is_missing}
+use Rattle.far_codec.specs.FarForm.{mask_of}
+use Rattle.far_codec.specs.Reading.{count_in, fields_in, is_missing}
 use Rattle.far_codec.specs.MaskLaws.{missing_by_mask}
 use Rattle.far_codec.specs.ReadingLaws.{head_read}
 use Rattle.far_codec.specs.TextForm.{bytes_of, bytes_before, ends_of, texts_form, texts_of, ends_in, texts_meaning, AreTexts}
@@ -46,8 +46,8 @@ text_between texts i h =
     let text = bytes_of (get_or texts i None) in
     let back = flat_map bytes_of (drop (i + 1) texts) in
     let whole : flat_map bytes_of texts ≡ front ++ (text ++ back) =
-        ap (flat_map bytes_of) (sym (take-append-drop (i + 1) texts)) ∙ flat_map-append bytes_of (take (i + 1) texts) (drop (i + 1) texts)
-        ∙ ap (λ l. l ++ back) (before_more texts i h) ∙ append_assoc front text back in
+    ap (flat_map bytes_of) (sym (take-append-drop (i + 1) texts)) ∙ flat_map-append bytes_of (take (i + 1) texts) (drop (i + 1) texts)
+    ∙ ap (λ l. l ++ back) (before_more texts i h) ∙ append_assoc front text back in
     let len : bytes_before texts (i + 1) - bytes_before texts i ≡ length text = omega (arith, ap length (before_more texts i h), length-append front text) in
     ap (λ l. take (bytes_before texts (i + 1) - bytes_before texts i) (drop (length front) l)) whole
     ∙ ap (take (bytes_before texts (i + 1) - bytes_before texts i)) (drop_at front (text ++ back) (length front) refl)
@@ -57,7 +57,7 @@ text_between texts i h =
 pub before_le : (texts : Texts) (i : ℕ) → bytes_before texts i ≤ length (flat_map bytes_of texts)
 before_le texts i =
     let whole : flat_map bytes_of texts ≡ flat_map bytes_of (take i texts) ++ flat_map bytes_of (drop i texts) =
-        ap (flat_map bytes_of) (sym (take-append-drop i texts)) ∙ flat_map-append bytes_of (take i texts) (drop i texts) in
+    ap (flat_map bytes_of) (sym (take-append-drop i texts)) ∙ flat_map-append bytes_of (take i texts) (drop i texts) in
     omega (arith, ap length whole, length-append (flat_map bytes_of (take i texts)) (flat_map bytes_of (drop i texts)))
 
 abbrev option_length : Option (List ℕ) → ℕ
@@ -91,9 +91,9 @@ ends_each (e ∷ ends) below =
 pub ends_again : (texts : Texts) → AreTexts texts → ends_in (map (to_le_bytes w32) (ends_of texts)) ≡ ends_of texts
 ends_again texts are =
     ends_each (ends_of texts) (recursion_from_All (λ e. e < 2 ^ 32) (ends_of texts) (λ k d h.
-      let in_list : k < length texts = omega (arith, length-ends_of texts) in
-      let end = get_or-map-range_with_len (λ i. bytes_before texts (i + 1)) 0 (length texts) k k d in_list (omega arith) in
-      omega (arith, end, before_le texts (k + 1), text_bytes_is texts, are.bytes)))
+    let in_list : k < length texts = omega (arith, length-ends_of texts) in
+    let end = get_or-map-range_with_len (λ i. bytes_before texts (i + 1)) 0 (length texts) k k d in_list (omega arith) in
+    omega (arith, end, before_le texts (k + 1), text_bytes_is texts, are.bytes)))
 
 text_again : (missing : Bool) (text : Option (List ℕ)) (bytes : List ℕ) → missing ≡ is_none text → bytes ≡ bytes_of text → cond missing None (Some bytes) ≡ text
 text_again missing None bytes e same = ap (λ b. cond b None (Some bytes)) e
@@ -118,11 +118,11 @@ texts_again texts =
     let body = flat_map bytes_of texts in
     let len : length (texts_of m ends body) ≡ length texts = length-texts_of m ends body ∙ length-ends_of texts in
     ext_get_or None (texts_of m ends body) texts len (λ i h.
-      let in_list : i < length texts = omega (arith, len) in
-      let slice : slice_range body (get_or (0 ∷ ends) i 0) (get_or ends i 0) ≡ bytes_of (get_or texts i None) =
-          ap (λ a. slice_range body a (get_or ends i 0)) (start_at texts i (omega arith)) ∙ ap (slice_range body (bytes_before texts i)) (end_at texts i in_list) ∙ text_between texts i in_list in
-      texts_of_at m ends body i None (omega (arith, length-ends_of texts))
-      ∙ text_again (is_missing m i) (get_or texts i None) (slice_range body (get_or (0 ∷ ends) i 0) (get_or ends i 0)) (missing_by_mask flags i (omega (arith, length-map texts is_none)) ∙ get_or-map is_none texts i None false in_list) slice)
+    let in_list : i < length texts = omega (arith, len) in
+    let slice : slice_range body (get_or (0 ∷ ends) i 0) (get_or ends i 0) ≡ bytes_of (get_or texts i None) =
+    ap (λ a. slice_range body a (get_or ends i 0)) (start_at texts i (omega arith)) ∙ ap (slice_range body (bytes_before texts i)) (end_at texts i in_list) ∙ text_between texts i in_list in
+    texts_of_at m ends body i None (omega (arith, length-ends_of texts))
+    ∙ text_again (is_missing m i) (get_or texts i None) (slice_range body (get_or (0 ∷ ends) i 0) (get_or ends i 0)) (missing_by_mask flags i (omega (arith, length-map texts is_none)) ∙ get_or-map is_none texts i None false in_list) slice)
 
 pub length-end_bytes : (ends : List ℕ) → length (flat_map (to_le_bytes w32) ends) ≡ 4 * length ends
 length-end_bytes [] = refl

@@ -7,7 +7,7 @@ ghost use Rattle.far_codec.specs.Reading.{is_missing, number_of, numbers_of, int
 ghost use Rattle.far_codec.specs.ReadingLaws.{ints_list_reads_back, one_ints_list};
 
 use crate::elem::Elem;
-use crate::head::{is_set, split_head, Masked};
+use crate::head::{Masked, is_set, split_head};
 use crate::mask::{mask_length, push_head, strip_head};
 use crate::words::{are_words, number_in, push_words};
 use far_types::Refusal;
@@ -61,11 +61,7 @@ pub(crate) fn split_ints(bytes: &[u8]) -> Option<IntParts<'_>>
 fn option_in(missing: bool, word: &[u8; 8]) -> Option<i64>
     ensures { result ≡ cond missing None (Some (number_of word.now)) }
 {
-    if missing {
-        None
-    } else {
-        Some(number_in(word))
-    }
+    if missing { None } else { Some(number_in(word)) }
 }
 
 /// The numbers of a form that was parted.

@@ -28,11 +28,7 @@ pub(crate) fn mask_length<T>(values: &[Option<T>]) -> usize
 fn version(masked: bool) -> u8
     ensures { result ≡ cond masked 2 1 }
 {
-    if masked {
-        2
-    } else {
-        1
-    }
+    if masked { 2 } else { 1 }
 }
 
 /// The mask byte of up to eight values.
@@ -70,7 +66,11 @@ fn push_mask<T>(form: &mut Vec<u8>, values: &[Option<T>]) -> Result<(), AllocErr
 }
 
 /// Appends the head and the mask of values.
-pub(crate) fn push_head<T>(form: &mut Vec<u8>, kind: u8, values: &[Option<T>]) -> Result<(), AllocError>
+pub(crate) fn push_head<T>(
+    form: &mut Vec<u8>,
+    kind: u8,
+    values: &[Option<T>],
+) -> Result<(), AllocError>
     ensures { OnOk result (form.new.items ≡ form.old.items ++ head kind (map is_none values.now)) }
 {
     let count = values.len().to_le_bytes();
@@ -118,15 +118,16 @@ pub(crate) fn strip_head<'a, T>(bytes: &'a [u8], kind: u8, values: &[Option<T>])
     let (front, rest) = bytes.split_at(6);
     let masked = any_missing(values);
     let count = values.len().to_le_bytes();
-    if front != [
-        version(masked),
-        kind,
-        count[0],
-        count[1],
-        count[2],
-        count[3],
-    ]
-    .as_slice()
+    if front
+        != [
+            version(masked),
+            kind,
+            count[0],
+            count[1],
+            count[2],
+            count[3],
+        ]
+        .as_slice()
     {
         return None;
     }

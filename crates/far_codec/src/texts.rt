@@ -5,7 +5,7 @@ ghost use Rattle.std.specs.Int.{w32, from_le_bytes};
 ghost use Rattle.std.specs.Str.{IsUtf8};
 ghost use Rattle.far_codec.specs.TextForm.{texts_form, texts_of, ends_in, AreTexts, AreTextParts};
 
-use crate::head::{is_set, split_head, Masked};
+use crate::head::{Masked, is_set, split_head};
 use far_types::{Refusal, Text};
 use std::alloc::Global;
 
@@ -29,11 +29,7 @@ fn start_in(ends: &[[u8; 4]], i: usize) -> usize
     requires { i ≤ length ends.now }
     ensures { result ≡ slice_index (0 ∷ ends_in ends.now) i }
 {
-    if i == 0 {
-        0
-    } else {
-        end_in(&ends[i - 1])
-    }
+    if i == 0 { 0 } else { end_in(&ends[i - 1]) }
 }
 
 /// Whether the bytes are a text: none where it is missing, else UTF-8.

@@ -1,5 +1,4 @@
-use Rattle.std.proofs.Common.{◌≡◌, ◌<◌, ◌%◌, ◌/◌, ◌^◌, ℕ, Bool, true, false, List, get_or, sym, ap, ◌∙◌, arith, inl, inr}
-use Rattle.std.specs.Prelude.{IsTrue}
+use Rattle.std.proofs.Common.{sym, ◌∙◌, arith, inl, inr}
 use Rattle.std.proofs.lemmas.Bool.{cases_Bool, false≢true}
 use Rattle.far_codec.proofs.PlainWords.{IsBytes}
 use Rattle.far_codec.proofs.Masks.{HasNoSpare, no_spare, mask_again, bit_tells, spare_zero, first_set, no_bit}
@@ -18,16 +17,15 @@ returns c =
     let count = c.args.count in
     let fits : IsBytes mask = λ i. omega (arith, c.type_inv.mask i) in
     let spare : HasNoSpare mask count = no_spare mask count (λ h.
-      elim c.else-spare-ne0.branch [ else-spare-ne0-via-then-spare-ne0+else-mask-count-ne0 w ↦ w.if-mask-count-ne0.false | else-spare-ne0-via-else-spare-ne0 w ↦ absurd (let none = w.if-spare-ne0.false in omega arith) ]) in
-    let is = c.has_bit.ensures in
-    (
+    elim c.else-spare-ne0.branch [ else-spare-ne0-via-then-spare-ne0+else-mask-count-ne0 w ↦ w.if-mask-count-ne0.false | else-spare-ne0-via-else-spare-ne0 w ↦ absurd (let none = w.if-spare-ne0.false in omega arith) ]) in
+    let is = c.has_bit.ensures in (
       λ h.
-        let k = first_set mask (sym is ∙ h) in
-        let any = bit_tells mask count k.0 fits spare (let len = c.requires in omega (arith, k.1)) k.2 in
-        (mask_again mask count fits c.requires spare any, any),
+          let k = first_set mask (sym is ∙ h) in
+          let any = bit_tells mask count k.0 fits spare (let len = c.requires in omega (arith, k.1)) k.2 in
+          (mask_again mask count fits c.requires spare any, any),
       λ h.
-        elim (cases_Bool c.has_bit.result) [
-          | inl set ↦ set
-          | inr none ↦ absurd (false≢true (sym (no_bit mask count (sym is ∙ none)) ∙ h.1))
-        ]
+          elim (cases_Bool c.has_bit.result) [
+            | inl set ↦ set
+            | inr none ↦ absurd (false≢true (sym (no_bit mask count (sym is ∙ none)) ∙ h.1))
+          ],
     )

@@ -1,10 +1,10 @@
-use Rattle.std.proofs.Common.{◌≡◌, ◌<◌, ◌++◌, ℕ, Bool, true, false, List, [], length, get_or, drop, refl, sym, ap, ◌∙◌, arith, inl, inr}
-use Rattle.far_codec.specs.FarForm.{version, mask_of, head, some_missing}
+use Rattle.std.proofs.Common.{◌≡◌, ◌++◌, ℕ, List, [], sym, ap, ◌∙◌, arith, inl, inr}
+use Rattle.far_codec.specs.FarForm.{head}
 use Rattle.far_codec.specs.Reading.{flags_of}
 use Rattle.far_codec.specs.MaskLaws.{no_mask}
 use Rattle.far_codec.proofs.PlainWords.{IsBytes}
 use Rattle.far_codec.proofs.Masks.{length-flags_of}
-use Rattle.far_codec.proofs.Heads.{head_found, head_cells, HeadCells, count_below, version_1, version_2, version_either, version_of_none, version_of_some, none_missing, some_with, some_and_with}
+use Rattle.far_codec.proofs.Heads.{head_found, head_cells, count_below, version_1, version_2, version_either, version_of_none, version_of_some, none_missing, some_with, some_and_with}
 use Rattle.far_codec.proofs.head.split_head.Goals as goal
 
 pub returns-then-bytes-lt6-clause-only : goal.returns-then-bytes-lt6-clause-only
@@ -22,9 +22,10 @@ returns-then-bytes-eq1-clause-found c =
     let flags = flags_of [] count in
     let fits : IsBytes bytes = λ i. omega (arith, c.type_inv.bytes i) in
     let none = none_missing count in
-    let back = sym c.split_at.ensures.back ∙ ap (λ (m : List ℕ). m ++ c.split_at.result.1.now) (sym (no_mask flags none)) in
-    (omega (arith, c.from_le_bytes-count.ensures, count_below bytes fits),
-     head_found bytes c.args.kind count flags c.split_at.result.1.now fits (omega arith) (c.if-bytes-eq1.true ∙ version_of_none flags none) c.if-bytes-kind.false c.from_le_bytes-count.ensures (length-flags_of [] count) back)
+    let back = sym c.split_at.ensures.back ∙ ap (λ (m : List ℕ). m ++ c.split_at.result.1.now) (sym (no_mask flags none)) in (
+      omega (arith, c.from_le_bytes-count.ensures, count_below bytes fits),
+      head_found bytes c.args.kind count flags c.split_at.result.1.now fits (omega arith) (c.if-bytes-eq1.true ∙ version_of_none flags none) c.if-bytes-kind.false c.from_le_bytes-count.ensures (length-flags_of [] count) back,
+    )
 
 pub returns-then-bytes-eq1-clause-only : goal.returns-then-bytes-eq1-clause-only
 returns-then-bytes-eq1-clause-only c flags rest few e =
@@ -39,9 +40,9 @@ returns-then-bytes-eq2-clause-found c =
     let count = c.from_le_bytes-count.result in
     let fits : IsBytes bytes = λ i. omega (arith, c.type_inv.bytes i) in
     some_with c.split_mask.result _ _ (λ m h.
-      let flags = flags_of m.mask.now count in
-      let whole : bytes ≡ head c.args.kind flags ++ m.fields.now = head_found bytes c.args.kind count flags m.fields.now fits (omega arith) (c.if-bytes-eq2.true ∙ version_of_some flags h.2) c.if-bytes-kind.false c.from_le_bytes-count.ensures (length-flags_of m.mask.now count) (sym c.split_at.ensures.back ∙ h.1) in
-      (omega (arith, h.0, c.from_le_bytes-count.ensures, count_below bytes fits), whole ∙ ap (λ (n : ℕ). head c.args.kind (flags_of m.mask.now n) ++ m.fields.now) (sym h.0))) c.split_mask.ensures.found
+    let flags = flags_of m.mask.now count in
+    let whole : bytes ≡ head c.args.kind flags ++ m.fields.now = head_found bytes c.args.kind count flags m.fields.now fits (omega arith) (c.if-bytes-eq2.true ∙ version_of_some flags h.2) c.if-bytes-kind.false c.from_le_bytes-count.ensures (length-flags_of m.mask.now count) (sym c.split_at.ensures.back ∙ h.1) in
+    (omega (arith, h.0, c.from_le_bytes-count.ensures, count_below bytes fits), whole ∙ ap (λ (n : ℕ). head c.args.kind (flags_of m.mask.now n) ++ m.fields.now) (sym h.0))) c.split_mask.ensures.found
 
 pub returns-then-bytes-eq2-clause-only : goal.returns-then-bytes-eq2-clause-only
 returns-then-bytes-eq2-clause-only c flags rest few e =

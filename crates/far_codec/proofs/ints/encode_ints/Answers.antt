@@ -1,4 +1,4 @@
-use Rattle.std.proofs.Common.{◌≡◌, ◌++◌, [], ℕ, List, map, FitsSigned, sym, ap, ◌∙◌}
+use Rattle.std.proofs.Common.{◌≡◌, ◌++◌, ℕ, List, map, FitsSigned, sym, ap, ◌∙◌}
 use Rattle.std.specs.Prelude.{is_none, IfSome}
 use Rattle.std.specs.Int.{w64}
 use Rattle.std.specs.List.{flat_map}
@@ -10,8 +10,7 @@ use Rattle.far_codec.proofs.ints.encode_ints.Goals as goal
 pub returns-clause-spelled : goal.returns-clause-spelled
 returns-clause-spelled c =
     let numbers = c.args.numbers.now in
-    let front : c.push_head.new.form.items ≡ head 0 (map is_none numbers) = c.in_ok-push_head.ensures ∙ ap (λ (l : List ℕ). l ++ head 0 (map is_none numbers)) c.in_ok-form.ensures.items in
-    (
+    let front : c.push_head.new.form.items ≡ head 0 (map is_none numbers) = c.in_ok-push_head.ensures ∙ ap (λ (l : List ℕ). l ++ head 0 (map is_none numbers)) c.in_ok-form.ensures.items in (
       c.in_ok-push_words.ensures.written ∙ ap (λ (l : List ℕ). l ++ flat_map number_bytes numbers) front ∙ sym (ints_form_is numbers),
-      record { range = All-from_recursion (λ number. IfSome number (FitsSigned w64)) numbers c.in_ok-push_words.ensures.range; count = c.requires }
+      record { range = All-from_recursion (λ number. IfSome number (FitsSigned w64)) numbers c.in_ok-push_words.ensures.range; count = c.requires },
     )

@@ -1,4 +1,4 @@
-use Rattle.std.proofs.Common.{◌≡◌, ◌++◌, ℕ, List, map, Some, None, cond, get_or, [], ◌∷◌, ◌+◌, ap, sym, ◌∙◌, rules, arith, length}
+use Rattle.std.proofs.Common.{◌≡◌, ◌++◌, ℕ, List, map, Some, None, cond, get_or, [], ◌∷◌, ap, sym, ◌∙◌, rules, arith, length}
 use Rattle.std.proofs.lemmas.List.{nil_from_length}
 use Rattle.std.proofs.lemmas.Bool.Decides.{nat_tests}
 use Rattle.std.specs.List.{range_with_len}
@@ -18,7 +18,6 @@ returns-then-is_empty c =
     let q = c.if-is_empty.true in
     let none : length c.args.parts.now.mask.now ≡ 0 = grind (arith, nat_tests) in
     items ∙ plain_numbers words ∙ ap (λ (m : List ℕ). numbers_of m words) (sym (nil_from_length c.args.parts.now.mask.now none))
-
 
 pub loop-i-preserved : goal.loop-i-preserved
 loop-i-preserved c =

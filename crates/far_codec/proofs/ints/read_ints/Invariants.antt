@@ -1,4 +1,4 @@
-use Rattle.std.proofs.Common.{◌≡◌, ℕ, cond, List, [], get_or, map, length, vec_len, Option, None, Some}
+use Rattle.std.proofs.Common.{◌≡◌, cond, [], get_or, map, length, vec_len, None, Some}
 use Rattle.std.specs.Prelude.{vec_capacity}
 use Rattle.std.specs.List.{range_with_len}
 use Rattle.far_codec.specs.Reading.{is_missing, number_of}

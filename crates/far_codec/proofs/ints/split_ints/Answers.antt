@@ -1,12 +1,11 @@
-use Rattle.std.proofs.Common.{◌≡◌, ◌<◌, ◌*◌, ◌/◌, ◌^◌, ◌++◌, ℕ, ℤ, Bool, true, false, List, length, map, Option, refl, sym, ap, ◌∙◌, arith}
+use Rattle.std.proofs.Common.{◌≡◌, ◌<◌, ◌*◌, ◌/◌, ◌^◌, ◌++◌, ℕ, ℤ, Bool, List, length, map, Option, sym, ap, ◌∙◌, arith}
 use Rattle.std.specs.Prelude.{is_none}
 use Rattle.std.specs.List.{flat_map}
 use Rattle.std.specs.Simd.{first_chunks}
-use Rattle.std.proofs.lemmas.Bool.{false≢true}
 use Rattle.std.proofs.lemmas.List.{length-map}
 use Rattle.far_codec.specs.FarForm.{mask_of, head, number_bytes, ints_form, FitsCount, AreInts}
-use Rattle.far_codec.specs.Reading.{flags_of, numbers_of}
-use Rattle.far_codec.proofs.IntForms.{ints_found, HasIntParts, length-numbers, zeros_in, AreZero}
+use Rattle.far_codec.specs.Reading.{flags_of}
+use Rattle.far_codec.proofs.IntForms.{ints_found, HasIntParts, length-numbers, zeros_in}
 use Rattle.far_codec.proofs.PlainWords.{IsBytes, IsBytes-behind}
 use Rattle.far_codec.proofs.ints.split_ints.Goals as goal
 

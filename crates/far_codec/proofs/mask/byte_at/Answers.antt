@@ -1,4 +1,4 @@
-use Rattle.std.proofs.Common.{◌≡◌, ℕ, ◌*◌, List, length, map, take, drop, ap, ◌∙◌, min, arith}
+use Rattle.std.proofs.Common.{◌≡◌, ℕ, length, map, take, ap, ◌∙◌, min, arith}
 use Rattle.std.specs.Prelude.{is_none}
 use Rattle.far_codec.specs.FarForm.{mask_byte}
 use Rattle.std.proofs.lemmas.List.{take_min}

@@ -1,8 +1,8 @@
-use Rattle.std.proofs.Common.{◌≡◌, ◌∷◌, ◌++◌, ℕ, Bool, true, false, List, length, map, sym, ap, ◌∙◌, append_assoc}
+use Rattle.std.proofs.Common.{◌≡◌, ◌∷◌, ◌++◌, ℕ, true, false, List, length, sym, ap, ◌∙◌, append_assoc}
 use Rattle.std.specs.Int.{w32, to_le_bytes}
 use Rattle.std.specs.Prelude.{is_none}
 use Rattle.std.proofs.lemmas.List.{length-map, append-nil}
-use Rattle.far_codec.specs.FarForm.{version, mask_of, mask_bytes, some_missing, head}
+use Rattle.far_codec.specs.FarForm.{version, mask_bytes, some_missing}
 use Rattle.far_codec.specs.MaskLaws.{masked, no_mask}
 use Rattle.far_codec.proofs.Heads.{front_made, head_is}
 use Rattle.far_codec.proofs.MaskWriting.{flags_in, missing_any}

@@ -1,10 +1,10 @@
-use Rattle.std.proofs.Common.{◌≡◌, ◌++◌, ℕ, Bool, true, false, List, length, map, drop, sym, ap, ◌∙◌, arith}
+use Rattle.std.proofs.Common.{◌≡◌, ◌++◌, ℕ, true, false, List, length, sym, ap, ◌∙◌, arith}
 use Rattle.std.proofs.lemmas.List.{length-map}
 use Rattle.std.specs.Prelude.{is_none}
-use Rattle.far_codec.specs.FarForm.{mask_of, some_missing}
+use Rattle.far_codec.specs.FarForm.{some_missing}
 use Rattle.far_codec.specs.MaskLaws.{masked, no_mask}
 use Rattle.far_codec.proofs.Compared.{same_if_not_ne, differ_if_ne}
-use Rattle.far_codec.proofs.Heads.{front_made, HeadParts, head_split, head_join, some_with}
+use Rattle.far_codec.proofs.Heads.{front_made, head_split, head_join, some_with}
 use Rattle.far_codec.proofs.MaskWriting.{flags_in, missing_any}
 use Rattle.far_codec.proofs.mask.strip_head.Goals as goal
 
@@ -28,7 +28,7 @@ returns-then-masked-clause-found g c =
     let front = same_if_not_ne c.ne.result c.split_at.result.0.now c.as_slice.result.now c.ne.ensures c.if-ne.false ∙ c.as_slice.ensures ∙ made in
     let any : some_missing flags ≡ true = sym (c.any_missing-masked.ensures ∙ missing_any values) ∙ c.if-masked.true in
     some_with c.strip_mask.result _ _ (λ rest h.
-      head_join c.args.bytes.now c.args.kind flags rest.now (sym c.split_at.ensures.front ∙ front) (sym c.split_at.ensures.back ∙ h ∙ ap (λ (m : List ℕ). m ++ rest.now) (sym (masked flags any)))) c.strip_mask.ensures.found
+    head_join c.args.bytes.now c.args.kind flags rest.now (sym c.split_at.ensures.front ∙ front) (sym c.split_at.ensures.back ∙ h ∙ ap (λ (m : List ℕ). m ++ rest.now) (sym (masked flags any)))) c.strip_mask.ensures.found
 
 pub returns-then-masked-clause-only : goal.returns-then-masked-clause-only
 returns-then-masked-clause-only g c rest e =

@@ -1,10 +1,9 @@
-use Rattle.std.proofs.Common.{◌≡◌, ◌+◌, ◌-◌, ◌<◌, ◌≤◌, ◌∷◌, ℕ, suc, true, false, List, length, get_or, take, drop, sym, ap, subst, ◌∙◌, arith}
+use Rattle.std.proofs.Common.{◌≡◌, ◌+◌, ◌-◌, ◌∷◌, ℕ, suc, length, get_or, drop, sym, ap, subst, ◌∙◌, arith}
 use Rattle.std.specs.Prelude.{slice_range}
 use Rattle.std.specs.Str.{IsUtf8}
 use Rattle.std.proofs.lemmas.List.{length-take, length-drop}
-use Rattle.far_codec.specs.Reading.{is_missing}
 use Rattle.far_codec.specs.TextForm.{ends_in, IsTextAt}
-use Rattle.far_codec.proofs.TextForms.{end_of_word, length-ends_in}
+use Rattle.far_codec.proofs.TextForms.{end_of_word}
 use Rattle.far_codec.proofs.texts.are_texts.Goals as goal
 use borrow.Author.Count.{below_more}
 
@@ -27,8 +26,8 @@ loop-i-preserved c =
         ordered = omega (arith, start, end, c.if-end-start.false);
         inside = omega (arith, end, c.if-body-end.false);
         missing = λ m.
-          let none : length (slice_range body c.loop-i.start c.end_in-end.result) ≡ 0 = (c.is_text.ensures.missing (c.is_set.ensures ∙ m)).0 c.if-not-is_text.false in
-          omega (arith, none, start, end, c.if-end-start.false, c.if-body-end.false, length-take (c.end_in-end.result - c.loop-i.start) (drop c.loop-i.start body), length-drop c.loop-i.start body);
+            let none : length (slice_range body c.loop-i.start c.end_in-end.result) ≡ 0 = (c.is_text.ensures.missing (c.is_set.ensures ∙ m)).0 c.if-not-is_text.false in
+            omega (arith, none, start, end, c.if-end-start.false, c.if-body-end.false, length-take (c.end_in-end.result - c.loop-i.start) (drop c.loop-i.start body), length-drop c.loop-i.start body);
         there = λ t. subst IsUtf8 slice ((c.is_text.ensures.there (c.is_set.ensures ∙ t)).0 c.if-not-is_text.false);
       });
     }

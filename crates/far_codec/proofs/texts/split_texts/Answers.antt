@@ -1,13 +1,12 @@
-use Rattle.std.proofs.Common.{◌≡◌, ◌<◌, ◌*◌, ◌/◌, ◌^◌, ◌++◌, ℕ, Bool, true, false, List, length, map, take, drop, Option, refl, sym, ap, subst, ◌∙◌, arith}
+use Rattle.std.proofs.Common.{◌≡◌, ◌<◌, ◌*◌, ◌/◌, ◌^◌, ◌++◌, ℕ, Bool, List, length, map, take, sym, ap, subst, ◌∙◌, arith}
 use Rattle.std.specs.Prelude.{is_none}
 use Rattle.std.specs.Int.{w32, to_le_bytes}
 use Rattle.std.specs.List.{flat_map}
 use Rattle.std.specs.Simd.{first_chunks}
-use Rattle.std.proofs.lemmas.Bool.{false≢true}
 use Rattle.std.proofs.lemmas.List.{length-map, length-append, take-append-drop}
 use Rattle.far_codec.specs.FarForm.{mask_of, head, FitsCount}
 use Rattle.far_codec.specs.Reading.{flags_of}
-use Rattle.far_codec.specs.TextForm.{bytes_of, ends_of, texts_form, texts_of, ends_in, AreTexts, AreTextParts}
+use Rattle.far_codec.specs.TextForm.{bytes_of, ends_of, texts_form, ends_in, AreTexts, AreTextParts}
 use Rattle.far_codec.specs.TextLaws.{Texts, length-end_bytes, length-ends_of}
 use Rattle.far_codec.proofs.PlainWords.{IsBytes, IsBytes-behind, IsBytes-take}
 use Rattle.far_codec.proofs.TextForms.{texts_form_is, texts_found, parts_of_form, HasTextParts, parts_in}

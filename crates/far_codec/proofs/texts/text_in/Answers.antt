@@ -1,9 +1,7 @@
-use Rattle.std.proofs.Common.{◌≡◌, ◌<◌, ◌≤◌, ◌∷◌, ℕ, true, false, cond, List, length, get_or, Option, None, Some, sym, ap, ◌∙◌, arith}
+use Rattle.std.proofs.Common.{◌≡◌, ◌∷◌, ℕ, true, false, cond, get_or, None, Some, sym, ap, ◌∙◌, arith}
 use Rattle.std.specs.Prelude.{slice_range}
-use Rattle.std.specs.Int.{w32, from_le_bytes}
 use Rattle.far_codec.specs.Reading.{is_missing}
 use Rattle.far_codec.specs.TextForm.{ends_in}
-use Rattle.far_codec.specs.TextLaws.{text_at}
 use Rattle.far_codec.proofs.TextForms.{text_there, text_past, end_of_word, length-ends_in}
 use Rattle.far_codec.proofs.texts.text_in.Goals as goal
 

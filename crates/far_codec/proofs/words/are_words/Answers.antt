@@ -1,5 +1,4 @@
-use Rattle.std.proofs.Common.{◌≡◌, ◌++◌, ℕ, ℤ, pos, List, [], ◌∷◌, map, take, length, get_or, ◌<◌, Some, sym, ap, ◌∙◌, arith}
-use Rattle.std.specs.List.{AllByRecursion}
+use Rattle.std.proofs.Common.{◌++◌, ℕ, List, [], ◌∷◌, map, take, get_or, sym, ap, ◌∙◌, arith}
 use Rattle.std.proofs.lemmas.List.{take_more, get_or-map, map-append}
 use Rattle.far_codec.proofs.Chunks.{AllByRecursion-append, taken_more}
 use Rattle.std.proofs.lemmas.Bool.{false≢true}
@@ -11,10 +10,9 @@ returns-then-ne-clause-exact g c =
     let words = c.args.words.now in
     let list = c.args.list.now in
     let i = c.loop-i.i in
-    let x = c.index-list-i.result in
-    (
+    let x = c.index-list-i.result in (
       λ h. absurd (false≢true h),
-      λ e. absurd (differ_if_ne c.ne.result (get_or words i []) c.word.result c.ne.ensures c.if-ne.true (ap (λ (l : List (List ℕ)). get_or l i []) e ∙ get_or-map g.T.Word.written list i x [] (omega arith) ∙ ap g.T.Word.written (sym c.index-list-i.is) ∙ sym c.word.ensures.bytes))
+      λ e. absurd (differ_if_ne c.ne.result (get_or words i []) c.word.result c.ne.ensures c.if-ne.true (ap (λ (l : List (List ℕ)). get_or l i []) e ∙ get_or-map g.T.Word.written list i x [] (omega arith) ∙ ap g.T.Word.written (sym c.index-list-i.is) ∙ sym c.word.ensures.bytes)),
     )
 
 pub loop-i-preserved : goal.loop-i-preserved

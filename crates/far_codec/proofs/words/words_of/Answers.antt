@@ -1,4 +1,4 @@
-use Rattle.std.proofs.Common.{◌≡◌, List, [], ◌∷◌, map, sym, ap, subst, ◌∙◌}
+use Rattle.std.proofs.Common.{map, ap, subst}
 use Rattle.std.specs.List.{AllByRecursion}
 use Rattle.far_codec.proofs.Chunks.{items_8}
 use Rattle.far_codec.proofs.words.words_of.Goals as goal

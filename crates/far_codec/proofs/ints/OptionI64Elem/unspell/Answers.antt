@@ -1,4 +1,4 @@
-use Rattle.std.proofs.Common.{◌≡◌, Some, sym, ap, ◌∙◌}
+use Rattle.std.proofs.Common.{Some, sym, ap, ◌∙◌}
 use Rattle.far_codec.specs.ReadingLaws.{one_ints_list}
 use Rattle.far_codec.specs.Reading.{numbers_of}
 use Rattle.far_codec.proofs.ints.OptionI64Elem.unspell.Goals as goal
