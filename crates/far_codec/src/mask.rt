@@ -10,7 +10,11 @@ use std::alloc::AllocError;
 fn any_missing<T>(values: &[Option<T>]) -> bool
     ensures { result ≡ list_any is_none values.now }
 {
-    values.iter().any(|value| value.is_none())
+    let mut missing = false;
+    for value in values {
+        missing |= value.is_none();
+    }
+    missing
 }
 
 /// How many bytes the mask of values has.

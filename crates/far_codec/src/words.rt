@@ -53,35 +53,30 @@ pub(crate) fn number_in(word: &[u8; 8]) -> i64
     i64::from_le_bytes(*word)
 }
 
-/// The words of a block.
-fn words_of<T: Word>(block: &[T]) -> [[u8; 8]; 8]
-    requires { length block.now ≡ 8 }
-    ensures words { result ≡ map T.written block.now }
+/// Writes the word of each element of a block into its place.
+fn write_words<T: Word>(words: &mut [[u8; 8]], block: &[T])
+    requires { length words.old ≡ length block.now }
+    ensures words { words.new ≡ map T.written block.now }
     ensures range { AllByRecursion T.in_range block.now }
 {
-    [
-        block[0].word(),
-        block[1].word(),
-        block[2].word(),
-        block[3].word(),
-        block[4].word(),
-        block[5].word(),
-        block[6].word(),
-        block[7].word(),
-    ]
+    for j in 0..block.len() {
+        words[j] = block[j].word();
+    }
 }
 
-/// Appends the words of a list, in blocks, so that a compiler makes wide moves of them.
+/// Appends the words of a list. They are written in blocks, so that a compiler makes wide moves of them.
 pub(crate) fn push_words<T: Word>(form: &mut Vec<u8>, list: &[T]) -> Result<(), AllocError>
     ensures written { OnOk result (form.new.items ≡ form.old.items ++ flat_map T.written list.now) }
     ensures range { OnOk result (AllByRecursion T.in_range list.now) }
 {
-    for i in 0..list.len() / 8 {
-        let (_, from) = list.split_at(8 * i);
-        let (block, _) = from.split_at(8);
-        form.extend_from_slice(words_of(block).as_flattened())?;
+    let mut words = [[0; 8]; 64];
+    for i in 0..list.len() / 64 {
+        let (_, from) = list.split_at(64 * i);
+        let (block, _) = from.split_at(64);
+        write_words(&mut words, block);
+        form.extend_from_slice(words.as_flattened())?;
     }
-    let (_, rest) = list.split_at(list.len() / 8 * 8);
+    let (_, rest) = list.split_at(list.len() / 64 * 64);
     for element in rest {
         form.extend_from_slice(&element.word())?;
     }
