@@ -1,0 +1,4 @@
+pub mod ColumnLaws
+pub mod PlaceLaws
+pub mod RowsLaws
+pub mod Writes

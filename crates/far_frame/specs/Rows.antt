@@ -1,6 +1,6 @@
 -- How the places of a table follow from its columns and its flags.
 use Rattle.std.specs.Prelude.{◌≡◌, ℕ, ◌-◌, Bool, true, List, [], ◌∷◌, ◌++◌, map, length, take, slice_index_or}
-use Rattle.std.specs.List.{enumerate_from, AllByRecursion}
+use Rattle.std.specs.List.{enumerate_from, All}
 use Rattle.far_types.specs.declared.cell.Cell.{Cell}
 use Rattle.far_types.specs.declared.cell.Cell.TheVariants.{Missing}
 use Rattle.far_types.specs.declared.cell.Kind.{Kind}
@@ -27,10 +27,10 @@ places_of columns flags = map (λ at. record { cells = row_at columns at.0; aliv
 abbrev pub rows_in : List Column → List Bool → TableRows
 rows_in columns flags = record { kinds = map kind_in columns; places = places_of (map cells_in columns) flags }
 
--- a column has a cell for each place, and its numbers are those of 64 bits
-pub record IsFull (places : ℕ) (column : Column) : Type 0 where
-  pub cells : length (cells_in column) ≡ places
-  pub fits : RowFits (cells_in column)
+-- the cells of a column: one for each place, and its numbers are those of 64 bits
+pub record IsFull (places : ℕ) (cells : List Cell) : Type 0 where
+  pub count : length cells ≡ places
+  pub fits : RowFits cells
 
 -- the columns with one more row: a cell more in each, in order
 abbrev pub pushed : List (List Cell) → List Cell → List (List Cell)
@@ -50,4 +50,4 @@ pub record IsRow (kinds : List Kind) (row : List Cell) : Type 0 where
 
 -- each place has such a row
 abbrev pub AreRows : TableRows → Type 0
-AreRows rows = AllByRecursion (λ (place : Place). IsRow rows.kinds place.cells) rows.places
+AreRows rows = All (λ (place : Place). IsRow rows.kinds place.cells) rows.places

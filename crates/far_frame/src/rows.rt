@@ -1,14 +1,14 @@
 // The rows of a table.
 ghost use Rattle.std.specs.Prelude.{◌≡◌, ℕ, ◌<◌, ◌≤◌, List, [], ◌∷◌, ◌++◌, true, false, map, length, Option, Some, None, option_map, slice_get, IfOk, IfErr, OnOk, OnErr, IfSome, FitsSigned};
 ghost use Rattle.std.specs.Int.{w64};
-ghost use Rattle.std.specs.List.{AllByRecursion};
+ghost use Rattle.std.specs.List.{All};
 ghost use Rattle.std.specs.Option.{option_and_then};
 ghost use Rattle.far_types.specs.declared.cell.Cell.{Cell};
 ghost use Rattle.far_types.specs.declared.edit.Edit.TheVariants.{Insert, Set};
 ghost use Rattle.far_types.specs.Cells.{RowFits, cell_at, cells_of};
 ghost use Rattle.far_types.specs.Edits.{kinds_fit, is_of_other_kind, with_cell, removed, changed_at, overfills};
 ghost use Rattle.far_types.specs.Filters.{passes, keeps};
-ghost use Rattle.far_types.specs.Pairs.{key_under, pair_in};
+ghost use Rattle.far_types.specs.Pairs.{key_under, pair_of};
 ghost use Rattle.far_types.specs.Table.{Place, place_pair};
 ghost use Rattle.far_frame.specs.Columns.{lent_cell, kind_in, cells_in, HasRoom};
 ghost use Rattle.far_frame.specs.Rows.{row_at, pushed, shorter, AreRows};
@@ -28,15 +28,16 @@ pub struct Rows {
 }
 
 impl Model for Rows {
-    ghost use Rattle.std.specs.Prelude.{length};
-    ghost use Rattle.std.specs.List.{AllByRecursion};
+    ghost use Rattle.std.specs.Prelude.{length, map};
+    ghost use Rattle.std.specs.List.{All};
+    ghost use Rattle.far_frame.specs.Columns.{cells_in};
     ghost use Rattle.far_frame.specs.Rows.{TableRows, rows_in, IsFull};
 
     ghost Value = { TableRows };
 
     ghost view = { λ rows. rows_in rows.columns.items rows.alive.items };
 
-    ghost invariant = { λ rows. AllByRecursion (IsFull (length rows.alive.items)) rows.columns.items };
+    ghost invariant = { λ rows. All (IsFull (length rows.alive.items)) (map cells_in rows.columns.items) };
 }
 
 impl Rows {
@@ -139,11 +140,10 @@ impl Rows {
         ensures fits { IfOk result (λ pair. IfSome pair (λ p. FitsSigned w64 p.1)) }
         ensures memory { IfErr result (λ e. e ≡ Refusal.NoMemory) }
     {
-        let columns = self.columns.as_slice();
-        if !self.alive[place] || !keeps(columns, spec.filter.as_slice(), place) {
+        if !self.alive[place] {
             return Ok(None);
         }
-        pair_in(*self.alive.allocator(), columns, spec, place)
+        pair_of(*self.alive.allocator(), self.columns.as_slice(), spec, place)
     }
 
     /// Whether the row's insert would make a text object longer than a text segment. Takes no memory.
@@ -219,12 +219,15 @@ fn key_under(alloc: Global, columns: &[Column], key: Option<u32>, place: usize) 
     }
 }
 
-/// The pair of the row at a place, which is kept.
-fn pair_in(alloc: Global, columns: &[Column], spec: &Spec, place: usize) -> Result<Option<(Option<Key>, i64)>, Refusal>
-    ensures pair { IfOk result (λ pair. pair ≡ pair_in spec.now (cells_of (row_at (map cells_in columns.now) place))) }
+/// The pair of the row at a place, where it is kept and folded.
+fn pair_of(alloc: Global, columns: &[Column], spec: &Spec, place: usize) -> Result<Option<(Option<Key>, i64)>, Refusal>
+    ensures pair { IfOk result (λ pair. pair ≡ pair_of spec.now (cells_of (row_at (map cells_in columns.now) place))) }
     ensures fits { IfOk result (λ pair. IfSome pair (λ p. FitsSigned w64 p.1)) }
     ensures memory { IfErr result (λ e. e ≡ Refusal.NoMemory) }
 {
+    if !keeps(columns, spec.filter.as_slice(), place) {
+        return Ok(None);
+    }
     match cell_of(columns, spec.value as usize, place) {
         Some(CellRef::Int(value)) => match key_under(alloc, columns, spec.key, place)? {
             Some(key) => Ok(Some((key, value))),
@@ -236,7 +239,7 @@ fn pair_in(alloc: Global, columns: &[Column], spec: &Spec, place: usize) -> Resu
 
 /// Takes the memory for one more cell in each column.
 fn reserve_all(columns: &mut Vec<Column>) -> Result<(), Refusal>
-    ensures room { OnOk result (AllByRecursion HasRoom columns.new.items) }
+    ensures room { OnOk result (All HasRoom columns.new.items) }
     ensures kinds { map kind_in columns.new.items ≡ map kind_in columns.old.items }
     ensures cells { map cells_in columns.new.items ≡ map cells_in columns.old.items }
     ensures memory { IfErr result (λ e. e ≡ Refusal.NoMemory) }
@@ -251,7 +254,7 @@ fn reserve_all(columns: &mut Vec<Column>) -> Result<(), Refusal>
 fn push_all(columns: &mut Vec<Column>, cells: Vec<Cell>)
     requires of_kinds { kinds_fit (map kind_in columns.old.items) cells.items ≡ true }
     requires width { length cells.items ≡ length columns.old.items }
-    requires room { AllByRecursion HasRoom columns.old.items }
+    requires room { All HasRoom columns.old.items }
     ensures kinds { map kind_in columns.new.items ≡ map kind_in columns.old.items }
     ensures cells { map cells_in columns.new.items ≡ pushed (map cells_in columns.old.items) cells.items }
     ensures fits { RowFits cells.items }
@@ -276,7 +279,7 @@ fn pop_all(columns: &mut Vec<Column>)
 /// Whether one of the columns would overfill with the row's cell at the place.
 fn overfills_any(columns: &[Column], limits: &Limits, place: usize, row: &Row) -> bool
     requires group_low { 1 ≤ limits.now.group }
-    requires place { AllByRecursion (λ column. place ≤ length (cells_in column)) columns.now }
+    requires place { All (λ column. place ≤ length (cells_in column)) columns.now }
     ensures { result ≡ list_any (λ at. overfilled limits.now place (cell_at at.0 row.now) at.1) (enumerate_from 0 columns.now) }
 {
     columns.iter().enumerate().any(|(at, column)| match row.get(at) {
