@@ -17,7 +17,7 @@ use Rattle.far_frame.specs.Rows.{row_at, places_of, pushed, shorter}
 use Rattle.far_frame.proofs.ColumnLaws.{AsLong, row_at-cell, row_at-new, row_at-pushed, row_at-shorter, row_at-set, row_at-set_other}
 
 -- the places from one on, of a row for each place
-abbrev placed : (ℕ → List Cell) → ℕ → List Bool → List Place
+abbrev pub placed : (ℕ → List Cell) → ℕ → List Bool → List Place
 placed rows n flags = map (λ (at : ℕ × Bool). record { cells = rows at.0; alive = at.1 }) (enumerate_from n flags)
 
 placed-same : (f g : ℕ → List Cell) (n : ℕ) (flags : List Bool) → ((i : ℕ) → n ≤ i → i < n + length flags → f i ≡ g i) → placed f n flags ≡ placed g n flags

@@ -282,11 +282,28 @@ fn overfills_any(columns: &[Column], limits: &Limits, place: usize, row: &Row) -
     requires place { All (λ column. place ≤ length (cells_in column)) columns.now }
     ensures { result ≡ list_any (λ at. overfilled limits.now place (cell_at at.0 row.now) at.1) (enumerate_from 0 columns.now) }
 {
-    columns.iter().enumerate().any(|(at, column)| match row.get(at) {
+    for (at, column) in columns.iter().enumerate() {
+        if overfills_at(column, limits, place, row.get(at)) {
+            return true;
+        }
+    }
+    false
+}
+
+/// Whether a column would overfill with a row's cell at the place. A row without that column has no value there.
+fn overfills_at(column: &Column, limits: &Limits, place: usize, cell: Option<&Cell>) -> bool
+    requires group_low { 1 ≤ limits.now.group }
+    requires place { place ≤ length (cells_in column.now) }
+    ensures { result ≡ overfilled limits.now place (unwrap_or (option_copied cell.entry) Missing) column.now }
+{
+    match cell {
         Some(cell) => column.overfills(limits, place, cell),
         None => column.overfills(limits, place, &Cell::Missing),
-    })
+    }
 }
 
 ghost use Rattle.std.specs.List.{list_any, enumerate_from};
+ghost use Rattle.std.specs.Prelude.{unwrap_or};
+ghost use Rattle.std.specs.Option.{option_copied};
+ghost use Rattle.far_types.specs.declared.cell.Cell.TheVariants.{Missing};
 ghost use Rattle.far_frame.specs.Columns.{overfilled};

@@ -1,0 +1,21 @@
+use Rattle.std.proofs.Common.{◌≡◌, ℕ, length, ◌∙◌, sym, ap, arith}
+use Rattle.std.specs.List.{list_any, enumerate_from}
+use Rattle.far_types.specs.declared.edit.Edit.TheVariants.{Insert}
+use Rattle.far_types.specs.Cells.{cell_at}
+use Rattle.far_types.specs.Edits.{overfills}
+use Rattle.far_frame.specs.declared.column.Column.{Column}
+use Rattle.far_frame.specs.Columns.{overfilled}
+use Rattle.far_frame.specs.Rows.{TableRows}
+use Rattle.far_frame.proofs.OverfillLaws.{overfills-insert}
+use Rattle.far_frame.proofs.rows.Rows.overfills_insert.Goals as goal
+
+pub returns : goal.returns
+returns c =
+    let limits = c.args.limits.now in
+    let row = c.args.row.now in
+    let count : c.len.result ≡ length c.self.inside.alive.items = omega arith in
+    let columns = c.as_slice.ensures.value in
+    c.overfills_any.ensures
+    ∙ (λ i. list_any (λ (at : ℕ × Column). overfilled limits (count i) (cell_at at.0 row) at.1) (enumerate_from 0 (columns i)))
+    ∙ sym (overfills-insert c.self.inside.columns.items c.self.inside.alive.items limits row c.self.invariant)
+    ∙ ap (λ (rows : TableRows). overfills rows.kinds limits (Insert row) rows.places) c.self.view_is
