@@ -1,9 +1,8 @@
 -- A column of the places after an edit, and whether its text object is too long.
-use Rattle.std.proofs.Common.{◌≡◌, ℕ, zero, suc, ◌+◌, ◌/◌, ◌<◌, ◌≤◌, Bool, true, nat_lt, List, [], ◌∷◌, ◌++◌, map, length, take, drop, get_or, set, slice_get, refl, sym, ap, ◌∙◌, arith, Option, Some, None, option_map}
+use Rattle.std.proofs.Common.{◌≡◌, ℕ, zero, suc, ◌+◌, ◌/◌, ◌<◌, Bool, true, nat_lt, List, [], ◌∷◌, ◌++◌, map, length, take, drop, get_or, set, refl, sym, ap, ◌∙◌, arith, Option, Some, option_map}
 use Rattle.std.specs.Prelude.{◌&&◌, ◌||◌}
 use Rattle.std.specs.List.{All, list_any, enumerate_from}
 use Rattle.std.proofs.lemmas.List.{map-append, take_all, drop_all, drop_more, length-map, length-set, get_or-set_same}
-use Rattle.std.proofs.lemmas.List.Elements.{All-set}
 use Rattle.std.proofs.lemmas.Option.{unwrap_or-slice_get, slice_get-map, slice_get_read}
 use Rattle.far_types.specs.declared.cell.Cell.{Cell}
 use Rattle.far_types.specs.declared.cell.Cell.TheVariants.{Missing}
@@ -18,7 +17,7 @@ use Rattle.far_types.specs.Table.{Place, column, in_group}
 use Rattle.far_frame.specs.declared.column.Column.{Column}
 use Rattle.far_frame.specs.Columns.{kind_in, cells_in, put, overfilled}
 use Rattle.far_frame.specs.Rows.{row_at, places_of, IsFull}
-use Rattle.far_frame.proofs.ColumnLaws.{AsLong, as-long, row_at-cell}
+use Rattle.far_frame.proofs.ColumnLaws.{row_at-cell}
 use Rattle.far_frame.proofs.PlaceLaws.{length-places, placed, places-set}
 use Rattle.far_frame.proofs.RowsLaws.{cells-at, count-cells}
 
@@ -87,10 +86,10 @@ overfills-insert columns flags limits row full =
     let after : List Place = old ++ record { cells = row; alive = true } ∷ [] in
     ap (λ (n : ℕ). list_any (λ (at : ℕ × Kind). is_text (Some at.1) && is_over limits at.0 (n / limits.group) after) (enumerate_from 0 (map kind_in columns))) (length-places (map cells_in columns) flags)
     ∙ any-same (λ (at : ℕ × Kind). is_text (Some at.1) && is_over limits at.0 (length flags / limits.group) after) (λ (at : ℕ × Column). overfilled limits (length flags) (cell_at at.0 row) at.1) 0 columns
-        (λ i at other e within is.
-          let same : i ≡ at = omega arith in
-          overfills-column limits at (length flags) (cell_at at row) other after
-            (ap (λ n. column n after) (sym same) ∙ inserted-column columns flags i other row within is full ∙ ap (λ n. put (length flags) (cell_at n row) (cells_in other)) same))
+    (λ i at other e within is.
+    let same : i ≡ at = omega arith in
+    overfills-column limits at (length flags) (cell_at at row) other after
+    (ap (λ n. column n after) (sym same) ∙ inserted-column columns flags i other row within is full ∙ ap (λ n. put (length flags) (cell_at n row) (cells_in other)) same))
 
 pub overfills-set : (columns : List Column) (flags : List Bool) (limits : Limits) (p c : ℕ) (cell : Cell) (at : Column) → c < length columns → at ≡ get_or columns c at → p < length flags → All (IsFull (length flags)) (map cells_in columns) → overfills (map kind_in columns) limits (Set p c cell) (places_of (map cells_in columns) flags) ≡ overfilled limits p cell at
 overfills-set columns flags limits p c cell at within is place full =

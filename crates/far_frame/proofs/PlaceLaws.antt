@@ -12,7 +12,7 @@ use Rattle.far_types.specs.declared.cell.Cell.{Cell}
 use Rattle.far_types.specs.declared.cell.Cell.TheVariants.{Missing}
 use Rattle.far_types.specs.Cells.{cell_at}
 use Rattle.far_types.specs.Edits.{with_cell, removed, changed_at}
-use Rattle.far_types.specs.Table.{Place, column}
+use Rattle.far_types.specs.Table.{Place}
 use Rattle.far_frame.specs.Rows.{row_at, places_of, pushed, shorter}
 use Rattle.far_frame.proofs.ColumnLaws.{AsLong, row_at-cell, row_at-new, row_at-pushed, row_at-shorter, row_at-set, row_at-set_other}
 

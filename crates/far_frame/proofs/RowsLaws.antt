@@ -1,7 +1,8 @@
 -- What columns and flags have to do with the rows that they keep.
-use Rattle.std.proofs.Common.{◌≡◌, ℕ, ◌<◌, Bool, cond, Option, Some, None, option_map, slice_get, List, [], length, map, get_or, set, ap, sym, ◌∙◌, arith}
+use Rattle.std.proofs.Common.{◌≡◌, ℕ, ◌<◌, Bool, cond, Some, None, option_map, slice_get, List, [], length, map, get_or, set, ap, sym, ◌∙◌, arith}
 use Rattle.std.specs.List.{All}
 use Rattle.std.proofs.lemmas.List.{length-map, get_or_default}
+use Rattle.std.proofs.Math.ListN.{get_or-map}
 use Rattle.far_types.specs.declared.cell.Cell.{Cell}
 use Rattle.far_types.specs.declared.spec.Spec.{Spec}
 use Rattle.far_types.specs.Cells.{cells_of}
@@ -39,3 +40,8 @@ pub pair-at : (spec : Spec) (columns : List Column) (flags : List Bool) (rows : 
 pair-at spec columns flags rows is p flag within at =
     sym (ap (λ (r : TableRows). option_map (place_pair spec) (slice_get r.places p)) is)
     ∙ ap (option_map (place_pair spec)) (place-at (map cells_in columns) flags p flag within at)
+
+pub each-count : (columns : List Column) (n : ℕ) → All (IsFull n) (map cells_in columns) → All (λ (column : Column). length (cells_in column) ≡ n) columns
+each-count columns n full k d within =
+    let here = full k (cells_in d) (omega (arith, length-map columns cells_in)) in
+    sym (ap length (get_or-map cells_in columns k d)) ∙ here.count

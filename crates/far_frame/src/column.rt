@@ -1,13 +1,14 @@
 // The cells of one column.
-ghost use Rattle.std.specs.Prelude.{◌≡◌, ◌≤◌, ◌++◌, [], ◌∷◌, true, OnOk, OnErr, IfErr, slice_index_or, slice_set, length};
+ghost use Rattle.std.specs.Prelude.{◌≡◌, ◌<◌, ◌≤◌, ◌-◌, take, ◌++◌, [], ◌∷◌, true, OnOk, OnErr, IfErr, slice_index_or, slice_set, length};
 ghost use Rattle.far_types.specs.Cells.{is_of_kind, CellFits, RowFits};
 ghost use Rattle.far_types.specs.declared.cell.Cell.TheVariants.{Missing};
-ghost use Rattle.far_frame.specs.Columns.{lent_cell, kind_in, cells_in, HasRoom, overfilled};
+ghost use Rattle.far_frame.specs.Columns.{lent_cell, int_cell, text_cell, kind_in, cells_in, HasRoom, overfilled};
 
 use super::cell_ref::CellRef;
 use super::text_form::texts_length;
 use far_types::{Cell, Kind, Limits, Refusal, Text};
 use std::alloc::Global;
+use std::mem;
 
 /// The cells of one column, by place. A cell without a value is a `None`.
 #[derive(Drop, Debug)]
@@ -100,7 +101,10 @@ impl Column {
         ensures fits { CellFits cell }
     {
         match self {
-            Column::Ints(numbers) => cell_of_number(mem::replace(&mut numbers[place], number_of(cell))),
+            Column::Ints(numbers) => cell_of_number(mem::replace(
+                &mut numbers[place],
+                number_of(cell),
+            )),
             Column::Texts(texts) => cell_of_text(mem::replace(&mut texts[place], text_of(cell))),
         }
     }
@@ -170,7 +174,3 @@ fn cell_of_text(text: Option<Text>) -> Cell
         None => Cell::Missing,
     }
 }
-
-ghost use Rattle.std.specs.Prelude.{◌<◌, ◌-◌, take};
-ghost use Rattle.far_frame.specs.Columns.{int_cell, text_cell};
-use std::mem;

@@ -3,6 +3,7 @@
 
 pub mod cell_ref;
 mod column;
+mod columns;
 pub mod rows;
 mod text_form;
 

@@ -1,5 +1,5 @@
 // How long a text object is.
-ghost use Rattle.std.specs.Prelude.{◌≡◌, ◌+◌, ◌*◌, ◌^◌, ◌<◌, ◌≤◌, ◌∷◌, ◌++◌, length, is_none};
+ghost use Rattle.std.specs.Prelude.{◌≡◌, ◌+◌, ◌*◌, ◌^◌, ◌<◌, ◌≤◌, ◌∷◌, ◌++◌, length, is_none, option_map};
 ghost use Rattle.std.specs.List.{list_any};
 ghost use Rattle.far_types.specs.Cells.{text_in};
 ghost use Rattle.far_types.specs.FormLengths.{text_bytes, texts_length};
@@ -53,5 +53,3 @@ pub fn texts_length(before: &[Option<Text>], cell: &Cell, after: &[Option<Text>]
     let bytes = text_bytes(before) + text.unwrap_or(0) as u128 + text_bytes(after);
     6 + mask + 4 * count + bytes
 }
-
-ghost use Rattle.std.specs.Prelude.{option_map};

@@ -20,7 +20,7 @@ returns c =
     let within : place ≤ length texts = omega (arith, ap (λ (column : Column). length (cells_in column)) c.in-Texts.is, length-map c.in-Texts.texts.items text_cell, ap length c.as_slice-texts.ensures.value) in
     let to : c.min-to.result ≡ min (from + size) (length texts) = omega arith in
     let same = ap (λ (ts : List (Option (List ℕ))). nat_lt limits.text_size (texts_length ts))
-          (group-put size place from c.min-to.result c.min.result c.args.cell.now texts refl high within to c.min.ensures low) in
+    (group-put size place from c.min-to.result c.min.result c.args.cell.now texts refl high within to c.min.ensures low) in
     ap (nat_lt limits.text_size) c.texts_length.ensures
     ∙ sym same
     ∙ ap (λ (ts : List (Option (List ℕ))). nat_lt limits.text_size (texts_length (map text_in (in_group size (place / size) (put place c.args.cell.now (map text_cell ts)))))) c.as_slice-texts.ensures.value

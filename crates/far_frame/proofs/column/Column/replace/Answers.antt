@@ -1,4 +1,3 @@
-use Rattle.std.proofs.Common.{◌≡◌, ◌∙◌, ap, set}
 use Rattle.std.proofs.lemmas.List.{map-set}
 use Rattle.far_frame.specs.Columns.{int_cell, text_cell}
 use Rattle.far_frame.proofs.column.Column.replace.Goals as goal

@@ -1,7 +1,6 @@
-use Rattle.std.proofs.Common.{◌≡◌, ◌≤◌, List, length, map, ap, sym, ◌∙◌, arith, slice_get, Some, Option}
+use Rattle.std.proofs.Common.{◌≤◌, List, length, map, ap, sym, ◌∙◌, arith, slice_get}
 use Rattle.std.specs.Option.{option_and_then}
 use Rattle.std.proofs.lemmas.Option.{slice_get_past}
-use Rattle.far_types.specs.declared.cell.Cell.{Cell}
 use Rattle.far_types.specs.Table.{Place}
 use Rattle.far_frame.specs.declared.column.Column.{Column}
 use Rattle.far_frame.specs.Columns.{cells_in}

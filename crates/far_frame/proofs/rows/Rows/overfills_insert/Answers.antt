@@ -1,13 +1,20 @@
-use Rattle.std.proofs.Common.{◌≡◌, ℕ, length, ◌∙◌, sym, ap, arith}
-use Rattle.std.specs.List.{list_any, enumerate_from}
+use Rattle.std.proofs.Common.{◌≡◌, ℕ, ◌≤◌, List, length, ◌∙◌, sym, ap, subst, arith}
+use Rattle.std.specs.List.{All, list_any, enumerate_from}
 use Rattle.far_types.specs.declared.edit.Edit.TheVariants.{Insert}
 use Rattle.far_types.specs.Cells.{cell_at}
 use Rattle.far_types.specs.Edits.{overfills}
 use Rattle.far_frame.specs.declared.column.Column.{Column}
-use Rattle.far_frame.specs.Columns.{overfilled}
+use Rattle.far_frame.specs.Columns.{cells_in, overfilled}
 use Rattle.far_frame.specs.Rows.{TableRows}
 use Rattle.far_frame.proofs.OverfillLaws.{overfills-insert}
+use Rattle.far_frame.proofs.RowsLaws.{each-count}
 use Rattle.far_frame.proofs.rows.Rows.overfills_insert.Goals as goal
+
+pub overfills_any-requires-clause-place : goal.overfills_any-requires-clause-place
+overfills_any-requires-clause-place c =
+    let count : c.len.result ≡ length c.self.inside.alive.items = omega arith in
+    let long = each-count c.self.inside.columns.items (length c.self.inside.alive.items) c.self.invariant in
+    subst (λ (columns : List Column). All (λ (column : Column). c.len.result ≤ length (cells_in column)) columns) (sym c.as_slice.ensures.value) (λ k d within. omega (arith, long k d within))
 
 pub returns : goal.returns
 returns c =

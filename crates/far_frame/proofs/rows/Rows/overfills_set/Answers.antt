@@ -1,12 +1,11 @@
-use Rattle.std.proofs.Common.{◌≡◌, ◌<◌, ◌≤◌, ◌/◌, false, List, length, map, get_or, slice_get, ◌∙◌, sym, ap, arith, Option, None, option_map}
+use Rattle.std.proofs.Common.{◌≡◌, ◌<◌, ◌≤◌, ◌/◌, List, length, get_or, ◌∙◌, sym, ap, arith, Option}
 use Rattle.std.specs.Prelude.{◌&&◌}
-use Rattle.std.proofs.lemmas.Option.{slice_get-map, slice_get_past}
+use Rattle.std.proofs.lemmas.Option.{slice_get_past}
 use Rattle.far_types.specs.declared.cell.Kind.{Kind}
 use Rattle.far_types.specs.declared.edit.Edit.TheVariants.{Set}
 use Rattle.far_types.specs.Bounds.{is_text}
 use Rattle.far_types.specs.Edits.{overfills, with_cell, changed_at, is_over}
 use Rattle.far_frame.specs.declared.column.Column.{Column}
-use Rattle.far_frame.specs.Columns.{kind_in, cells_in}
 use Rattle.far_frame.specs.Rows.{TableRows}
 use Rattle.far_frame.proofs.OverfillLaws.{overfills-set}
 use Rattle.far_frame.proofs.RowsLaws.{count-places, count-columns, cells-at, count-cells}

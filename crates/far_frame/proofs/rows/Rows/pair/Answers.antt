@@ -1,5 +1,4 @@
-use Rattle.std.proofs.Common.{◌≡◌, ◌<◌, List, length, map, ap, sym, ◌∙◌, arith, cond, Bool, Some, None, Option, option_map, slice_get}
-use Rattle.std.specs.Prelude.{ℤ, IfOk}
+use Rattle.std.proofs.Common.{◌≡◌, List, map, ap, sym, ◌∙◌, arith, cond, Bool, Some, None, Option, option_map, slice_get}
 use Rattle.std.proofs.lemmas.Result.{IfOk-weaker}
 use Rattle.far_types.specs.Cells.{cells_of}
 use Rattle.far_types.specs.Pairs.{Pair, pair_of}
@@ -19,7 +18,7 @@ returns-then-not-index-clause-pair c =
     let alive = c.self.inside.alive.items in
     let found = pair_of c.args.spec.now (cells_of (row_at (map cells_in columns) c.args.place)) in
     sym (pair-at c.args.spec.now columns alive c.args.self.now c.self.view_is c.args.place c.index.result.now (omega (arith, count-places columns alive c.args.self.now c.self.view_is)) c.index.ensures
-      ∙ ap (λ (flag : Bool). Some (cond flag found None)) c.if-not-index.true)
+    ∙ ap (λ (flag : Bool). Some (cond flag found None)) c.if-not-index.true)
 
 pub returns-clause-pair : goal.returns-clause-pair
 returns-clause-pair c =
@@ -27,6 +26,6 @@ returns-clause-pair c =
     let alive = c.self.inside.alive.items in
     let found = pair_of c.args.spec.now (cells_of (row_at (map cells_in columns) c.args.place)) in
     let at = sym (pair-at c.args.spec.now columns alive c.args.self.now c.self.view_is c.args.place c.index.result.now (omega (arith, count-places columns alive c.args.self.now c.self.view_is)) c.index.ensures
-          ∙ ap (λ (flag : Bool). Some (cond flag found None)) c.if-not-index.false) in
+    ∙ ap (λ (flag : Bool). Some (cond flag found None)) c.if-not-index.false) in
     let lent = ap (λ (cs : List Column). pair_of c.args.spec.now (cells_of (row_at (map cells_in cs) c.args.place))) c.as_slice.ensures.value in
     IfOk-weaker c.pair_of.result (λ (pair : Option Pair). pair ≡ pair_of c.args.spec.now (cells_of (row_at (map cells_in c.as_slice.result.now) c.args.place))) (λ (pair : Option Pair). Some pair ≡ option_map (place_pair c.args.spec.now) (slice_get c.args.self.now.places c.args.place)) (λ pair is. ap Some (is ∙ lent) ∙ at) c.pair_of.ensures.pair

@@ -3,7 +3,6 @@ use Rattle.std.specs.List.{All}
 use Rattle.std.proofs.lemmas.Grind.{common_steps}
 use Rattle.std.proofs.lemmas.List.{length-map, length_push}
 use Rattle.far_types.specs.declared.cell.Cell.{Cell}
-use Rattle.far_types.specs.Table.{Place}
 use Rattle.far_frame.specs.Columns.{kind_in, cells_in}
 use Rattle.far_frame.specs.Rows.{TableRows, IsFull, places_of, pushed}
 use Rattle.far_frame.proofs.ColumnLaws.{full-push, as-long}

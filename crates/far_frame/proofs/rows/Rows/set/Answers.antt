@@ -1,4 +1,4 @@
-use Rattle.std.proofs.Common.{◌≡◌, ◌<◌, not, List, [], length, map, get_or, set, ap, subst, sym, ◌∙◌, arith, Some, Option, option_map, slice_get}
+use Rattle.std.proofs.Common.{◌≡◌, ◌<◌, not, List, [], length, map, get_or, set, ap, subst, sym, ◌∙◌, arith, Some, option_map, slice_get}
 use Rattle.std.specs.List.{All}
 use Rattle.std.proofs.lemmas.List.{length-map}
 use Rattle.far_types.specs.declared.cell.Cell.{Cell}
@@ -20,9 +20,12 @@ replace-requires-clause-within c =
     let columns = c.self.inside.columns.items in
     let alive = c.self.inside.alive.items in
     let column : c.args.column < length columns = omega (arith, count-columns columns alive c.args.self.now c.self.view_is) in
-    omega (arith, count-places columns alive c.args.self.now c.self.view_is,
+    omega (
+      arith,
+      count-places columns alive c.args.self.now c.self.view_is,
       ap length (cells-at columns c.args.column c.index_mut.result.now column c.index_mut.ensures.value),
-      count-cells columns (length alive) c.args.column column c.self.invariant)
+      count-cells columns (length alive) c.args.column column c.self.invariant,
+    )
 
 pub replace-requires-clause-of_kind : goal.replace-requires-clause-of_kind
 replace-requires-clause-of_kind c =
@@ -30,9 +33,9 @@ replace-requires-clause-of_kind c =
     let column = c.index_mut.result.now in
     let within : c.args.column < length columns = omega (arith, count-columns columns c.self.inside.alive.items c.args.self.now c.self.view_is) in
     not-false (is_of_kind (kind_in column) c.args.cell)
-      (sym (other-kind columns c.args.column column c.args.cell within c.index_mut.ensures.value)
-      ∙ ap (λ (rows : TableRows). is_of_other_kind (slice_get rows.kinds c.args.column) c.args.cell) c.self.view_is
-      ∙ c.requires.of_kind)
+    (sym (other-kind columns c.args.column column c.args.cell within c.index_mut.ensures.value)
+    ∙ ap (λ (rows : TableRows). is_of_other_kind (slice_get rows.kinds c.args.column) c.args.cell) c.self.view_is
+    ∙ c.requires.of_kind)
 
 pub invariant_of-self : goal.invariant_of-self
 invariant_of-self c =
@@ -41,7 +44,7 @@ invariant_of-self c =
     let within : c.args.column < length columns = omega (arith, count-columns columns alive c.args.self.now c.self.view_is) in
     let written = cells-written columns c.args.column c.args.place c.index_mut.result.now c.replace.new.self c.args.cell within c.index_mut.ensures.value c.replace.ensures.cells in
     subst (λ (cs : List (List Cell)). All (IsFull (length alive)) cs) (sym written)
-      (full-set (map cells_in columns) (length alive) c.args.column c.args.place c.args.cell (omega (arith, length-map columns cells_in)) c.replace.ensures.fits c.self.invariant)
+    (full-set (map cells_in columns) (length alive) c.args.column c.args.place c.args.cell (omega (arith, length-map columns cells_in)) c.replace.ensures.fits c.self.invariant)
 
 pub returns-clause-kinds : goal.returns-clause-kinds
 returns-clause-kinds c =
@@ -85,6 +88,6 @@ returns-clause-back_kind c =
     let column = c.index_mut.result.now in
     let within : c.args.column < length columns = omega (arith, count-columns columns c.self.inside.alive.items c.args.self.now c.self.view_is) in
     ap (λ (kinds : List Kind). is_of_other_kind (slice_get kinds c.args.column) c.replace.result)
-      (map-write_same kind_in columns c.args.column column c.replace.new.self c.index_mut.ensures.value c.replace.ensures.kind)
+    (map-write_same kind_in columns c.args.column column c.replace.new.self c.index_mut.ensures.value c.replace.ensures.kind)
     ∙ other-kind columns c.args.column column c.replace.result within c.index_mut.ensures.value
     ∙ ap not c.replace.ensures.old_kind

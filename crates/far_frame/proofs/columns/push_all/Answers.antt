@@ -1,4 +1,4 @@
-use Rattle.std.proofs.Common.{◌≡◌, ◌<◌, ◌+◌, ◌∙◌, List, [], ◌∷◌, ◌++◌, map, length, get_or, set, sym, ap, refl, arith}
+use Rattle.std.proofs.Common.{◌≡◌, ◌∙◌, List, [], ◌∷◌, ◌++◌, map, length, get_or, set, sym, ap, refl, arith}
 use Rattle.std.proofs.lemmas.Grind.{common_steps}
 use Rattle.std.proofs.lemmas.List.{length-map, length_push}
 use Rattle.std.proofs.lemmas.Iterator.Adapters.{YieldsList-from_vec}
@@ -10,7 +10,7 @@ use Rattle.far_frame.specs.Columns.{kind_in, cells_in}
 use Rattle.far_frame.specs.Rows.{pushed}
 use Rattle.far_frame.proofs.ColumnLaws.{pushed-nothing, pushed-next, kind-at, fits-push}
 use Rattle.far_frame.proofs.Writes.{map-write_same, map-write, map-read}
-use Rattle.far_frame.proofs.rows.push_all.Goals as goal
+use Rattle.far_frame.proofs.columns.push_all.Goals as goal
 
 pub loop-cell-init : goal.loop-cell-init
 loop-cell-init c = record {
@@ -31,9 +31,9 @@ push-requires-clause-of_kind c =
     let turn = YieldsList-turn (YieldsList-from_vec cells (cc) (cc)) c.loop-cell.yielded c.loop-cell.cell-iterator c.loop-cell.yielded_by c.next.result c.next.new.self cell c.in-Some.is c.next.ensures.steps in
     let i = length c.loop-cell.yielded in
     let at : kind_in column ≡ get_or kinds i (kind_in column) =
-      map-read kind_in columns c.loop-cell.column column c.index_mut.ensures.value
-      ∙ ap (λ (ks : List Kind). get_or ks c.loop-cell.column (kind_in column)) c.loop-cell.invariant.kinds
-      ∙ ap (λ n. get_or kinds n (kind_in column)) c.loop-cell.invariant.column in
+    map-read kind_in columns c.loop-cell.column column c.index_mut.ensures.value
+    ∙ ap (λ (ks : List Kind). get_or ks c.loop-cell.column (kind_in column)) c.loop-cell.invariant.kinds
+    ∙ ap (λ n. get_or kinds n (kind_in column)) c.loop-cell.invariant.column in
     ap (λ (k : Kind). is_of_kind k cell) at
     ∙ ap (is_of_kind (get_or kinds i (kind_in column))) turn.1
     ∙ kind-at kinds cells i (kind_in column) cell c.requires.of_kinds (omega (arith, turn.0, length-map c.args.columns.now.items kind_in)) turn.0
@@ -48,9 +48,9 @@ loop-cell-preserved c =
     let turn = YieldsList-turn (YieldsList-from_vec cells (cc) (cc)) c.loop-cell.yielded c.loop-cell.cell-iterator c.loop-cell.yielded_by c.next.result c.next.new.self cell c.in-Some.is c.next.ensures.steps in
     let ys = c.loop-cell.yielded in
     let at : cells_in column ≡ get_or (pushed before ys) (length ys) (cells_in column) =
-      map-read cells_in columns c.loop-cell.column column c.index_mut.ensures.value
-      ∙ ap (λ (cs : List (List Cell)). get_or cs c.loop-cell.column (cells_in column)) c.loop-cell.invariant.cells
-      ∙ ap (λ n. get_or (pushed before ys) n (cells_in column)) c.loop-cell.invariant.column in
+    map-read cells_in columns c.loop-cell.column column c.index_mut.ensures.value
+    ∙ ap (λ (cs : List (List Cell)). get_or cs c.loop-cell.column (cells_in column)) c.loop-cell.invariant.cells
+    ∙ ap (λ n. get_or (pushed before ys) n (cells_in column)) c.loop-cell.invariant.column in
     record {
       column = omega (arith, length_push ys cell);
       kinds = map-write_same kind_in columns c.loop-cell.column column c.push.new.self c.index_mut.ensures.value c.push.ensures.kind ∙ c.loop-cell.invariant.kinds;

@@ -3,7 +3,7 @@ use Rattle.std.specs.List.{AllWithin}
 use Rattle.far_types.specs.Cells.{RowFits}
 use Rattle.far_frame.specs.Columns.{kind_in, cells_in, HasRoom}
 use Rattle.far_frame.specs.Rows.{pushed}
-use Rattle.far_frame.proofs.rows.push_all.Given as goal
+use Rattle.far_frame.proofs.columns.push_all.Given as goal
 
 abbrev pub invariant-loop-cell : goal.invariant-loop-cell
 invariant-loop-cell l = record {

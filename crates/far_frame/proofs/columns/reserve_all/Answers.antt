@@ -1,8 +1,8 @@
-use Rattle.std.proofs.Common.{◌≡◌, ◌∙◌, map, arith}
+use Rattle.std.proofs.Common.{◌∙◌, arith}
 use Rattle.std.proofs.lemmas.Grind.{common_steps}
 use Rattle.far_frame.specs.Columns.{kind_in, cells_in}
 use Rattle.far_frame.proofs.Writes.{map-write_same}
-use Rattle.far_frame.proofs.rows.reserve_all.Goals as goal
+use Rattle.far_frame.proofs.columns.reserve_all.Goals as goal
 
 pub returns-in_err-reserve-clause-kinds : goal.returns-in_err-reserve-clause-kinds
 returns-in_err-reserve-clause-kinds c =

@@ -1,7 +1,7 @@
 use Rattle.std.proofs.Common.{◌≡◌, map}
 use Rattle.std.specs.List.{AllWithin}
 use Rattle.far_frame.specs.Columns.{kind_in, cells_in, HasRoom}
-use Rattle.far_frame.proofs.rows.reserve_all.Given as goal
+use Rattle.far_frame.proofs.columns.reserve_all.Given as goal
 
 abbrev pub invariant-loop-column : goal.invariant-loop-column
 invariant-loop-column l = record {

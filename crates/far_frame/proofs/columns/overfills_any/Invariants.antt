@@ -3,7 +3,7 @@ use Rattle.std.specs.List.{list_any, enumerate_from}
 use Rattle.far_types.specs.Cells.{cell_at}
 use Rattle.far_frame.specs.declared.column.Column.{Column}
 use Rattle.far_frame.specs.Columns.{overfilled}
-use Rattle.far_frame.proofs.rows.overfills_any.Given as goal
+use Rattle.far_frame.proofs.columns.overfills_any.Given as goal
 
 abbrev pub invariant-loop-at : goal.invariant-loop-at
 invariant-loop-at l =
