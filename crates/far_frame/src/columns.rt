@@ -89,12 +89,13 @@ pub fn pair_of(
     if !keeps(columns, spec.filter.as_slice(), place) {
         return Ok(None);
     }
-    match cell_of(columns, spec.value as usize, place) {
-        Some(CellRef::Int(value)) => match key_under(alloc, columns, spec.key, place)? {
-            Some(key) => Ok(Some((key, value))),
-            None => Ok(None),
-        },
-        _ => Ok(None),
+    let value = match cell_of(columns, spec.value as usize, place) {
+        Some(CellRef::Int(value)) => value,
+        _ => return Ok(None),
+    };
+    match key_under(alloc, columns, spec.key, place)? {
+        Some(key) => Ok(Some((key, value))),
+        None => Ok(None),
     }
 }
 

@@ -73,7 +73,7 @@ impl Rows {
     pub fn cell(&self, place: usize, column: usize) -> Option<CellRef<'_>>
         ensures { option_map lent_cell result ≡ option_and_then (λ p. slice_get p.cells column) (slice_get self.now.places place) }
     {
-        if place >= self.alive.len() {
+        if place >= self.len() {
             return None;
         }
         cell_of(self.columns.as_slice(), column, place)
@@ -113,6 +113,7 @@ impl Rows {
         requires of_kind { is_of_other_kind (slice_get self.old.kinds column) cell ≡ false }
         ensures kinds { self.new.kinds ≡ self.old.kinds }
         ensures places { self.new.places ≡ changed_at (with_cell column cell) place self.old.places }
+        ensures len { length self.new.places ≡ length self.old.places }
         ensures stood { Some result ≡ option_map (λ p. cell_at column p.cells) (slice_get self.old.places place) }
         ensures back { changed_at (with_cell column result) place self.new.places ≡ self.old.places }
         ensures back_kind { is_of_other_kind (slice_get self.new.kinds column) result ≡ false }
@@ -125,6 +126,7 @@ impl Rows {
         requires { place < length self.old.places }
         ensures kinds { self.new.kinds ≡ self.old.kinds }
         ensures places { self.new.places ≡ changed_at removed place self.old.places }
+        ensures len { length self.new.places ≡ length self.old.places }
     {
         self.alive[place] = false;
     }
@@ -153,7 +155,7 @@ impl Rows {
         requires { 1 ≤ limits.now.group }
         ensures { result ≡ overfills self.now.kinds limits.now (Insert row.now) self.now.places }
     {
-        overfills_any(self.columns.as_slice(), limits, self.alive.len(), row)
+        overfills_any(self.columns.as_slice(), limits, self.len(), row)
     }
 
     /// Whether the cell's set would make its text object longer than a text segment. Takes no memory.
@@ -168,3 +170,6 @@ impl Rows {
         }
     }
 }
+
+#[cfg(test)]
+mod tests;

@@ -12,7 +12,7 @@ use Rattle.far_frame.specs.Rows.{TableRows, IsFull, places_of}
 use Rattle.far_frame.proofs.Writes.{map-write_same}
 use Rattle.far_frame.proofs.ColumnLaws.{full-set, other-kind, not-false}
 use Rattle.far_frame.proofs.RowsLaws.{count-places, count-columns, cells-at, count-cells, cells-written}
-use Rattle.far_frame.proofs.PlaceLaws.{places-set, cell-stands, set-back}
+use Rattle.far_frame.proofs.PlaceLaws.{length-places, places-set, cell-stands, set-back}
 use Rattle.far_frame.proofs.rows.Rows.set.Goals as goal
 
 pub replace-requires-clause-within : goal.replace-requires-clause-within
@@ -91,3 +91,8 @@ returns-clause-back_kind c =
     (map-write_same kind_in columns c.args.column column c.replace.new.self c.index_mut.ensures.value c.replace.ensures.kind)
     ∙ other-kind columns c.args.column column c.replace.result within c.index_mut.ensures.value
     ∙ ap not c.replace.ensures.old_kind
+
+pub returns-clause-len : goal.returns-clause-len
+returns-clause-len c =
+    length-places (map cells_in (set c.self.inside.columns.items c.args.column c.replace.new.self)) c.self.inside.alive.items
+    ∙ sym (count-places c.self.inside.columns.items c.self.inside.alive.items c.args.self.now c.self.view_is)
