@@ -1,2 +1,3 @@
+pub mod ByKeyMaps
 pub mod Grouping
 pub mod Values
