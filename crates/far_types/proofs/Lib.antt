@@ -1,3 +1,7 @@
 pub mod ByKeyMaps
+pub mod Computed
 pub mod Grouping
+pub mod LineLaws
+pub mod PlaceLaws
+pub mod TotalLaws
 pub mod Values

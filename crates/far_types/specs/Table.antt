@@ -1,11 +1,12 @@
 -- The plain table, which the code never forms: a list of rows, and every answer computed anew from all of them.
-use Rattle.std.specs.Prelude.{ℕ, ◌+◌, ◌-◌, ◌*◌, ◌/◌, Bool, true, false, List, [], ◌∷◌, map, filter, length, replicate, take, drop, slice_range, slice_index_or, count_by, Option, None, Some}
+use Rattle.std.specs.Prelude.{ℕ, ◌+◌, ◌-◌, ◌*◌, ◌/◌, Bool, true, false, cond, List, [], ◌∷◌, map, filter, length, replicate, take, drop, slice_range, slice_index_or, count_by, Option, None, Some}
 use Rattle.far_types.specs.declared.cell.Cell.{Cell}
 use Rattle.far_types.specs.declared.cell.Kind.{Kind}
 use Rattle.far_types.specs.declared.limits.Limits.{Limits}
 use Rattle.far_types.specs.declared.spec.Spec.{Spec}
 use Rattle.far_types.specs.declared.answer.Answer.{Answer}
-use Rattle.far_types.specs.Cells.{cell_at}
+use Rattle.far_types.specs.Cells.{cell_at, cells_of}
+use Rattle.far_types.specs.Pairs.{Pair, pair_of}
 use Rattle.far_types.specs.Answers.{answer_over}
 
 -- a row of cells, of which a removal clears the flag and leaves the cells
@@ -35,6 +36,10 @@ empty_table schema limits = record { schema = schema; limits = limits; places = 
 -- the rows: the cells of the places that are alive, in order of place
 abbrev pub rows_of : List Place → List (List Cell)
 rows_of places = map (λ place. place.cells) (filter (λ place. place.alive) places)
+
+-- what a place gives to an aggregate: the pair of a row that is alive, kept and folded
+abbrev pub place_pair : Spec → Place → Option Pair
+place_pair spec place = cond place.alive (pair_of spec (cells_of place.cells)) None
 
 -- a column: its cells over all places, dead ones too
 abbrev pub column : ℕ → List Place → List Cell

@@ -7,6 +7,7 @@ pub mod cell;
 pub mod edit;
 pub mod filter;
 pub mod key;
+pub mod laws;
 pub mod limits;
 pub mod refusal;
 pub mod row;
@@ -25,3 +26,6 @@ pub use row::Row;
 pub use schema::Schema;
 pub use spec::{Fold, Spec};
 pub use text::Text;
+
+#[cfg(test)]
+mod tests;

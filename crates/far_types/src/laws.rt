@@ -1,0 +1,63 @@
+// Laws of the answers, over the definitions alone.
+ghost use Rattle.std.specs.Prelude.{◌≡◌, ◌≤◌, ◌^◌, ℕ, ℤ, pos, neg_ℤ, ◌≤ℤ◌, List, ◌∷◌, ◌++◌, length, map, All, Option};
+ghost use Rattle.std.specs.List.{list_any};
+ghost use Rattle.std.specs.List.Sorted.{IsStrictlySortedBy};
+ghost use Rattle.std.specs.Ordering.{eq_by_cmp};
+ghost use Rattle.far_types.specs.declared.key.Key.{Key};
+ghost use Rattle.far_types.specs.Keys.{line_cmp};
+ghost use Rattle.far_types.specs.Pairs.{Pair, PairsFit};
+ghost use Rattle.far_types.specs.Answers.{totals, extrema, total_lines, extrema_lines, values_of, is_under, int_sum, least, greatest};
+ghost use Rattle.far_types.specs.Changes.{with_pair, without_pair, with_seen, joined_totals, joined_extrema};
+
+/// How totals change with the folded rows: by one pair more, by one less, not by the order, and when two lists are
+/// joined.
+pub fn totals_follow_the_pairs()
+    ensures more { (pair : Pair) → (pairs : List Pair) → totals (pair ∷ pairs) ≡ with_pair (totals pairs) pair }
+    ensures less { (pair : Pair) → (pairs : List Pair) → without_pair (totals (pair ∷ pairs)) pair ≡ totals pairs }
+    ensures anywhere { (before : List Pair) → (pair : Pair) → (after : List Pair) → totals (before ++ pair ∷ after) ≡ totals (pair ∷ (before ++ after)) }
+    ensures joined { (some : List Pair) → (others : List Pair) → totals (some ++ others) ≡ joined_totals (totals some) (totals others) }
+{}
+
+/// How extrema change with the folded rows: by one pair more, not by the order, and when two lists are joined. One
+/// pair less has no such law, since only the extremes are kept: the row group is looked at again.
+pub fn extrema_follow_the_pairs()
+    ensures more { (pair : Pair) → (pairs : List Pair) → extrema (pair ∷ pairs) ≡ with_seen (extrema pairs) pair }
+    ensures anywhere { (before : List Pair) → (pair : Pair) → (after : List Pair) → extrema (before ++ pair ∷ after) ≡ extrema (pair ∷ (before ++ after)) }
+    ensures joined { (some : List Pair) → (others : List Pair) → extrema (some ++ others) ≡ joined_extrema (extrema some) (extrema others) }
+{}
+
+/// What the lines of totals are: their keys ascend, and none stands twice; a key is there exactly where a folded row
+/// has it, with how many have it and the sum of their values, at least one; and the sum of at most 2^26 values is at
+/// most 2^89 in absolute value.
+pub fn total_lines_are_by_key()
+    ensures ascending { (pairs : List Pair) → IsStrictlySortedBy line_cmp (map (λ line. line.0) (total_lines (totals pairs))) }
+    ensures occurring { (pairs : List Pair) → (key : Option Key) → list_any (eq_by_cmp line_cmp key) (map (λ line. line.0) (total_lines (totals pairs))) ≡ list_any (is_under key) pairs }
+    ensures counts { (pairs : List Pair) → All (λ line. line.1 ≡ length (values_of line.0 pairs)) (total_lines (totals pairs)) }
+    ensures sums { (pairs : List Pair) → All (λ line. line.2 ≡ int_sum (values_of line.0 pairs)) (total_lines (totals pairs)) }
+    ensures counted { (pairs : List Pair) → All (λ line. 1 ≤ line.1) (total_lines (totals pairs)) }
+    ensures bounded { (pairs : List Pair) → PairsFit pairs → length pairs ≤ 2 ^ 26 → All (λ line. (neg_ℤ (pos (2 ^ 89)) ≤ℤ line.2) × (line.2 ≤ℤ pos (2 ^ 89))) (total_lines (totals pairs)) }
+{}
+
+/// What the lines of extrema are: their keys ascend, and none stands twice; a key is there exactly where a folded row
+/// has it, with the least and the greatest of their values.
+pub fn extrema_lines_are_by_key()
+    ensures ascending { (pairs : List Pair) → IsStrictlySortedBy line_cmp (map (λ line. line.0) (extrema_lines (extrema pairs))) }
+    ensures occurring { (pairs : List Pair) → (key : Option Key) → list_any (eq_by_cmp line_cmp key) (map (λ line. line.0) (extrema_lines (extrema pairs))) ≡ list_any (is_under key) pairs }
+    ensures minima { (pairs : List Pair) → All (λ line. line.1 ≡ least (values_of line.0 pairs)) (extrema_lines (extrema pairs)) }
+    ensures maxima { (pairs : List Pair) → All (λ line. line.2 ≡ greatest (values_of line.0 pairs)) (extrema_lines (extrema pairs)) }
+{}
+
+ghost use Rattle.far_types.specs.Examples.{OverNoRows, TotalsByKey, ExactSum, LeastAndGreatest, Filtered, WithMissing, UsedUp, FirstRefusal, OverLength};
+
+/// Small tables and what the definitions say of them: a wrong definition fails here.
+pub fn worked_examples()
+    ensures over_no_rows { OverNoRows }
+    ensures totals_by_key { TotalsByKey }
+    ensures exact_sum { ExactSum }
+    ensures least_and_greatest { LeastAndGreatest }
+    ensures filtered { Filtered }
+    ensures with_missing { WithMissing }
+    ensures used_up { UsedUp }
+    ensures first_refusal { FirstRefusal }
+    ensures over_length { OverLength }
+{}
