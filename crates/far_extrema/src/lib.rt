@@ -3,6 +3,7 @@
 //! group by row group, so that a row group that lost a row is looked at again by itself.
 
 pub mod group_extrema;
+pub mod laws;
 pub mod live_extrema;
 mod spans;
 
