@@ -61,6 +61,16 @@ impl GroupExtrema {
         see_under(&mut self.spans, key, (value, value))
     }
 
+    /// Some folded rows more, at least one, all under one key: the least and the greatest of their values, which the
+    /// caller folded by itself. Refused as `see`, and then nothing is changed.
+    pub fn see_rows(&mut self, key: Option<Key>, least: i64, greatest: i64) -> Result<(), Refusal>
+        ensures ok { OnOk result (self.new ≡ joined_extrema self.old (fin.insert fin.empty key (least, greatest))) }
+        ensures err { OnErr result (self.new ≡ self.old) }
+        ensures memory { IfErr result (λ e. e ≡ Refusal.NoMemory) }
+    {
+        see(&mut self.spans, key, (least, greatest))
+    }
+
     /// The keys that occur, ascending, each with its least and its greatest value. Refused with `NoMemory` (1) alone.
     pub fn answer(&self, alloc: Global) -> Result<Answer, Refusal>
         ensures ok { OnOk result (result ≡ Ok (Answer.Extrema (extrema_lines self.now))) }

@@ -108,3 +108,12 @@ fn a_refused_row_is_not_seen_and_is_accepted_again(rt: HostRuntime) -> Result<()
     assert!(rt; has_lines(&group.answer(alloc)?, &lines));
     Ok(())
 }
+
+#[test]
+fn rows_that_the_caller_folded_come_in_at_once(rt: HostRuntime) -> Result<(), Fail> {
+    let alloc = rt.alloc();
+    let mut group = group_of(alloc, Vec::from_array(alloc, [(None, 5)])?)?;
+    group.see_rows(None, -6, 3)?;
+    assert!(rt; has_lines(&group.answer(alloc)?, &[(None, -6, 5)]));
+    Ok(())
+}

@@ -1,5 +1,5 @@
 // Totals that are kept up to date.
-ghost use Rattle.std.specs.Prelude.{◌≡◌, ◌≢◌, ◌+◌, ◌-◌, ◌^◌, ◌<◌, pos, None, Some, Ok, Err, unwrap_or, OnOk, OnErr, IfErr};
+ghost use Rattle.std.specs.Prelude.{◌≡◌, ◌≢◌, ◌+◌, ◌-◌, ◌^◌, ◌<◌, ◌≤◌, pos, None, Some, Ok, Err, unwrap_or, OnOk, OnErr, IfErr};
 
 use super::tallies::{Tallies, add, add_under, join, lines, take, tally_of};
 use far_types::{Answer, Key, Refusal, TotalLines};
@@ -37,6 +37,7 @@ impl LiveTotals {
     ghost use Rattle.far_types.specs.Answers.{total_lines};
     ghost use Rattle.far_types.specs.Changes.{count_in, with_pair, without_pair, joined_totals};
     ghost use Rattle.far_groups.specs.Live.{CanTake, CanJoin};
+    ghost use Rattle.far_groups.specs.Tallies.{IsTally};
 
     /// No row is in, and as many row groups are still to be built in. Takes no memory.
     pub fn new(alloc: Global, left: u32) -> LiveTotals
@@ -75,6 +76,18 @@ impl LiveTotals {
         ensures memory { IfErr result (λ e. e ≡ Refusal.NoMemory) }
     {
         add_under(&mut self.tallies, key, tally_of(value))
+    }
+
+    /// Some folded rows more, at least one, all under one key: how many they are, and the sum of their values, which the
+    /// caller folded by itself. Refused as `add`, and then nothing is changed.
+    pub fn add_rows(&mut self, key: Option<Key>, count: u64, sum: i128) -> Result<(), Refusal>
+        requires tallied { IsTally (count, sum) }
+        requires room { count_in (fin.get self.old.totals key) + count ≤ 2 ^ 26 }
+        ensures ok { OnOk result (self.new ≡ record self.old { totals = joined_totals self.old.totals (fin.insert fin.empty key (count, sum)) }) }
+        ensures err { OnErr result (self.new ≡ self.old) }
+        ensures memory { IfErr result (λ e. e ≡ Refusal.NoMemory) }
+    {
+        add(&mut self.tallies, key, (count, sum))
     }
 
     /// One folded row less, of those that are in. A key without rows is kept no more. Takes no memory.
