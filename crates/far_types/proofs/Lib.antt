@@ -1,3 +1,4 @@
+pub mod ByKeyMaps
 pub mod Grouping
 pub mod LineLaws
 pub mod PlaceLaws
