@@ -1,0 +1,7 @@
+pub mod BuiltLaws
+pub mod GroupLaws
+pub mod ListLaws
+pub mod PairLaws
+pub mod RoomLaws
+pub mod SlotLaws
+pub mod UntilLaws
