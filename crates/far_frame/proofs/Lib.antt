@@ -1,5 +1,6 @@
 pub mod BuiltLaws
 pub mod GroupLaws
+pub mod KeepLaws
 pub mod ListLaws
 pub mod PairLaws
 pub mod RoomLaws

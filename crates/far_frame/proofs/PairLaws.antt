@@ -56,7 +56,7 @@ pairs_between-more spec ps from i p l h =
     ∙ ap (filter_map (place_pair spec)) (range-more (i - from) (drop from ps) p (get-drop from (i - from) ps ∙ ap (slice_get ps) f ∙ h))
     ∙ filter_map-append (place_pair spec) (take (i - from) (drop from ps)) (p ∷ [])
 
-find : {X : Type 0} (xs : List X) (i : ℕ) → i < length xs → (x : X) × (slice_get xs i ≡ Some x)
+pub find : {X : Type 0} (xs : List X) (i : ℕ) → i < length xs → (x : X) × (slice_get xs i ≡ Some x)
 find [] i h = absurd (omega arith)
 find (x ∷ xs) zero h = (x, refl)
 find (x ∷ xs) (suc i) h = find xs i (omega arith)

@@ -45,8 +45,8 @@ fn take_one(slot: &mut Option<Aggregate>, change: &Option<Pair>)
 
 /// Takes a pair from each of the first n.
 pub fn take_until(slots: &mut [Option<Aggregate>], changes: &[Option<Pair>], n: usize)
-    requires len { length slots.old ≡ length changes.now }
-    requires within { n ≤ length slots.old }
+    requires slots { n ≤ length slots.old }
+    requires changes { n ≤ length changes.now }
     requires may { EachMayTake n slots.old changes.now }
     ensures { slots.new ≡ zip_until taken n slots.old changes.now }
 {

@@ -3,6 +3,7 @@
 
 mod aggregate;
 mod deltas;
+mod edits;
 mod groups;
 mod refresh;
 pub mod rows;
