@@ -11,75 +11,16 @@ use Rattle.far_types.specs.Keys.{line_cmp}
 use Rattle.far_types.specs.KeyOrder.{line_total}
 use Rattle.far_types.specs.Answers.{Totals}
 use Rattle.far_types.specs.Changes.{together, joined_totals, add_tallies, count_in}
-use Rattle.far_types.proofs.Grouping.{same, same_key, get-joined}
-use Rattle.far_types.proofs.ByKeyMaps.{Entries, at, AreApart, take_apart, get_at, get_inserted, insert_back, insert_again}
+use Rattle.far_types.proofs.Grouping.{same_key, get-joined}
+use Rattle.far_types.proofs.ByKeyMaps.{Entries, with_more, with_all, with_all-joined, joined-empty, together_none, moved_out, absent, AreApart, take_apart, get_inserted, insert_back, insert_again}
 use Rattle.far_groups.specs.Live.{CanJoin}
-use Rattle.far_groups.specs.Tallies.{totals_of, IsTally, AreTallies, with_more, with_tally, LeavesTally, without_less, without_tally, CanTakeAll, without_all}
+use Rattle.far_groups.specs.Tallies.{totals_of, IsTally, AreTallies, with_tally, LeavesTally, without_less, without_tally, CanTakeAll, without_all}
 
 -- the entries of another map can be added one after another
 abbrev pub CanAddAll : Totals → Entries (ℕ × ℤ) → Type 0
 CanAddAll totals [] = Unit {0}
 CanAddAll totals (entry ∷ entries) =
     IsTally entry.1 × (count_in (fin.get totals entry.0) + entry.1.0 ≤ 2 ^ 26) × CanAddAll (with_tally totals entry.0 entry.1) entries
-
--- the totals with all entries more
-abbrev pub with_all : Totals → Entries (ℕ × ℤ) → Totals
-with_all m [] = m
-with_all m (e ∷ es) = with_all (with_tally m e.0 e.1) es
-
-pub with_all-push : (m : Totals) (es : Entries (ℕ × ℤ)) (e : Option Key × (ℕ × ℤ)) → with_all m (es ++ e ∷ []) ≡ with_tally (with_all m es) e.0 e.1
-with_all-push m [] e = refl
-with_all-push m (x ∷ es) e = with_all-push (with_tally m x.0 x.1) es e
-
--- both have t at a key where the second has nothing
-together_more : (o : Option (ℕ × ℤ)) (t : ℕ × ℤ) → together add_tallies o (Some t) ≡ Some (with_more t o)
-together_more None t = refl
-together_more (Some x) t = refl
-
-together_none : (o : Option (ℕ × ℤ)) → together add_tallies o None ≡ o
-together_none None = refl
-together_none (Some x) = refl
-
-pub joined-empty : (m : Totals) → joined_totals m fin.empty ≡ m
-joined-empty m = same _ _ (λ q. get-joined add_tallies m fin.empty q ∙ ap (together add_tallies (fin.get m q)) (fin.get-empty line_cmp q) ∙ together_none (fin.get m q))
-
--- an entry whose key is new to the second may be added to the first instead
-moved : (m n : Totals) (k : Option Key) (t : ℕ × ℤ) → fin.get n k ≡ None → joined_totals (with_tally m k t) n ≡ joined_totals m (fin.insert n k t)
-moved m n k t none = same _ _ (λ q.
-    get-joined add_tallies (with_tally m k t) n q
-    ∙ ap (λ o. together add_tallies o (fin.get n q)) (fin.get-insert line_total m k (with_more t (fin.get m k)) q)
-    ∙ elim (eq_by_cmp line_cmp q k) as (λ b. eq_by_cmp line_cmp q k ≡ b → together add_tallies (cond b (Some (with_more t (fin.get m k))) (fin.get m q)) (fin.get n q) ≡ together add_tallies (fin.get m q) (cond b (Some t) (fin.get n q))) [
-      | true ↦ λ h.
-          let key = same_key q k h in
-          ap (together add_tallies (Some (with_more t (fin.get m k)))) (ap (fin.get n) key ∙ none)
-          ∙ sym (together_more (fin.get m k) t)
-          ∙ ap (λ x. together add_tallies (fin.get m x) (Some t)) (sym key)
-      | false ↦ λ h. refl
-    ] refl
-    ∙ ap (together add_tallies (fin.get m q)) (sym (fin.get-insert line_total n k t q))
-    ∙ sym (get-joined add_tallies m (fin.insert n k t) q))
-
--- or to both joined
-moved_out : (m n : Totals) (k : Option Key) (t : ℕ × ℤ) → fin.get n k ≡ None → joined_totals m (fin.insert n k t) ≡ with_tally (joined_totals m n) k t
-moved_out m n k t none = same _ _ (λ q.
-    get-joined add_tallies m (fin.insert n k t) q
-    ∙ ap (together add_tallies (fin.get m q)) (fin.get-insert line_total n k t q)
-    ∙ elim (eq_by_cmp line_cmp q k) as (λ b. eq_by_cmp line_cmp q k ≡ b → together add_tallies (fin.get m q) (cond b (Some t) (fin.get n q)) ≡ cond b (Some (with_more t (fin.get (joined_totals m n) k))) (fin.get (joined_totals m n) q)) [
-      | true ↦ λ h.
-          ap (λ x. together add_tallies (fin.get m x) (Some t)) (same_key q k h)
-          ∙ together_more (fin.get m k) t
-          ∙ ap (λ o. Some (with_more t o)) (sym (get-joined add_tallies m n k ∙ ap (together add_tallies (fin.get m k)) none ∙ together_none (fin.get m k)))
-      | false ↦ λ h. sym (get-joined add_tallies m n q)
-    ] refl
-    ∙ sym (fin.get-insert line_total (joined_totals m n) k _ q))
-
-absent : (es : Entries (ℕ × ℤ)) (k : Option Key) → at es k ≡ None → fin.get (totals_of es) k ≡ None
-absent es k none = get_at es k ∙ none
-
--- all added one after another are all joined
-pub with_all-joined : (m : Totals) (es : Entries (ℕ × ℤ)) → AreApart es → with_all m es ≡ joined_totals m (totals_of es)
-with_all-joined m [] h = sym (joined-empty m)
-with_all-joined m (e ∷ es) h = with_all-joined (with_tally m e.0 e.1) es h.1 ∙ moved m (totals_of es) e.0 e.1 (absent es e.0 h.0)
 
 -- the first entries of some that begin with e
 pub take_split : (n : ℕ) (es rest : Entries (ℕ × ℤ)) (e : Option Key × (ℕ × ℤ)) → es ≡ e ∷ rest → (n ≡ 0 → ⊥) → take n es ≡ e ∷ take (n - 1) rest
@@ -96,7 +37,7 @@ pub take_more : (n : ℕ) (es rest : Entries (ℕ × ℤ)) (e : Option Key × (�
 take_more n es rest e is = let one : n + 1 ≡ suc n = omega arith in (ap (λ k. take k es) one ∙ (take_suc n es rest e is).0, ap (λ k. drop k es) one ∙ (take_suc n es rest e is).1)
 
 -- an entry that was added last is taken back
-back : (m : Totals) (k : Option Key) (t : ℕ × ℤ) (o : Option (ℕ × ℤ)) → fin.get m k ≡ o → IfSome o IsTally → without_less (fin.insert m k (with_more t o)) k t (Some (with_more t o)) ≡ m
+back : (m : Totals) (k : Option Key) (t : ℕ × ℤ) (o : Option (ℕ × ℤ)) → fin.get m k ≡ o → IfSome o IsTally → without_less (fin.insert m k (with_more add_tallies t o)) k t (Some (with_more add_tallies t o)) ≡ m
 back m k t None is h =
     let test : (t.0 == t.0) ≡ true = grind (arith, nat_tests) in
     ap (λ b. cond b (fin.remove (fin.insert m k t) k) (fin.insert (fin.insert m k t) k (t.0 - t.0, t.1 -ℤ t.1))) test ∙ insert_back m k t is
@@ -109,23 +50,23 @@ back m k t (Some x) is h =
     ∙ insert_again m k (add_tallies x t) x is
 
 with_back : (m : Totals) (k : Option Key) (t : ℕ × ℤ) → IfSome (fin.get m k) IsTally → without_tally (with_tally m k t) k t ≡ m
-with_back m k t h = ap (without_less (with_tally m k t) k t) (get_inserted m k (with_more t (fin.get m k))) ∙ back m k t (fin.get m k) refl h
+with_back m k t h = ap (without_less (with_tally m k t) k t) (get_inserted m k (with_more add_tallies t (fin.get m k))) ∙ back m k t (fin.get m k) refl h
 
-leaves : (t : ℕ × ℤ) (o : Option (ℕ × ℤ)) → IfSome o IsTally → LeavesTally t (Some (with_more t o))
+leaves : (t : ℕ × ℤ) (o : Option (ℕ × ℤ)) → IfSome o IsTally → LeavesTally t (Some (with_more add_tallies t o))
 leaves t None h = (omega arith, (omega (arith, ints), omega (arith, ints)))
 leaves t (Some x) h = (omega arith, (omega (arith, ints), omega (arith, ints)))
 
 -- all that were joined can be taken one after another, and then what was there before is left
 pub all_back : (m : Totals) (es : Entries (ℕ × ℤ)) → AreApart es → AreTallies m → CanTakeAll (joined_totals m (totals_of es)) es × (without_all (joined_totals m (totals_of es)) es ≡ m)
-all_back m [] h all = (tt, joined-empty m)
+all_back m [] h all = (tt, joined-empty add_tallies m)
 all_back m (e ∷ es) h all =
     let before = joined_totals m (totals_of es) in
     let none = absent es e.0 h.0 in
-    let there : fin.get before e.0 ≡ fin.get m e.0 = get-joined add_tallies m (totals_of es) e.0 ∙ ap (together add_tallies (fin.get m e.0)) none ∙ together_none (fin.get m e.0) in
+    let there : fin.get before e.0 ≡ fin.get m e.0 = get-joined add_tallies m (totals_of es) e.0 ∙ ap (together add_tallies (fin.get m e.0)) none ∙ together_none add_tallies (fin.get m e.0) in
     let own : IfSome (fin.get before e.0) IsTally = subst (λ o. IfSome o IsTally) (sym there) (all e.0) in
-    let last : joined_totals m (totals_of (e ∷ es)) ≡ with_tally before e.0 e.1 = moved_out m (totals_of es) e.0 e.1 none in
+    let last : joined_totals m (totals_of (e ∷ es)) ≡ with_tally before e.0 e.1 = moved_out add_tallies m (totals_of es) e.0 e.1 none in
     let taken : without_tally (joined_totals m (totals_of (e ∷ es))) e.0 e.1 ≡ before = ap (λ x. without_tally x e.0 e.1) last ∙ with_back before e.0 e.1 own in
-    let can : LeavesTally e.1 (fin.get (joined_totals m (totals_of (e ∷ es))) e.0) = subst (LeavesTally e.1) (sym (ap (λ x. fin.get x e.0) last ∙ get_inserted before e.0 (with_more e.1 (fin.get before e.0)))) (leaves e.1 (fin.get before e.0) own) in
+    let can : LeavesTally e.1 (fin.get (joined_totals m (totals_of (e ∷ es))) e.0) = subst (LeavesTally e.1) (sym (ap (λ x. fin.get x e.0) last ∙ get_inserted before e.0 (with_more add_tallies e.1 (fin.get before e.0)))) (leaves e.1 (fin.get before e.0) own) in
     ((can, subst (λ x. CanTakeAll x es) (sym taken) (all_back m es h.1 all).0), ap (λ x. without_all x es) taken ∙ (all_back m es h.1 all).1)
 
 rest_tallies : (n : Totals) (k : Option Key) (t : ℕ × ℤ) → fin.get n k ≡ None → AreTallies (fin.insert n k t) → AreTallies n
@@ -135,14 +76,14 @@ rest_tallies n k t none all q =
       | false ↦ λ h own. own
     ] refl (subst (λ o. IfSome o IsTally) (fin.get-insert line_total n k t q) (all q))
 
-count_with : (t : ℕ × ℤ) (o : Option (ℕ × ℤ)) → (with_more t o).0 ≡ count_in o + t.0
+count_with : (t : ℕ × ℤ) (o : Option (ℕ × ℤ)) → (with_more add_tallies t o).0 ≡ count_in o + t.0
 count_with t None = omega arith
 count_with t (Some x) = refl
 
 rest_joins : (m n : Totals) (k : Option Key) (t : ℕ × ℤ) → fin.get n k ≡ None → CanJoin m (fin.insert n k t) → CanJoin (with_tally m k t) n
 rest_joins m n k t none can q =
-    subst (λ o. count_in o + count_in (fin.get n q) ≤ 2 ^ 26) (sym (fin.get-insert line_total m k (with_more t (fin.get m k)) q))
-    (elim (eq_by_cmp line_cmp q k) as (λ b. eq_by_cmp line_cmp q k ≡ b → count_in (fin.get m q) + count_in (cond b (Some t) (fin.get n q)) ≤ 2 ^ 26 → count_in (cond b (Some (with_more t (fin.get m k))) (fin.get m q)) + count_in (fin.get n q) ≤ 2 ^ 26) [
+    subst (λ o. count_in o + count_in (fin.get n q) ≤ 2 ^ 26) (sym (fin.get-insert line_total m k (with_more add_tallies t (fin.get m k)) q))
+    (elim (eq_by_cmp line_cmp q k) as (λ b. eq_by_cmp line_cmp q k ≡ b → count_in (fin.get m q) + count_in (cond b (Some t) (fin.get n q)) ≤ 2 ^ 26 → count_in (cond b (Some (with_more add_tallies t (fin.get m k))) (fin.get m q)) + count_in (fin.get n q) ≤ 2 ^ 26) [
       | true ↦ λ h room.
           let key = same_key q k h in
           let here : count_in (fin.get n q) ≡ 0 = ap count_in (ap (fin.get n) key ∙ none) in
@@ -168,9 +109,9 @@ pub take_whole : (n : ℕ) (es : Entries (ℕ × ℤ)) → drop n es ≡ [] → 
 take_whole n es none = sym (append-nil (take n es)) ∙ ap (λ rest. take n es ++ rest) (sym none) ∙ take-append-drop n es
 
 -- what was added of some entries can be taken again, and then what was there before is left
-pub undone : (m now : Totals) (n : ℕ) (es : Entries (ℕ × ℤ)) → AreApart es → AreTallies m → now ≡ with_all m (take n es) → CanTakeAll now (take n es) × (without_all now (take n es) ≡ m)
+pub undone : (m now : Totals) (n : ℕ) (es : Entries (ℕ × ℤ)) → AreApart es → AreTallies m → now ≡ with_all add_tallies m (take n es) → CanTakeAll now (take n es) × (without_all now (take n es) ≡ m)
 undone m now n es apart all is =
     let first = take_apart n es apart in
-    let joined = is ∙ with_all-joined m (take n es) first in
+    let joined = is ∙ with_all-joined add_tallies m (take n es) first in
     let taken = all_back m (take n es) first all in
     (subst (λ x. CanTakeAll x (take n es)) (sym joined) taken.0, ap (λ x. without_all x (take n es)) joined ∙ taken.1)

@@ -1,6 +1,6 @@
 -- Totals with a count and a sum more or less under one key, and with all of another's joined.
 use Rattle.std.proofs.Common.{◌≡◌, ℕ, ◌+◌, ◌-◌, ◌^◌, ◌≤◌, ◌==◌, Bool, true, false, cond, refl, sym, ap, ◌∙◌, subst, Option, None, Some, arith}
-use Rattle.std.specs.Prelude.{ℤ, ◌-ℤ◌, IfSome, is_some}
+use Rattle.std.specs.Prelude.{ℤ, ◌-ℤ◌, IfSome}
 use Rattle.std.specs.Ordering.{eq_by_cmp}
 use Rattle.std.proofs.lemmas.Int.{ints}
 use Rattle.std.proofs.lemmas.Bool.Decides.{nat_tests}
@@ -10,11 +10,11 @@ use Rattle.far_types.specs.Keys.{line_cmp}
 use Rattle.far_types.specs.KeyOrder.{line_total}
 use Rattle.far_types.specs.Answers.{Totals}
 use Rattle.far_types.specs.Changes.{raised, with_pair, without_value, without_pair, add_tallies, count_in}
-use Rattle.far_types.proofs.ByKeyMaps.{Entries, at, IsSet, set_inserts, set_removes, set_again, get_at}
-use Rattle.far_groups.specs.Tallies.{totals_of, IsSumOf, IsTally, AreTallies, with_more, with_tally, LeavesTally, without_less, without_tally}
+use Rattle.far_types.proofs.ByKeyMaps.{Entries, with_more, at, IsSet, set_inserts, set_removes, set_again, get_at}
+use Rattle.far_groups.specs.Tallies.{totals_of, IsSumOf, IsTally, AreTallies, with_tally, LeavesTally, without_less, without_tally}
 
 -- one pair is a count of 1 and its value
-more_of_one : (v : ℤ) (o : Option (ℕ × ℤ)) → with_more (1, v) o ≡ raised v o
+more_of_one : (v : ℤ) (o : Option (ℕ × ℤ)) → with_more add_tallies (1, v) o ≡ raised v o
 more_of_one v None = refl
 more_of_one v (Some t) = refl
 
@@ -49,24 +49,9 @@ pub AreTallies-remove : (m : Totals) (k : Option Key) → AreTallies m → AreTa
 AreTallies-remove m k all q =
     subst (λ o. IfSome o IsTally) (sym (fin.get-remove line_total m k q)) (chosen (eq_by_cmp line_cmp q k) None (fin.get m q) tt (all q))
 
--- a key that is new gets what comes
-pub new_tally : (m : Totals) (k : Option Key) (more : ℕ × ℤ) → fin.get m k ≡ None → fin.insert m k more ≡ with_tally m k more
-new_tally m k more none = ap (λ o. fin.insert m k (with_more more o)) (sym none)
-
-nothing : (o : Option (ℕ × ℤ)) → is_some o ≡ false → o ≡ None
-nothing None h = refl
-nothing (Some t) h = cc
-
--- what was inserted into entries in which the key was not
-pub inserted_new : (old mid new : Entries (ℕ × ℤ)) (k q : Option Key) (more : ℕ × ℤ) → mid ≡ old → k ≡ q → is_some (fin.get (totals_of old) q) ≡ false → IsSet mid new k (Some more) → totals_of new ≡ with_tally (totals_of old) q more
-inserted_new old mid new k q more same_entries same_key absent set =
-    set_inserts mid new k more set
-    ∙ (λ i. fin.insert (totals_of (same_entries i)) (same_key i) more)
-    ∙ new_tally (totals_of old) q more (nothing _ absent)
-
 pub AreTallies-with : (m : Totals) (k : Option Key) (more : ℕ × ℤ) → AreTallies m → IsTally more → count_in (fin.get m k) + more.0 ≤ 2 ^ 26 → AreTallies (with_tally m k more)
-AreTallies-with m k more all h room = AreTallies-insert m k (with_more more (fin.get m k)) all (more_tallied (fin.get m k) (all k) room) where
-  more_tallied : (o : Option (ℕ × ℤ)) → IfSome o IsTally → count_in o + more.0 ≤ 2 ^ 26 → IsTally (with_more more o)
+AreTallies-with m k more all h room = AreTallies-insert m k (with_more add_tallies more (fin.get m k)) all (more_tallied (fin.get m k) (all k) room) where
+  more_tallied : (o : Option (ℕ × ℤ)) → IfSome o IsTally → count_in o + more.0 ≤ 2 ^ 26 → IsTally (with_more add_tallies more o)
   more_tallied None there room = h
   more_tallied (Some t) there room = sum_tallied t more there h room
 

@@ -1,5 +1,6 @@
 -- Counts and sums, and how those by key change with a count and a sum more or less under one key.
 use Rattle.std.specs.Prelude.{ℕ, ◌-◌, ◌*◌, ◌^◌, ◌≤◌, ◌==◌, ℤ, pos, ◌-ℤ◌, ◌≤ℤ◌, neg_ℤ, cond, List, [], ◌∷◌, Option, None, Some, IfSome}
+use Rattle.std.specs.Option.{option_map_or}
 use Rattle.std.specs.FinMap as fin
 use Rattle.far_types.specs.declared.key.Key.{Key}
 use Rattle.far_types.specs.Answers.{Totals}
@@ -20,13 +21,9 @@ IsTally tally = (1 ≤ tally.0) × (tally.0 ≤ 2 ^ 26) × IsSumOf tally.0 tally
 abbrev pub AreTallies : Totals → Type 0
 AreTallies totals = (key : Option Key) → IfSome (fin.get totals key) IsTally
 
--- the count and the sum with another count and sum more
-abbrev pub with_more : ℕ × ℤ → Option (ℕ × ℤ) → ℕ × ℤ
-with_more more None = more
-with_more more (Some tally) = add_tallies tally more
-
+-- a count and a sum more under a key
 abbrev pub with_tally : Totals → Option Key → ℕ × ℤ → Totals
-with_tally totals key more = fin.insert totals key (with_more more (fin.get totals key))
+with_tally totals key more = fin.insert totals key (option_map_or (λ tally. add_tallies tally more) (fin.get totals key) more)
 
 -- as many are there, and the sum that is left is one that those left can have
 abbrev pub LeavesTally : ℕ × ℤ → Option (ℕ × ℤ) → Type 0

@@ -1,6 +1,7 @@
 -- A tree map from keys, as the finite map that its entries make.
-use Rattle.std.proofs.Common.{◌≡◌, ℕ, zero, suc, take, Bool, true, false, cond, ◌&&◌, List, [], ◌∷◌, map, refl, sym, ap, ◌∙◌, Option, None, Some}
-use Rattle.std.specs.Prelude.{T}
+use Rattle.std.proofs.Common.{◌≡◌, ℕ, zero, suc, take, drop, Bool, true, false, cond, ◌&&◌, List, [], ◌∷◌, ◌++◌, map, refl, sym, ap, ◌∙◌, Option, None, Some}
+use Rattle.std.specs.Prelude.{T, is_some}
+use Rattle.std.specs.Option.{option_map_or}
 use Rattle.std.specs.List.{AllByRecursion}
 use Rattle.std.specs.List.Sorted.{IsStrictlySortedBy}
 use Rattle.std.specs.FinMap.Entries.{below_all, is_sorted}
@@ -14,7 +15,8 @@ use Rattle.far_types.specs.declared.key.Key.{Key}
 use Rattle.far_types.specs.Keys.{line_cmp}
 use Rattle.far_types.specs.KeyOrder.{line_total}
 use Rattle.far_types.specs.Answers.{ByKey}
-use Rattle.far_types.proofs.Grouping.{same, same_key, own_key}
+use Rattle.far_types.specs.Changes.{together, joined}
+use Rattle.far_types.proofs.Grouping.{same, same_key, own_key, get-joined}
 
 abbrev pub Entries : Type 0 → Type 0
 Entries V = List (Option Key × V)
@@ -123,3 +125,80 @@ insert_again m k x y some = same _ _ (λ q.
         | true ↦ λ h. sym (ap (fin.get m) (same_key q k h) ∙ some)
         | false ↦ λ h. refl
       ] refl)
+
+-- both together, where there was something, and else what comes
+abbrev pub with_more : {V : Type 0} → (V → V → V) → V → Option V → V
+with_more join more o = option_map_or (λ x. join x more) o more
+
+-- the map with more under a key
+abbrev pub with_value : {V : Type 0} → (V → V → V) → ByKey V → Option Key → V → ByKey V
+with_value join m k more = fin.insert m k (with_more join more (fin.get m k))
+
+nothing : {V : Type 0} (o : Option V) → is_some o ≡ false → o ≡ None
+nothing None h = refl
+nothing (Some x) h = cc
+
+-- what was inserted into entries in which the key was not
+pub inserted_new : {V : Type 0} (join : V → V → V) (old mid new : Entries V) (k q : Option Key) (more : V) → mid ≡ old → k ≡ q → is_some (fin.get (by_key old) q) ≡ false → IsSet mid new k (Some more) → by_key new ≡ with_value join (by_key old) q more
+inserted_new join old mid new k q more same_entries same_key absent set =
+    set_inserts mid new k more set
+    ∙ (λ i. fin.insert (by_key (same_entries i)) (same_key i) more)
+    ∙ ap (λ o. fin.insert (by_key old) q (with_more join more o)) (sym (nothing _ absent))
+
+together_more : {V : Type 0} (join : V → V → V) (o : Option V) (x : V) → together join o (Some x) ≡ Some (with_more join x o)
+together_more join None x = refl
+together_more join (Some y) x = refl
+
+pub together_none : {V : Type 0} (join : V → V → V) (o : Option V) → together join o None ≡ o
+together_none join None = refl
+together_none join (Some x) = refl
+
+pub joined-empty : {V : Type 0} (join : V → V → V) (m : ByKey V) → joined join m fin.empty ≡ m
+joined-empty join m = same _ _ (λ q. get-joined join m fin.empty q ∙ ap (together join (fin.get m q)) (fin.get-empty line_cmp q) ∙ together_none join (fin.get m q))
+
+-- what is under a key that is new to the second may be added to the first instead
+moved : {V : Type 0} (join : V → V → V) (m n : ByKey V) (k : Option Key) (x : V) → fin.get n k ≡ None → joined join (with_value join m k x) n ≡ joined join m (fin.insert n k x)
+moved join m n k x none = same _ _ (λ q.
+    get-joined join (with_value join m k x) n q
+    ∙ ap (λ o. together join o (fin.get n q)) (fin.get-insert line_total m k (with_more join x (fin.get m k)) q)
+    ∙ elim (eq_by_cmp line_cmp q k) as (λ b. eq_by_cmp line_cmp q k ≡ b → together join (cond b (Some (with_more join x (fin.get m k))) (fin.get m q)) (fin.get n q) ≡ together join (fin.get m q) (cond b (Some x) (fin.get n q))) [
+        | true ↦ λ h.
+            let key = same_key q k h in
+            ap (together join (Some (with_more join x (fin.get m k)))) (ap (fin.get n) key ∙ none)
+            ∙ sym (together_more join (fin.get m k) x)
+            ∙ ap (λ y. together join (fin.get m y) (Some x)) (sym key)
+        | false ↦ λ h. refl
+      ] refl
+    ∙ ap (together join (fin.get m q)) (sym (fin.get-insert line_total n k x q))
+    ∙ sym (get-joined join m (fin.insert n k x) q))
+
+-- or to both joined
+pub moved_out : {V : Type 0} (join : V → V → V) (m n : ByKey V) (k : Option Key) (x : V) → fin.get n k ≡ None → joined join m (fin.insert n k x) ≡ with_value join (joined join m n) k x
+moved_out join m n k x none = same _ _ (λ q.
+    get-joined join m (fin.insert n k x) q
+    ∙ ap (together join (fin.get m q)) (fin.get-insert line_total n k x q)
+    ∙ elim (eq_by_cmp line_cmp q k) as (λ b. eq_by_cmp line_cmp q k ≡ b → together join (fin.get m q) (cond b (Some x) (fin.get n q)) ≡ cond b (Some (with_more join x (fin.get (joined join m n) k))) (fin.get (joined join m n) q)) [
+        | true ↦ λ h.
+            ap (λ y. together join (fin.get m y) (Some x)) (same_key q k h)
+            ∙ together_more join (fin.get m k) x
+            ∙ ap (λ o. Some (with_more join x o)) (sym (get-joined join m n k ∙ ap (together join (fin.get m k)) none ∙ together_none join (fin.get m k)))
+        | false ↦ λ h. sym (get-joined join m n q)
+      ] refl
+    ∙ sym (fin.get-insert line_total (joined join m n) k _ q))
+
+-- the map with all entries more, one after another
+abbrev pub with_all : {V : Type 0} → (V → V → V) → ByKey V → Entries V → ByKey V
+with_all join m [] = m
+with_all join m (e ∷ es) = with_all join (with_value join m e.0 e.1) es
+
+pub with_all-push : {V : Type 0} (join : V → V → V) (m : ByKey V) (es : Entries V) (e : Option Key × V) → with_all join m (es ++ e ∷ []) ≡ with_value join (with_all join m es) e.0 e.1
+with_all-push join m [] e = refl
+with_all-push join m (x ∷ es) e = with_all-push join (with_value join m x.0 x.1) es e
+
+pub absent : {V : Type 0} (es : Entries V) (k : Option Key) → at es k ≡ None → fin.get (by_key es) k ≡ None
+absent es k none = get_at es k ∙ none
+
+-- all added one after another are all joined
+pub with_all-joined : {V : Type 0} (join : V → V → V) (m : ByKey V) (es : Entries V) → AreApart es → with_all join m es ≡ joined join m (by_key es)
+with_all-joined join m [] h = sym (joined-empty join m)
+with_all-joined join m (e ∷ es) h = with_all-joined join (with_value join m e.0 e.1) es h.1 ∙ moved join m (by_key es) e.0 e.1 (absent es e.0 h.0)

@@ -1,4 +1,5 @@
 pub mod ByKeyMaps
+pub mod Computed
 pub mod Grouping
 pub mod LineLaws
 pub mod PlaceLaws

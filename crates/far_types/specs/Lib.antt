@@ -4,6 +4,7 @@ pub mod Cells
 pub mod Changes
 pub mod Codes
 pub mod Edits
+pub mod Examples
 pub mod Filters
 pub mod FirstOf
 pub mod FormLengths

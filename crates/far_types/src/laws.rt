@@ -46,3 +46,18 @@ pub fn extrema_lines_are_by_key()
     ensures minima { (pairs : List Pair) → All (λ line. line.1 ≡ least (values_of line.0 pairs)) (extrema_lines (extrema pairs)) }
     ensures maxima { (pairs : List Pair) → All (λ line. line.2 ≡ greatest (values_of line.0 pairs)) (extrema_lines (extrema pairs)) }
 {}
+
+ghost use Rattle.far_types.specs.Examples.{OverNoRows, TotalsByKey, ExactSum, LeastAndGreatest, Filtered, WithMissing, UsedUp, FirstRefusal, OverLength};
+
+/// Small tables and what the definitions say of them: a wrong definition fails here.
+pub fn worked_examples()
+    ensures over_no_rows { OverNoRows }
+    ensures totals_by_key { TotalsByKey }
+    ensures exact_sum { ExactSum }
+    ensures least_and_greatest { LeastAndGreatest }
+    ensures filtered { Filtered }
+    ensures with_missing { WithMissing }
+    ensures used_up { UsedUp }
+    ensures first_refusal { FirstRefusal }
+    ensures over_length { OverLength }
+{}

@@ -1,7 +1,8 @@
 use Rattle.std.proofs.Common.{refl, take, sym, ap, ◌∙◌, subst}
-use Rattle.far_types.proofs.ByKeyMaps.{sorted_apart}
+use Rattle.far_types.proofs.ByKeyMaps.{sorted_apart, with_all, with_all-push, with_all-joined}
+use Rattle.far_types.specs.Changes.{add_tallies}
 use Rattle.far_groups.specs.Tallies.{totals_of, AreTallies, with_tally}
-use Rattle.far_groups.proofs.JoinLaws.{CanAddAll, with_all, with_all-push, with_all-joined, take_whole, take_more, can_add, undone}
+use Rattle.far_groups.proofs.JoinLaws.{CanAddAll, take_whole, take_more, can_add, undone}
 use Rattle.far_groups.proofs.tallies.join.Goals as goal
 
 pub loop-key-init : goal.loop-key-init
@@ -27,8 +28,8 @@ loop-key-preserved c =
       joined =
           c.in-Ok.ensures.ok
           ∙ ap (λ m. with_tally m c.in-Some.key.now c.in-Some.tally.now) c.loop-key.invariant.joined
-          ∙ sym (with_all-push start (take c.loop-key.done c.args.other.now.entries) (c.in-Some.key.now, c.in-Some.tally.now))
-          ∙ ap (with_all start) (sym more.0);
+          ∙ sym (with_all-push add_tallies start (take c.loop-key.done c.args.other.now.entries) (c.in-Some.key.now, c.in-Some.tally.now))
+          ∙ ap (with_all add_tallies start) (sym more.0);
     }
 
 pub take_first-requires-clause-there : goal.take_first-requires-clause-there
@@ -48,5 +49,5 @@ pub returns-clause-ok : goal.returns-clause-ok
 returns-clause-ok c =
     let apart = sorted_apart c.args.other.now.entries c.into_iter-key-iterator.ensures.into_iter_gives.5 in
     c.loop-key.invariant.joined
-    ∙ ap (with_all (totals_of c.args.tallies.now.entries)) (take_whole c.loop-key.done c.args.other.now.entries (c.loop-key.invariant.place ∙ c.in-None.ensures.steps.0))
-    ∙ with_all-joined (totals_of c.args.tallies.now.entries) c.args.other.now.entries apart
+    ∙ ap (with_all add_tallies (totals_of c.args.tallies.now.entries)) (take_whole c.loop-key.done c.args.other.now.entries (c.loop-key.invariant.place ∙ c.in-None.ensures.steps.0))
+    ∙ with_all-joined add_tallies (totals_of c.args.tallies.now.entries) c.args.other.now.entries apart

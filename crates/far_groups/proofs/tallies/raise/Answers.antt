@@ -1,9 +1,9 @@
 use Rattle.std.proofs.Common.{refl, ◌+◌, ◌^◌, ◌≤◌, IsSome, sym, ap, ◌∙◌, subst}
 use Rattle.std.specs.Prelude.{is_some}
 use Rattle.std.specs.FinMap as fin
-use Rattle.far_types.specs.Changes.{count_in}
-use Rattle.far_types.proofs.ByKeyMaps.{get_at, set_inserts}
-use Rattle.far_groups.specs.Tallies.{totals_of, AreTallies, with_more}
+use Rattle.far_types.specs.Changes.{add_tallies, count_in}
+use Rattle.far_types.proofs.ByKeyMaps.{with_more, get_at, set_inserts}
+use Rattle.far_groups.specs.Tallies.{totals_of, AreTallies}
 use Rattle.far_groups.proofs.TallyLaws.{if_found, AreTallies-insert}
 use Rattle.far_groups.proofs.tallies.raise.Goals as goal
 
@@ -35,4 +35,4 @@ returns-in-Some-clause-raised c _ =
     let there = subst IsSome c.in-Some.ensures.value refl in
     let written = c.get_mut.follows.holds c.together.result in
     set_inserts c.args.tallies.now.entries (c.get_mut.follows.lender c.together.result).entries c.args.key.now c.together.result (written.3 there).0
-    ∙ ap (fin.insert (totals_of c.args.tallies.now.entries) c.args.key.now) (c.together.ensures.value ∙ ap (with_more c.args.more) (c.in-Some.ensures.value ∙ sym (get_at c.args.tallies.now.entries c.args.key.now)))
+    ∙ ap (fin.insert (totals_of c.args.tallies.now.entries) c.args.key.now) (c.together.ensures.value ∙ ap (with_more add_tallies c.args.more) (c.in-Some.ensures.value ∙ sym (get_at c.args.tallies.now.entries c.args.key.now)))

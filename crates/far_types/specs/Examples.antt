@@ -1,0 +1,124 @@
+-- Worked examples: what the definitions say of a few small tables. Each is computed, so a wrong definition fails.
+use Rattle.std.specs.Prelude.{◌≡◌, ℕ, ℤ, pos, negsuc, Bool, true, false, List, [], ◌∷◌, Option, None, Some, codes, replicate}
+use Rattle.far_types.specs.declared.cell.Cell.{Cell}
+use Rattle.far_types.specs.declared.cell.Cell.TheVariants as cell
+use Rattle.far_types.specs.declared.cell.Kind.{Kind}
+use Rattle.far_types.specs.declared.cell.Kind.TheVariants as kind
+use Rattle.far_types.specs.declared.key.Key.{Key}
+use Rattle.far_types.specs.declared.key.Key.TheVariants as key
+use Rattle.far_types.specs.declared.filter.Op.TheVariants as op
+use Rattle.far_types.specs.declared.filter.Test.{Test}
+use Rattle.far_types.specs.declared.filter.Test.TheVariants as test
+use Rattle.far_types.specs.declared.limits.Limits.{Limits}
+use Rattle.far_types.specs.declared.spec.Fold.{Fold}
+use Rattle.far_types.specs.declared.spec.Fold.TheVariants as fold
+use Rattle.far_types.specs.declared.spec.Spec.{Spec}
+use Rattle.far_types.specs.declared.answer.Answer.{Answer}
+use Rattle.far_types.specs.declared.answer.Answer.TheVariants as answer
+use Rattle.far_types.specs.declared.edit.Edit.{Edit}
+use Rattle.far_types.specs.declared.edit.Edit.TheVariants as edit
+use Rattle.far_types.specs.declared.refusal.Refusal.{Refusal}
+use Rattle.far_types.specs.declared.refusal.Refusal.TheVariants as refusal
+use Rattle.far_types.specs.Answers.{answer_over}
+use Rattle.far_types.specs.Table.{Place, Table, empty_table, rows_of}
+use Rattle.far_types.specs.Edits.{edited, edit_refusal}
+
+-- an aggregate of column 0, with or without the key column 1
+abbrev pub of_column : Fold → Option ℕ → List Test → Spec
+of_column f k tests = record { fold = f; value = 0; key = k; filter = tests }
+
+abbrev pub row : ℤ → List ℕ → List Cell
+row number text = cell.Int number ∷ cell.Text text ∷ []
+
+abbrev pub a : List ℕ
+a = codes "a"
+
+abbrev pub b : List ℕ
+b = codes "b"
+
+-- over no rows: totals without key have the line of zeros, with key none, extrema none
+abbrev pub OverNoRows : Type 0
+OverNoRows =
+    (answer_over (of_column fold.Totals None []) [] ≡ answer.Totals ((None, 0, pos 0) ∷ []))
+    × (answer_over (of_column fold.Extrema None []) [] ≡ answer.Extrema [])
+    × (answer_over (of_column fold.Totals (Some 1) []) [] ≡ answer.Totals [])
+
+-- totals by key: 5 a, 7 b, 5 a; and without the second row, whose key is then not listed
+abbrev pub TotalsByKey : Type 0
+TotalsByKey =
+    (answer_over (of_column fold.Totals (Some 1) []) (row (pos 5) a ∷ row (pos 7) b ∷ row (pos 5) a ∷ [])
+    ≡ answer.Totals ((Some (key.Text a), 2, pos 10) ∷ (Some (key.Text b), 1, pos 7) ∷ []))
+    × (answer_over (of_column fold.Totals (Some 1) []) (row (pos 5) a ∷ row (pos 5) a ∷ [])
+    ≡ answer.Totals ((Some (key.Text a), 2, pos 10) ∷ []))
+
+-- the sum is exact, far below the least number of 64 bits
+abbrev pub ExactSum : Type 0
+ExactSum =
+    answer_over (of_column fold.Totals None []) (row (negsuc 9223372036854775807) a ∷ row (negsuc 9223372036854775807) a ∷ [])
+    ≡ answer.Totals ((None, 2, negsuc 18446744073709551615) ∷ [])
+
+-- extrema: 3, 3, 9; without one of the 3, and without both
+abbrev pub LeastAndGreatest : Type 0
+LeastAndGreatest =
+    (answer_over (of_column fold.Extrema None []) (row (pos 3) a ∷ row (pos 3) a ∷ row (pos 9) a ∷ []) ≡ answer.Extrema ((None, pos 3, pos 9) ∷ []))
+    × (answer_over (of_column fold.Extrema None []) (row (pos 3) a ∷ row (pos 9) a ∷ []) ≡ answer.Extrema ((None, pos 3, pos 9) ∷ []))
+    × (answer_over (of_column fold.Extrema None []) (row (pos 9) a ∷ []) ≡ answer.Extrema ((None, pos 9, pos 9) ∷ []))
+
+-- extrema by key of the rows whose number is above 4 and whose text begins with a: 5 ab, 4 ab, 9 b, 8 ab
+abbrev pub Filtered : Type 0
+Filtered =
+    answer_over (of_column fold.Extrema (Some 1) (test.Int 0 op.Gt (pos 4) ∷ test.TextBegins 1 a ∷ []))
+    (row (pos 5) (codes "ab") ∷ row (pos 4) (codes "ab") ∷ row (pos 9) b ∷ row (pos 8) (codes "ab") ∷ [])
+    ≡ answer.Extrema ((Some (key.Text (codes "ab")), pos 5, pos 8) ∷ [])
+
+-- rows without a value or without a key are not folded: 5 a, nothing a, 7 nothing
+abbrev pub some_missing : List (List Cell)
+some_missing = row (pos 5) a ∷ (cell.Missing ∷ cell.Text a ∷ []) ∷ (cell.Int (pos 7) ∷ cell.Missing ∷ []) ∷ []
+
+abbrev pub WithMissing : Type 0
+WithMissing =
+    (answer_over (of_column fold.Totals (Some 1) []) some_missing ≡ answer.Totals ((Some (key.Text a), 1, pos 5) ∷ []))
+    × (answer_over (of_column fold.Totals None (test.Int 0 op.Ne (pos 9) ∷ [])) some_missing ≡ answer.Totals ((None, 2, pos 12) ∷ []))
+
+-- a table of numbers with room for 2 places and 3 edits
+abbrev pub small : Table
+small = empty_table (kind.Int ∷ []) (record { group = 4; places = 2; edits = 3; int_segments = 1; int_size = 4; text_segments = 1; text_size = 64 })
+
+abbrev pub number : ℤ → Edit
+number n = edit.Insert (cell.Int n ∷ [])
+
+abbrev pub full : Table
+full = edited (number (pos 2)) (edited (number (pos 1)) small)
+
+-- a full table refuses a row, takes a cell equal to the old one, and then no edit more
+abbrev pub UsedUp : Type 0
+UsedUp =
+    (edit_refusal full (number (pos 3)) ≡ Some refusal.TableFull)
+    × (edit_refusal full (edit.Set 0 0 (cell.Int (pos 1))) ≡ None)
+    × (edit_refusal (edited (edit.Set 0 0 (cell.Int (pos 1))) full) (edit.Set 0 0 (cell.Int (pos 1))) ≡ Some refusal.EditsUsedUp)
+    × (rows_of (edited (edit.Remove 1) full).places ≡ (cell.Int (pos 1) ∷ []) ∷ [])
+
+-- the first refusal that applies: kinds before the width, the column before the place, the place before its flag
+abbrev pub FirstRefusal : Type 0
+FirstRefusal =
+    (edit_refusal small (edit.Insert (cell.Text a ∷ cell.Int (pos 2) ∷ [])) ≡ Some refusal.WrongKind)
+    × (edit_refusal small (edit.Insert (cell.Int (pos 1) ∷ cell.Int (pos 2) ∷ [])) ≡ Some refusal.RowWidth)
+    × (edit_refusal small (edit.Set 0 7 (cell.Int (pos 1))) ≡ Some refusal.NoColumn)
+    × (edit_refusal small (edit.Set 0 0 (cell.Int (pos 1))) ≡ Some refusal.NoRow)
+    × (edit_refusal (edited (edit.Remove 0) full) (edit.Remove 0) ≡ Some refusal.RemovedRow)
+
+-- a table of texts whose objects may have 64 bytes: a head of 6, 4 for each text's end, and the texts
+abbrev pub texts : Table
+texts = empty_table (kind.Text ∷ []) (record { group = 4; places = 100; edits = 100; int_segments = 4; int_size = 4; text_segments = 2; text_size = 64 })
+
+abbrev pub text_of : ℕ → Edit
+text_of n = edit.Insert (cell.Text (replicate n 97) ∷ [])
+
+-- one text of 54 bytes fits and one of 55 does not, nor an empty one beside it; a missing one costs a byte of mask more
+abbrev pub OverLength : Type 0
+OverLength =
+    (edit_refusal texts (text_of 54) ≡ None)
+    × (edit_refusal texts (text_of 55) ≡ Some refusal.ChunkFull)
+    × (edit_refusal (edited (text_of 54) texts) (text_of 0) ≡ Some refusal.ChunkFull)
+    × (edit_refusal (edited (text_of 50) texts) (text_of 0) ≡ None)
+    × (edit_refusal (edited (text_of 50) texts) (edit.Insert (cell.Missing ∷ [])) ≡ Some refusal.ChunkFull)
