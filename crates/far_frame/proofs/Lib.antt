@@ -3,6 +3,7 @@ pub mod GroupLaws
 pub mod KeepLaws
 pub mod ListLaws
 pub mod PairLaws
+pub mod RegisterLaws
 pub mod RoomLaws
 pub mod SlotLaws
 pub mod UntilLaws

@@ -65,6 +65,11 @@ abbrev pub fold_of : Kept → Fold
 fold_of (kept.Totals live) = fold.Totals
 fold_of (kept.Extrema live) = fold.Extrema
 
+-- nothing is in, and as many row groups are left
+abbrev pub KeepsNothing : ℕ → Kept → Type 0
+KeepsNothing count (kept.Totals live) = (live.left ≡ count) × (live.totals ≡ fin.empty)
+KeepsNothing count (kept.Extrema live) = (live.left ≡ count) × (live.groups ≡ [])
+
 -- what is kept is what computing afresh over the row groups that are built in would give
 abbrev pub IsKept : ℕ → List Place → Aggregate → Kept → Type 0
 IsKept size places a (kept.Totals live) = (live.totals ≡ totals (built_pairs a.spec size a.unbuilt 0 places)) × (live.left ≡ left a.unbuilt)

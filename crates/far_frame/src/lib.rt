@@ -4,8 +4,11 @@
 mod aggregate;
 mod deltas;
 mod edits;
+pub mod frame;
 mod groups;
 mod refresh;
+mod refusals;
+mod registrations;
 pub mod rows;
 pub mod step;
 mod unbuilt;
