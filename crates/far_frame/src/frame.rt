@@ -87,4 +87,108 @@ impl Frame {
         self.edits += 1;
         Ok(place as u32)
     }
+
+    /// Puts a cell in a place's column; putting the same cell again counts as an edit too. Refused with `NoColumn` (4),
+    /// `WrongKind` (5), `TextTooLong` (7), `NoRow` (8), `RemovedRow` (9), `ChunkFull` (11), `EditsUsedUp` (24) and
+    /// `NoMemory` (1).
+    pub fn set(&mut self, place: u32, column: u32, cell: Cell) -> Result<(), Refusal>
+        ensures ok { OnOk result (Accepts self.old (step.Edit (edit.Set place column cell)) reply.Done self.new) }
+        ensures err { IfErr result (λ e. Refuses self.old (step.Edit (edit.Set place column cell)) e self.new) }
+    {
+        match set_refusal(
+            &self.schema,
+            &self.limits,
+            &self.rows,
+            self.edits,
+            place,
+            column,
+            &cell,
+        ) {
+            Some(refusal) => return Err(refusal),
+            None => {}
+        }
+        set_cell(
+            self.alloc,
+            &mut self.rows,
+            self.aggregates.as_mut_slice(),
+            self.limits.group,
+            place as usize,
+            column as usize,
+            cell,
+        )?;
+        self.edits += 1;
+        Ok(())
+    }
+
+    /// Marks a place dead; its cells stay. Refused with `NoRow` (8), `RemovedRow` (9), `EditsUsedUp` (24) and
+    /// `NoMemory` (1).
+    pub fn remove(&mut self, place: u32) -> Result<(), Refusal>
+        ensures ok { OnOk result (Accepts self.old (step.Edit (edit.Remove place)) reply.Done self.new) }
+        ensures err { IfErr result (λ e. Refuses self.old (step.Edit (edit.Remove place)) e self.new) }
+    {
+        match remove_refusal(&self.limits, &self.rows, self.edits, place) {
+            Some(refusal) => return Err(refusal),
+            None => {}
+        }
+        remove_row(
+            self.alloc,
+            &mut self.rows,
+            self.aggregates.as_mut_slice(),
+            self.limits.group,
+            place as usize,
+        )?;
+        self.edits += 1;
+        Ok(())
+    }
+
+    /// Registers an aggregate under the lowest free number of 0 to 31, with all row groups that hold a place still to be
+    /// built in. Refused with `BadSpec` (3), `NoColumn` (4) or `WrongKind` (5) where the aggregate cannot be had over
+    /// this schema, `TooManyAggregates` (13) where 32 are registered or 2^32 were, and `NoMemory` (1).
+    pub fn watch(&mut self, spec: Spec) -> Result<u32, Refusal>
+        ensures ok { IfOk result (λ a. Accepts self.old (step.Watch spec) (reply.Aggregate a) self.new) }
+        ensures err { IfErr result (λ e. Refuses self.old (step.Watch spec) e self.new) }
+    {
+        match spec.check(&self.schema) {
+            Err(refusal) => return Err(refusal),
+            Ok(()) => {}
+        }
+        match free_number(self.aggregates.as_slice()) {
+            None => Err(Refusal::TooManyAggregates),
+            Some(a) => {
+                if self.registrations == 4_294_967_296 {
+                    return Err(Refusal::TooManyAggregates);
+                }
+                let aggregate = new_aggregate(
+                    self.alloc,
+                    spec,
+                    self.registrations,
+                    &self.rows,
+                    self.limits.group,
+                )?;
+                put(&mut self.aggregates, a, aggregate)?;
+                self.registrations += 1;
+                Ok(a)
+            }
+        }
+    }
+
+    /// Forgets the aggregate of a number. Refused with `NoAggregate` (12) exactly where there is none. Takes no memory.
+    pub fn unwatch(&mut self, a: u32) -> Result<(), Refusal>
+        ensures ok { OnOk result (Accepts self.old (step.Unwatch a) reply.Done self.new) }
+        ensures err { IfErr result (λ e. Refuses self.old (step.Unwatch a) e self.new) }
+    {
+        match aggregate_at(self.aggregates.as_slice(), a) {
+            None => return Err(Refusal::NoAggregate),
+            Some(_) => {}
+        }
+        forget(&mut self.aggregates, a);
+        Ok(())
+    }
+
+    /// The kinds of the columns.
+    pub fn schema(&self) -> &Schema
+        ensures { result.now ≡ self.now.table.schema }
+    {
+        &self.schema
+    }
 }
