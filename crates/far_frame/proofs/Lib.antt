@@ -1,9 +1,15 @@
 pub mod BuiltLaws
+pub mod ColumnLaws
+pub mod FormLaws
 pub mod GroupLaws
 pub mod KeepLaws
 pub mod ListLaws
+pub mod OverfillLaws
 pub mod PairLaws
+pub mod PlaceLaws
 pub mod RegisterLaws
 pub mod RoomLaws
+pub mod RowsLaws
 pub mod SlotLaws
 pub mod UntilLaws
+pub mod Writes

@@ -2,6 +2,9 @@
 //! The table: its rows, the aggregates that are kept up to date under every edit, and whole runs of steps.
 
 mod aggregate;
+pub mod cell_ref;
+mod column;
+mod columns;
 mod deltas;
 mod edits;
 pub mod frame;
@@ -11,6 +14,10 @@ mod refusals;
 mod registrations;
 pub mod rows;
 pub mod step;
+mod text_form;
 mod unbuilt;
 
+pub use cell_ref::CellRef;
+pub use frame::Frame;
+pub use rows::Rows;
 pub use step::{Reply, Step};
