@@ -1,3 +1,4 @@
+pub mod AskLaws
 pub mod BuiltLaws
 pub mod ColumnLaws
 pub mod FormLaws
@@ -10,6 +11,7 @@ pub mod PlaceLaws
 pub mod RegisterLaws
 pub mod RoomLaws
 pub mod RowsLaws
+pub mod ScanLaws
 pub mod SlotLaws
 pub mod UntilLaws
 pub mod Writes

@@ -9,7 +9,7 @@ ghost use Rattle.far_frame.specs.declared.step.Reply.TheVariants as reply;
 use super::aggregate::Aggregate;
 use super::edits::{insert_row, remove_row, set_cell};
 use super::refusals::{insert_refusal, remove_refusal, set_refusal};
-use super::registrations::{aggregate_at, forget, free_number, new_aggregate, put};
+use super::registrations::{aggregate_at, forget, free_number, register};
 use super::rows::Rows;
 use far_types::{Cell, Limits, Refusal, Row, Schema, Spec};
 use std::alloc::Global;
@@ -158,16 +158,21 @@ impl Frame {
                 if self.registrations == 4_294_967_296 {
                     return Err(Refusal::TooManyAggregates);
                 }
-                let aggregate = new_aggregate(
+                match register(
                     self.alloc,
+                    &mut self.aggregates,
+                    a,
                     spec,
                     self.registrations,
                     &self.rows,
                     self.limits.group,
-                )?;
-                put(&mut self.aggregates, a, aggregate)?;
-                self.registrations += 1;
-                Ok(a)
+                ) {
+                    Err(refusal) => Err(refusal),
+                    Ok(()) => {
+                        self.registrations += 1;
+                        Ok(a)
+                    }
+                }
             }
         }
     }

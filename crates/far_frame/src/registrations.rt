@@ -105,6 +105,32 @@ pub fn put(slots: &mut Vec<Option<Aggregate>>, a: u32, aggregate: Aggregate) -> 
     Ok(())
 }
 
+/// Registers an aggregate under a number, which is free.
+pub fn register(
+    alloc: Global,
+    slots: &mut Vec<Option<Aggregate>>,
+    a: u32,
+    spec: Spec,
+    registration: u64,
+    rows: &Rows,
+    size: u32,
+) -> Result<(), Refusal>
+    requires size { 0 < size }
+    requires few { length rows.now.places ≤ 2 ^ 24 }
+    requires number { a < 32 }
+    requires within { a ≤ length slots.old.items }
+    requires numbers { length slots.old.items ≤ 32 }
+    requires kept { Keeps size rows.now.places slots.old.items }
+    ensures registered { OnOk result (registered_of slots.new.items ≡ slice_set (registered_of slots.old.items) a (Some (record { spec = spec; registration = registration; unbuilt = all_unbuilt size rows.now.places }))) }
+    ensures kept { Keeps size rows.now.places slots.new.items }
+    ensures numbers { length slots.new.items ≤ 32 }
+    ensures unchanged { OnErr result (slots.new.items ≡ slots.old.items) }
+    ensures memory { IfErr result (λ e. e ≡ Refusal.NoMemory) }
+{
+    let aggregate = new_aggregate(alloc, spec, registration, rows, size)?;
+    put(slots, a, aggregate)
+}
+
 /// No aggregate is under the number any more.
 pub fn forget(slots: &mut Vec<Option<Aggregate>>, a: u32)
     requires { a < length slots.old.items }
