@@ -1,6 +1,6 @@
 -- What stands under a number, as the table shows it.
 use Rattle.std.proofs.Common.{◌≡◌, ℕ, zero, suc, ◌+◌, ◌-◌, ◌<◌, ◌≤◌, List, [], ◌∷◌, ◌++◌, length, map, refl, sym, ap, ◌∙◌, subst, arith, Option, None, Some, slice_get, slice_set, replicate}
-use Rattle.std.specs.Prelude.{◌^◌, ◌==◌, Bool, true, false, cond, is_none}
+use Rattle.std.specs.Prelude.{◌^◌, ◌==◌, Bool, true, false, cond, is_none, not, nat_lt}
 use Rattle.std.specs.List.{AllByRecursion}
 use Rattle.std.proofs.lemmas.Bool.Decides.{nat_tests}
 use Rattle.far_types.specs.declared.refusal.Refusal.{Refusal}
@@ -8,10 +8,10 @@ use Rattle.far_types.specs.declared.refusal.Refusal.TheVariants as refusal
 use Rattle.far_types.specs.declared.spec.Spec.{Spec}
 use Rattle.far_types.specs.Bounds.{spec_refusal}
 use Rattle.far_types.specs.FirstOf.{first_of}
-use Rattle.far_types.specs.Table.{Table, Registered}
+use Rattle.far_types.specs.Table.{Table, Registered, left, is_unbuilt}
 use Rattle.far_frame.specs.declared.aggregate.Aggregate.{Aggregate}
 use Rattle.far_frame.specs.Kept.{Slot, registered_in, registered_of}
-use Rattle.far_frame.specs.Steps.{joined, lowest_free, or_else, watch_refusal, MayRefuse}
+use Rattle.far_frame.specs.Steps.{joined, ask_refusal, group_count, scan_refusal, lowest_free, or_else, watch_refusal, MayRefuse}
 
 abbrev pub seen : Aggregate → Registered
 seen a = record { spec = a.spec; registration = a.registration; unbuilt = a.unbuilt }
@@ -76,3 +76,29 @@ used o free n h k = let e : (n == 2 ^ 32) ≡ true = grind (arith, nat_tests) in
 
 pub watch-used_up : (table : Table) (spec : Spec) → spec_refusal table.schema spec ≡ None → table.registrations ≡ 2 ^ 32 → watch_refusal table spec ≡ Some refusal.TooManyAggregates
 watch-used_up table spec h k = used (spec_refusal table.schema spec) (lowest_free table) table.registrations h k
+
+pub ask-built : (r : Registered) → left r.unbuilt ≡ 0 → ask_refusal (Some r) ≡ None
+ask-built r h = ap (λ n. cond (n == 0) None (Some (refusal.Building n))) h
+
+-- a row group is refused, or it is accepted
+
+late : (count g : ℕ) (b : Bool) → count ≤ g → first_of ((not (nat_lt g count), refusal.OutOfRange) ∷ (not b, refusal.StaleJob) ∷ []) ≡ Some refusal.OutOfRange
+late count g b h = let e : nat_lt g count ≡ false = grind (arith, nat_tests) in rw e refl
+
+early : (count g : ℕ) (b : Bool) → g < count → first_of ((not (nat_lt g count), refusal.OutOfRange) ∷ (not b, refusal.StaleJob) ∷ []) ≡ cond (not b) (Some refusal.StaleJob) None
+early count g b h = let e : nat_lt g count ≡ true = grind (arith, nat_tests) in rw e refl
+
+pub scan-out : (table : Table) (r : Registered) (g : ℕ) → group_count table ≤ g → scan_refusal table (Some r) g ≡ Some refusal.OutOfRange
+scan-out table r g h = late (group_count table) g (is_unbuilt r.unbuilt g) h
+
+pub scan-stale : (table : Table) (r : Registered) (g : ℕ) → g < group_count table → is_unbuilt r.unbuilt g ≡ false → scan_refusal table (Some r) g ≡ Some refusal.StaleJob
+scan-stale table r g h k = early (group_count table) g (is_unbuilt r.unbuilt g) h ∙ ap (λ b. cond (not b) (Some refusal.StaleJob) None) k
+
+pub scan-accepted : (table : Table) (r : Registered) (g : ℕ) → g < group_count table → is_unbuilt r.unbuilt g ≡ true → scan_refusal table (Some r) g ≡ None
+scan-accepted table r g h k = early (group_count table) g (is_unbuilt r.unbuilt g) h ∙ ap (λ b. cond (not b) (Some refusal.StaleJob) None) k
+
+pub due : (o : Option Refusal) (r : Refusal) → o ≡ Some r → MayRefuse o true r
+due o r h = subst (λ x. MayRefuse x true r) (sym h) refl
+
+pub for_memory : (o : Option Refusal) (r : Refusal) → o ≡ None → r ≡ refusal.NoMemory → MayRefuse o true r
+for_memory o r h k = subst (λ x. MayRefuse x true r) (sym h) (k, refl)

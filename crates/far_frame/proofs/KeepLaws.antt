@@ -66,15 +66,15 @@ module _ (spec : Spec) (size : ℕ) (unbuilt : List Bool) (g : ℕ) (ps qs : Lis
         | inr n ↦ ap (λ l. cond (is_unbuilt unbuilt h) fin.empty (extrema (filter_map (place_pair spec) l))) (sym (others h n))
       ]
   fresh-groups false is others kept room h = elim (same_or_not h g) as (λ o. slice_index_or (slice_set gs g (extrema (group_pairs spec size g qs))) h fin.empty ≡ built_group spec size unbuilt qs h) [
-      | inl e ↦
-          ap (λ k. slice_index_or (slice_set gs g (extrema (group_pairs spec size g qs))) k fin.empty) e
-          ∙ get_or-set_same gs g (extrema (group_pairs spec size g qs)) fin.empty room
-          ∙ sym (ap (λ b. cond b fin.empty (extrema (group_pairs spec size g qs))) is)
-          ∙ ap (built_group spec size unbuilt qs) (sym e)
-      | inr n ↦
-          get_or-set_other gs g h (extrema (group_pairs spec size g qs)) fin.empty n
-          ∙ kept h ∙ ap (λ l. cond (is_unbuilt unbuilt h) fin.empty (extrema (filter_map (place_pair spec) l))) (sym (others h n))
-    ]
+    | inl e ↦
+        ap (λ k. slice_index_or (slice_set gs g (extrema (group_pairs spec size g qs))) k fin.empty) e
+        ∙ get_or-set_same gs g (extrema (group_pairs spec size g qs)) fin.empty room
+        ∙ sym (ap (λ b. cond b fin.empty (extrema (group_pairs spec size g qs))) is)
+        ∙ ap (built_group spec size unbuilt qs) (sym e)
+    | inr n ↦
+        get_or-set_other gs g h (extrema (group_pairs spec size g qs)) fin.empty n
+        ∙ kept h ∙ ap (λ l. cond (is_unbuilt unbuilt h) fin.empty (extrema (filter_map (place_pair spec) l))) (sym (others h n))
+  ]
 
 -- one slot under an insert, a set and a removal
 

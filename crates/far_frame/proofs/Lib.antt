@@ -1,3 +1,4 @@
+pub mod AnswerLaws
 pub mod AskLaws
 pub mod BuiltLaws
 pub mod ColumnLaws
@@ -11,6 +12,7 @@ pub mod PlaceLaws
 pub mod RegisterLaws
 pub mod RoomLaws
 pub mod RowsLaws
+pub mod RunLaws
 pub mod ScanLaws
 pub mod SlotLaws
 pub mod UntilLaws

@@ -99,12 +99,12 @@ above_or_not (suc a) (suc b) = elim (above_or_not a b) as (λ o. (suc a < suc b)
 
 nothing_built : (spec : Spec) (size : ℕ) (ps : List Place) (g : ℕ) → 0 < size → fin.empty ≡ built_group spec size (all_unbuilt size ps) ps g
 nothing_built spec size ps g pos = elim (above_or_not g (groups size (length ps))) as (λ o. fin.empty ≡ built_group spec size (all_unbuilt size ps) ps g) [
-    | inl l ↦ sym (ap (λ b. cond b fin.empty (extrema (group_pairs spec size g ps))) (get_or-replicate (groups size (length ps)) g true false l))
-    | inr l ↦ sym (elim (is_unbuilt (all_unbuilt size ps) g) as (λ b. cond b fin.empty (extrema (group_pairs spec size g ps)) ≡ fin.empty) [
-        | true ↦ refl
-        | false ↦ ap (λ l. extrema (filter_map (place_pair spec) l)) (none_there size g ps pos l)
-      ])
-  ]
+  | inl l ↦ sym (ap (λ b. cond b fin.empty (extrema (group_pairs spec size g ps))) (get_or-replicate (groups size (length ps)) g true false l))
+  | inr l ↦ sym (elim (is_unbuilt (all_unbuilt size ps) g) as (λ b. cond b fin.empty (extrema (group_pairs spec size g ps)) ≡ fin.empty) [
+    | true ↦ refl
+    | false ↦ ap (λ l. extrema (filter_map (place_pair spec) l)) (none_there size g ps pos l)
+  ])
+]
 
 -- an aggregate that is registered now keeps what it is to keep
 new-kept : (size : ℕ) (ps : List Place) (spec : Spec) (registration : ℕ) (k : Kept) → 0 < size → fold_of k ≡ spec.fold → KeepsNothing (groups size (length ps)) k

@@ -20,9 +20,10 @@ use Rattle.far_groups.proofs.PairLaws.{can_join}
 use Rattle.far_frame.specs.declared.aggregate.Aggregate.{Aggregate}
 use Rattle.far_frame.specs.declared.aggregate.Kept.{Kept}
 use Rattle.far_frame.specs.declared.aggregate.Kept.TheVariants as kept
-use Rattle.far_frame.specs.Kept.{Change, built_pair, built_pairs, group_pairs, built_group, fold_of, IsKept, KeepsSlot}
+use Rattle.far_frame.specs.Kept.{Slot, Change, built_pair, built_pairs, group_pairs, built_group, fold_of, IsKept, KeepsSlot}
 use Rattle.far_frame.proofs.RoomLaws.{same-kept}
-use Rattle.far_frame.specs.Scans.{kept_scanned, KeptMayScan}
+use Rattle.far_frame.specs.Scans.{has_unbuilt, kept_scanned, KeptMayScan}
+use Rattle.far_frame.specs.Steps.{joined}
 use Rattle.far_frame.specs.Deltas.{with_change}
 use Rattle.far_frame.proofs.BuiltLaws.{totals-more, length-built}
 use Rattle.far_frame.proofs.ListLaws.{index-replicate}
@@ -189,3 +190,8 @@ slot-scanned size ps a g flags k there pos h e f =
     subst (λ u. KeepsSlot size ps (Some (record a { unbuilt = u; kept = k }))) (sym e)
     (subst (λ x. KeepsSlot size ps (Some (record a { unbuilt = slice_set a.unbuilt g false; kept = x }))) (sym f)
     (fold-scanned a.spec size g ps a.kept ∙ h.0, same-kept size ps (record a { unbuilt = slice_set a.unbuilt g false }) (record a { unbuilt = slice_set a.unbuilt g false; kept = kept_scanned a.spec size g ps a.kept }) (kept_scanned a.spec size g ps a.kept) refl refl (kept-scanned size ps a a.kept g there pos h.1)))
+
+pub has-below : (slots : List Slot) (g a : ℕ) → has_unbuilt g (joined (slice_get slots a)) ≡ true → a < length slots
+has-below [] g a h = cc
+has-below (s ∷ slots) g zero h = omega arith
+has-below (s ∷ slots) g (suc a) h = let l = has-below slots g a h in omega arith

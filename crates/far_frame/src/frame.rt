@@ -7,11 +7,13 @@ ghost use Rattle.far_frame.specs.declared.step.Step.TheVariants as step;
 ghost use Rattle.far_frame.specs.declared.step.Reply.TheVariants as reply;
 
 use super::aggregate::Aggregate;
+use super::answers::answer;
 use super::edits::{insert_row, remove_row, set_cell};
 use super::refusals::{insert_refusal, remove_refusal, set_refusal};
-use super::registrations::{aggregate_at, forget, free_number, register};
+use super::registrations::{aggregate_at, forget, free_number, group_count, register};
 use super::rows::Rows;
-use far_types::{Cell, Limits, Refusal, Row, Schema, Spec};
+use super::scans::build_at;
+use far_types::{Answer, Cell, Limits, Refusal, Row, Schema, Spec};
 use std::alloc::Global;
 use std::marker::Model;
 
@@ -188,6 +190,50 @@ impl Frame {
         }
         forget(&mut self.aggregates, a);
         Ok(())
+    }
+
+    /// Builds the rows of a row group into an aggregate. Refused with `NoAggregate` (12), `OutOfRange` (14) where no place
+    /// is in the row group, `StaleJob` (20) where it is built in already, and `NoMemory` (1).
+    pub fn scan_group(&mut self, a: u32, group: u32) -> Result<(), Refusal>
+        ensures ok { OnOk result (Accepts self.old (step.ScanGroup a group) reply.Done self.new) }
+        ensures err { IfErr result (λ e. Refuses self.old (step.ScanGroup a group) e self.new) }
+    {
+        let unbuilt = match aggregate_at(self.aggregates.as_slice(), a) {
+            None => return Err(Refusal::NoAggregate),
+            Some(aggregate) => aggregate.unbuilt.has(group as usize),
+        };
+        if group as usize >= group_count(self.limits.group, self.rows.len()) {
+            return Err(Refusal::OutOfRange);
+        }
+        if !unbuilt {
+            return Err(Refusal::StaleJob);
+        }
+        match build_at(
+            self.alloc,
+            &mut self.aggregates,
+            a,
+            &self.rows,
+            self.limits.group,
+            group,
+        ) {
+            Ok(()) => Ok(()),
+            Err(refusal) => Err(refusal),
+        }
+    }
+
+    /// What the aggregate of a number answers over the rows as they are. Refused with `NoAggregate` (12), `Building` (15)
+    /// with how many row groups are left where that is not 0, and `NoMemory` (1).
+    pub fn ask(&self, a: u32) -> Result<Answer, Refusal>
+        ensures ok { IfOk result (λ answer. Accepts self.now (step.Ask a) (reply.Answer answer) self.now) }
+        ensures err { IfErr result (λ e. Refuses self.now (step.Ask a) e self.now) }
+    {
+        match aggregate_at(self.aggregates.as_slice(), a) {
+            None => Err(Refusal::NoAggregate),
+            Some(aggregate) => match answer(self.alloc, aggregate) {
+                Err(refusal) => Err(refusal),
+                Ok(answer) => Ok(answer),
+            },
+        }
     }
 
     /// The kinds of the columns.
