@@ -7,7 +7,7 @@ use std::marker::Model;
 ///
 /// A far store is shared by threads, so the count stands with the caller and not with the store: each call that
 /// may fault takes the caller's meter, and raises it by one exactly where it answers `FarFault` (21). Nothing
-/// but a store of this crate raises a meter.
+/// but a store of this crate counts a fault.
 #[derive(Drop, Debug)]
 pub struct Meter {
     faults: u64,

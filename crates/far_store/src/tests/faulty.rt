@@ -1,5 +1,5 @@
 // When a planned fault comes: no clause can say it, since no clause knows what an atomic holds.
-use super::generic::{answer_of_get, answer_of_put, round_trip};
+use super::generic::{Why, answer_of_get, answer_of_put, round_trip, why_not_put};
 use super::scarce_store::ScarceStore;
 use crate::{AgentStore, FarRead, FarStore, FaultyStore, Meter};
 use far_types::Refusal;
@@ -69,6 +69,16 @@ fn a_call_that_finds_no_memory_is_not_counted(rt: HostRuntime) -> Result<(), Fai
     assert_eq!(rt; answer_of_get(&store, alloc, &ticket), (None, 0));
     assert_eq!(rt; answer_of_get(&store, alloc, &ticket), fault);
     assert_eq!(rt; answer_of_get(&store, alloc, &ticket), (None, 0));
+    Ok(())
+}
+
+#[test]
+fn a_put_into_a_full_store_is_counted(rt: HostRuntime) -> Result<(), Fail> {
+    let alloc = rt.alloc();
+    let store = FaultyStore::new(AgentStore::new(&rt, alloc, 1)?, 3, 0);
+    for wanted in [None, Some(Why::Full), Some(Why::Fault), Some(Why::Full)] {
+        assert_eq!(rt; why_not_put(&store, alloc), wanted);
+    }
     Ok(())
 }
 

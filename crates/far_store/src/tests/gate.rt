@@ -47,6 +47,28 @@ fn a_put_that_nobody_releases_is_a_fault(rt: HostRuntime) -> Result<(), Fail> {
 }
 
 #[test]
+fn a_second_put_passes_a_gate_that_waits_for_release_and_does_not_open_it(
+    rt: HostRuntime,
+) -> Result<(), Fail> {
+    let alloc = rt.alloc();
+    let store = GateStore::new(AgentStore::new(&rt, alloc, 8)?);
+    let answers = thread::map_indices(&rt, alloc, 2, &|_| answer_of_put(&store, alloc))?;
+    let fault = (Some(Refusal::FarFault), 1);
+    assert_eq!(rt;
+        answers.iter().filter(|answer| **answer == fault).count(),
+        1
+    );
+    assert_eq!(rt;
+        answers
+            .iter()
+            .filter(|answer| **answer == (None, 0))
+            .count(),
+        1
+    );
+    Ok(())
+}
+
+#[test]
 fn the_second_put_opens_the_gate_of_two(rt: HostRuntime) -> Result<(), Fail> {
     let alloc = rt.alloc();
     let store = GateStore::two(AgentStore::new(&rt, alloc, 8)?);

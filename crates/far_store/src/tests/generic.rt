@@ -13,6 +13,25 @@ pub fn answer_of_put<S: FarStore>(store: &S, alloc: Global) -> (Option<Refusal>,
     (answer, meter.faults())
 }
 
+// Why a put was not accepted, in the three ways that there are.
+#[derive(Clone, Copy, Debug, PartialEq, Eq)]
+pub enum Why {
+    Fault,
+    Full,
+    Memory,
+}
+
+// A caller that names these three has named all.
+pub fn why_not_put<S: FarStore>(store: &S, alloc: Global) -> Option<Why> {
+    match store.put(alloc, &mut Meter::new(), &[1]) {
+        Ok(_) => None,
+        Err(Refusal::FarFault) => Some(Why::Fault),
+        Err(Refusal::FarFull) => Some(Why::Full),
+        Err(Refusal::NoMemory) => Some(Why::Memory),
+        Err(_) => unreachable!(),
+    }
+}
+
 // The refusal that one get is answered with, if any, and the faults that its meter shows.
 pub fn answer_of_get<S: FarRead>(
     store: &S,

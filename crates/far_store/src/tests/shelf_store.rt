@@ -104,6 +104,7 @@ impl FarStore for ShelfStore {
         let copy = Vec::from_slice(alloc, bytes)?;
         match self.places[place].set_written(copy) {
             Ok(written) => Ok(Shelved { place, written }),
+            // No place is drawn twice, so this never comes.
             Err(_) => Err(Refusal::FarFull),
         }
     }
