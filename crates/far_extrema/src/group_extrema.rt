@@ -1,5 +1,5 @@
 // The extrema of the rows of one row group.
-ghost use Rattle.std.specs.Prelude.{◌≡◌, Ok, OnOk, OnErr, IfErr, IfOk};
+ghost use Rattle.std.specs.Prelude.{◌≡◌, OnOk, OnErr, IfErr, IfOk};
 
 use super::spans::{Spans, into_lines, join, lines, see, see_under};
 use far_types::{Answer, ExtremaLines, Key, Refusal};
@@ -73,7 +73,7 @@ impl GroupExtrema {
 
     /// The keys that occur, ascending, each with its least and its greatest value. Refused with `NoMemory` (1) alone.
     pub fn answer(&self, alloc: Global) -> Result<Answer, Refusal>
-        ensures ok { OnOk result (result ≡ Ok (Answer.Extrema (extrema_lines self.now))) }
+        ensures ok { IfOk result (λ answer. answer ≡ Answer.Extrema (extrema_lines self.now)) }
         ensures memory { IfErr result (λ e. e ≡ Refusal.NoMemory) }
     {
         Ok(Answer::Extrema(ExtremaLines::new(lines(alloc, &self.spans)?)))

@@ -1,5 +1,5 @@
 // Totals that are kept up to date.
-ghost use Rattle.std.specs.Prelude.{◌≡◌, ◌≢◌, ◌+◌, ◌-◌, ◌^◌, ◌<◌, ◌≤◌, pos, None, Some, Ok, Err, unwrap_or, OnOk, OnErr, IfErr};
+ghost use Rattle.std.specs.Prelude.{◌≡◌, ◌≢◌, ◌+◌, ◌-◌, ◌^◌, ◌<◌, ◌≤◌, pos, None, Some, Err, unwrap_or, OnOk, OnErr, IfOk, IfErr};
 
 use super::tallies::{Tallies, add, add_under, join, lines, take, tally_of};
 use far_types::{Answer, Key, Refusal, TotalLines};
@@ -116,7 +116,7 @@ impl LiveTotals {
     /// no line. Refused with `Building` (15) and how many row groups are left exactly where that is not 0, else with
     /// `NoMemory` (1) alone.
     pub fn answer(&self, alloc: Global) -> Result<Answer, Refusal>
-        ensures ok { OnOk result (result ≡ Ok (Answer.Totals (total_lines self.now.totals))) }
+        ensures ok { IfOk result (λ answer. answer ≡ Answer.Totals (total_lines self.now.totals)) }
         ensures built { OnOk result (self.now.left ≡ 0) }
         ensures building { self.now.left ≢ 0 → result ≡ Err (Refusal.Building self.now.left) }
         ensures memory { self.now.left ≡ 0 → IfErr result (λ e. e ≡ Refusal.NoMemory) }
