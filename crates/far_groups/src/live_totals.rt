@@ -58,11 +58,12 @@ impl LiveTotals {
     }
 
     /// One folded row more. Where its key is there already, the key that is given is dropped and no memory is taken.
-    /// Refused with `NoMemory` (1) alone, and then nothing is changed.
+    /// Refused with `NoMemory` (1) alone, where the key is new, and then nothing is changed.
     pub fn add(&mut self, key: Option<Key>, value: i64) -> Result<(), Refusal>
         requires { count_in (fin.get self.old.totals key) < 2 ^ 26 }
         ensures ok { OnOk result (self.new ≡ record self.old { totals = with_pair self.old.totals (key, value) }) }
         ensures err { OnErr result (self.new ≡ self.old) }
+        ensures only_new { OnErr result (fin.get self.old.totals key ≡ None) }
         ensures memory { IfErr result (λ e. e ≡ Refusal.NoMemory) }
     {
         add(&mut self.tallies, key, tally_of(value))
@@ -73,6 +74,7 @@ impl LiveTotals {
         requires { count_in (fin.get self.old.totals key.now) < 2 ^ 26 }
         ensures ok { OnOk result (self.new ≡ record self.old { totals = with_pair self.old.totals (key.now, value) }) }
         ensures err { OnErr result (self.new ≡ self.old) }
+        ensures only_new { OnErr result (fin.get self.old.totals key.now ≡ None) }
         ensures memory { IfErr result (λ e. e ≡ Refusal.NoMemory) }
     {
         add_under(&mut self.tallies, key, tally_of(value))
@@ -85,6 +87,7 @@ impl LiveTotals {
         requires room { count_in (fin.get self.old.totals key) + count ≤ 2 ^ 26 }
         ensures ok { OnOk result (self.new ≡ record self.old { totals = joined_totals self.old.totals (fin.insert fin.empty key (count, sum)) }) }
         ensures err { OnErr result (self.new ≡ self.old) }
+        ensures only_new { OnErr result (fin.get self.old.totals key ≡ None) }
         ensures memory { IfErr result (λ e. e ≡ Refusal.NoMemory) }
     {
         add(&mut self.tallies, key, (count, sum))
