@@ -1,5 +1,5 @@
 // Totals that are kept up to date.
-ghost use Rattle.std.specs.Prelude.{◌≡◌, ◌≢◌, ◌+◌, ◌-◌, ◌^◌, ◌<◌, ◌≤◌, pos, None, Some, Ok, Err, unwrap_or, OnOk, OnErr, IfErr};
+ghost use Rattle.std.specs.Prelude.{◌≡◌, ◌≢◌, ◌+◌, ◌-◌, ◌^◌, ◌<◌, ◌≤◌, pos, None, Some, Err, unwrap_or, OnOk, OnErr, IfOk, IfErr};
 
 use super::tallies::{Tallies, add, add_under, join, lines, take, tally_of};
 use far_types::{Answer, Key, Refusal, TotalLines};
@@ -58,11 +58,12 @@ impl LiveTotals {
     }
 
     /// One folded row more. Where its key is there already, the key that is given is dropped and no memory is taken.
-    /// Refused with `NoMemory` (1) alone, and then nothing is changed.
+    /// Refused with `NoMemory` (1) alone, where the key is new, and then nothing is changed.
     pub fn add(&mut self, key: Option<Key>, value: i64) -> Result<(), Refusal>
         requires { count_in (fin.get self.old.totals key) < 2 ^ 26 }
         ensures ok { OnOk result (self.new ≡ record self.old { totals = with_pair self.old.totals (key, value) }) }
         ensures err { OnErr result (self.new ≡ self.old) }
+        ensures only_new { OnErr result (fin.get self.old.totals key ≡ None) }
         ensures memory { IfErr result (λ e. e ≡ Refusal.NoMemory) }
     {
         add(&mut self.tallies, key, tally_of(value))
@@ -73,6 +74,7 @@ impl LiveTotals {
         requires { count_in (fin.get self.old.totals key.now) < 2 ^ 26 }
         ensures ok { OnOk result (self.new ≡ record self.old { totals = with_pair self.old.totals (key.now, value) }) }
         ensures err { OnErr result (self.new ≡ self.old) }
+        ensures only_new { OnErr result (fin.get self.old.totals key.now ≡ None) }
         ensures memory { IfErr result (λ e. e ≡ Refusal.NoMemory) }
     {
         add_under(&mut self.tallies, key, tally_of(value))
@@ -85,6 +87,7 @@ impl LiveTotals {
         requires room { count_in (fin.get self.old.totals key) + count ≤ 2 ^ 26 }
         ensures ok { OnOk result (self.new ≡ record self.old { totals = joined_totals self.old.totals (fin.insert fin.empty key (count, sum)) }) }
         ensures err { OnErr result (self.new ≡ self.old) }
+        ensures only_new { OnErr result (fin.get self.old.totals key ≡ None) }
         ensures memory { IfErr result (λ e. e ≡ Refusal.NoMemory) }
     {
         add(&mut self.tallies, key, (count, sum))
@@ -116,7 +119,7 @@ impl LiveTotals {
     /// no line. Refused with `Building` (15) and how many row groups are left exactly where that is not 0, else with
     /// `NoMemory` (1) alone.
     pub fn answer(&self, alloc: Global) -> Result<Answer, Refusal>
-        ensures ok { OnOk result (result ≡ Ok (Answer.Totals (total_lines self.now.totals))) }
+        ensures ok { IfOk result (λ answer. answer ≡ Answer.Totals (total_lines self.now.totals)) }
         ensures built { OnOk result (self.now.left ≡ 0) }
         ensures building { self.now.left ≢ 0 → result ≡ Err (Refusal.Building self.now.left) }
         ensures memory { self.now.left ≡ 0 → IfErr result (λ e. e ≡ Refusal.NoMemory) }
