@@ -3,6 +3,7 @@ pub mod Compared
 pub mod Heads
 pub mod IntForms
 pub mod MaskWriting
+pub mod ChangedLengths
 pub mod Masks
 pub mod Meaning
 pub mod PlainWords

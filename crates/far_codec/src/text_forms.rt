@@ -13,7 +13,7 @@ use far_types::{Refusal, Text};
 use std::alloc::{AllocError, Global};
 
 /// The bytes of a text, lent in place; none where it is missing.
-fn bytes_in(text: &Option<Text>) -> &[u8]
+pub(crate) fn bytes_in(text: &Option<Text>) -> &[u8]
     ensures bytes { result.now ≡ bytes_of text.now }
     ensures utf8 { IfSome text.now IsUtf8 }
 {
@@ -101,7 +101,7 @@ fn mask_size(version: u8, count: usize) -> usize
 }
 
 /// The parts of bytes that are known to be a far form of texts.
-fn known_parts(form: &[u8]) -> TextParts<'_>
+pub(crate) fn known_parts(form: &[u8]) -> TextParts<'_>
     requires { IsTextsForm form.now }
     ensures parts { AreTextParts result.mask.now (ends_in result.ends.now) result.body.now }
     ensures same { texts_of result.mask.now (ends_in result.ends.now) result.body.now ≡ texts_meaning form.now }

@@ -1,0 +1,35 @@
+use Rattle.std.proofs.Common.{◌≡◌, ◌≢◌, ◌+◌, ◌<◌, ◌≤◌, ℕ, Bool, true, false, eqb, List, length, get_or, set, take, refl, sym, ap, ◌∙◌, arith}
+use Rattle.std.specs.Prelude.{not, ◌||◌, ◌&&◌}
+use Rattle.std.proofs.lemmas.Bool.{eqb-true, false≢true}
+use Rattle.std.proofs.lemmas.Bool.Decides.{Decides-eqb}
+use Rattle.std.proofs.lemmas.List.{length-set, get_or-set_same, get_or-set_other, take_all}
+use Rattle.std.proofs.lemmas.List.Folds.{list_any_more}
+use Rattle.far_codec.specs.FarForm.{some_missing}
+use Rattle.far_codec.specs.Reading.{is_missing, flags_of}
+use Rattle.far_codec.proofs.Masks.{length-flags_of, flag_at}
+use Rattle.far_codec.proofs.lengths.other_missing.Goals as goal
+
+-- flag j, where flag i does not count
+flag_but : (mask : List ℕ) (count i j : ℕ) (b : Bool) → j < count → b ≡ eqb j i → get_or (set (flags_of mask count) i false) j false ≡ (not b && is_missing mask j)
+flag_but mask count i j true h e =
+    let same : j ≡ i = eqb-true j i (sym e) in
+    let in_flags : i < length (flags_of mask count) = omega (arith, length-flags_of mask count) in
+    ap (λ k. get_or (set (flags_of mask count) i false) k false) same ∙ get_or-set_same (flags_of mask count) i false false in_flags
+flag_but mask count i j false h e =
+    get_or-set_other (flags_of mask count) i j false false (λ same. absurd (false≢true (e ∙ (Decides-eqb j i).1 same))) ∙ flag_at mask count j h
+
+pub loop-j-preserved : goal.loop-j-preserved
+loop-j-preserved c =
+    let mask = c.args.mask.now in
+    let j = c.loop-j.j in
+    let flags = set (flags_of mask c.args.count) c.args.i false in
+    let more : some_missing (take (j + 1) flags) ≡ (some_missing (take j flags) || get_or flags j false) = list_any_more (λ missing. missing) flags j false (omega (arith, length-set (flags_of mask c.args.count) c.args.i false, length-flags_of mask c.args.count)) in
+    sym (more
+      ∙ ap (λ b. some_missing (take j flags) || b) (flag_but mask c.args.count c.args.i j (eqb j c.args.i) c.loop-j-test.true refl ∙ ap (λ b. not (eqb j c.args.i) && b) (sym c.is_set.ensures))
+      ∙ ap (λ b. b || (not (eqb j c.args.i) && c.is_set.result)) (sym c.loop-j.invariant))
+
+pub returns : goal.returns
+returns c =
+    let mask = c.args.mask.now in
+    let flags = set (flags_of mask c.args.count) c.args.i false in
+    c.loop-j.invariant ∙ ap some_missing (take_all c.loop-j.j flags (omega (arith, c.loop-j-test.false, length-set (flags_of mask c.args.count) c.args.i false, length-flags_of mask c.args.count)))

@@ -1,0 +1,78 @@
+// How long a far form of texts becomes when one text changes, before it is made.
+ghost use Rattle.std.specs.Prelude.{◌≡◌, ◌++◌, ◌∷◌, ◌+◌, ◌*◌, ◌/◌, ◌<◌, ◌≤◌, ◌^◌, [], cond, false, length, slice_set};
+ghost use Rattle.std.specs.Option.{option_copied};
+ghost use Rattle.far_types.specs.FormLengths.{texts_length};
+ghost use Rattle.far_codec.specs.FarForm.{some_missing};
+ghost use Rattle.far_codec.specs.Reading.{flags_of};
+ghost use Rattle.far_codec.specs.TextForm.{bytes_of, texts_meaning, IsTextsForm};
+
+use crate::head::is_set;
+use crate::text_forms::{bytes_in, known_parts};
+use crate::texts::text_in;
+use far_types::Text;
+
+/// Whether a value other than value `i` is missing.
+fn other_missing(mask: &[u8], count: usize, i: usize) -> bool
+    ensures { result ≡ some_missing (slice_set (flags_of mask.now count) i false) }
+{
+    let mut missing = false;
+    for j in 0..count {
+        missing |= (j != i) & is_set(mask, j);
+    }
+    missing
+}
+
+/// How many bytes a text has that is lent; none where it is missing.
+fn lent_length(text: Option<&str>) -> usize
+    ensures { result ≡ length (bytes_of (option_copied text.entry)) }
+{
+    match text {
+        Some(text) => text.len(),
+        None => 0,
+    }
+}
+
+/// The bytes of the mask of so many values.
+fn mask_size(missing: bool, count: usize) -> usize
+    requires { count ≤ 2 ^ 32 }
+    ensures { result ≡ cond missing ((count + 7) / 8) 0 }
+{
+    if missing {
+        (count + 7) / 8
+    } else {
+        0
+    }
+}
+
+/// The length of the form of so many texts with so many bytes.
+fn length_of(missing: bool, count: usize, bytes: usize) -> usize
+    requires few { count ≤ 2 ^ 32 }
+    requires room { bytes < 2 ^ 63 + 2 ^ 33 }
+    ensures { result ≡ 6 + cond missing ((count + 7) / 8) 0 + 4 * count + bytes }
+{
+    6 + mask_size(missing, count) + 4 * count + bytes
+}
+
+/// How many bytes the far form has once text `i` is this one.
+pub fn length_with(form: &[u8], i: usize, text: &Option<Text>) -> usize
+    requires form { IsTextsForm form.now }
+    requires there { i < length (texts_meaning form.now) }
+    ensures { result ≡ texts_length (slice_set (texts_meaning form.now) i text.now) }
+{
+    let parts = known_parts(form);
+    let count = parts.ends.len();
+    let old = lent_length(text_in(parts, i));
+    let missing = text.is_none() | other_missing(parts.mask, count, i);
+    length_of(missing, count, parts.body.len() - old + bytes_in(text).len())
+}
+
+/// How many bytes the far form has once this text stands behind the others.
+pub fn length_with_next(form: &[u8], text: &Option<Text>) -> usize
+    requires { IsTextsForm form.now }
+    ensures { result ≡ texts_length (texts_meaning form.now ++ text.now ∷ []) }
+{
+    let parts = known_parts(form);
+    let count = parts.ends.len();
+    let missing = text.is_none() | other_missing(parts.mask, count, count);
+    length_of(missing, count + 1, parts.body.len() + bytes_in(text).len())
+}
