@@ -16,6 +16,8 @@ mod registrations;
 pub mod rows;
 mod scans;
 pub mod step;
+#[cfg(test)]
+mod tests;
 mod text_form;
 mod unbuilt;
 pub mod world;
