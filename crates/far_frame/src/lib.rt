@@ -10,6 +10,7 @@ mod deltas;
 mod edits;
 pub mod frame;
 mod groups;
+mod readings;
 mod refresh;
 mod refusals;
 mod registrations;
