@@ -10,12 +10,15 @@ mod deltas;
 mod edits;
 pub mod frame;
 mod groups;
+mod readings;
 mod refresh;
 mod refusals;
 mod registrations;
 pub mod rows;
 mod scans;
 pub mod step;
+#[cfg(test)]
+mod tests;
 mod text_form;
 mod unbuilt;
 pub mod world;
