@@ -4,6 +4,7 @@ pub mod Heads
 pub mod IntForms
 pub mod MaskWriting
 pub mod ChangedLengths
+pub mod Laws
 pub mod Masks
 pub mod Meaning
 pub mod PlainWords

@@ -91,6 +91,7 @@ pub fn ints_length(numbers: &[Option<i64>]) -> usize
 pub fn encode_ints(alloc: Global, numbers: &[Option<i64>]) -> Result<Vec<u8>, Refusal>
     requires { length numbers.now < 2 ^ 32 }
     ensures spelled { IfOk result (λ form. (form.items ≡ ints_form numbers.now) × AreInts numbers.now) }
+    ensures length { IfOk result (λ form. length form.items ≡ ints_length numbers.now) }
     ensures memory { IfErr result (λ e. e ≡ Refusal.NoMemory) }
 {
     let mut form = Vec::with_capacity(alloc, ints_length(numbers))?;

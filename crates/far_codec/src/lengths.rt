@@ -37,11 +37,7 @@ fn mask_size(missing: bool, count: usize) -> usize
     requires { count ≤ 2 ^ 32 }
     ensures { result ≡ cond missing ((count + 7) / 8) 0 }
 {
-    if missing {
-        (count + 7) / 8
-    } else {
-        0
-    }
+    if missing { (count + 7) / 8 } else { 0 }
 }
 
 /// The length of the form of so many texts with so many bytes.
@@ -63,7 +59,11 @@ pub fn length_with(form: &[u8], i: usize, text: &Option<Text>) -> usize
     let count = parts.ends.len();
     let old = lent_length(text_in(parts, i));
     let missing = text.is_none() | other_missing(parts.mask, count, i);
-    length_of(missing, count, parts.body.len() - old + bytes_in(text).len())
+    length_of(
+        missing,
+        count,
+        parts.body.len() - old + bytes_in(text).len(),
+    )
 }
 
 /// How many bytes the far form has once this text stands behind the others.

@@ -20,3 +20,6 @@ pub use lengths::{length_with, length_with_next};
 pub use lists::{IntList, TextList};
 pub use text_forms::{count_texts, encode_texts, text_at, text_of, texts_length};
 pub use values::{Values, decode, kind_of};
+
+#[cfg(test)]
+mod tests;

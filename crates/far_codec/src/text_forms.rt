@@ -73,6 +73,7 @@ pub fn encode_texts(alloc: Global, texts: &[Option<Text>]) -> Result<Vec<u8>, Re
     requires count { length texts.now < 2 ^ 32 }
     requires bytes { text_bytes texts.now < 2 ^ 32 }
     ensures spelled { IfOk result (λ form. (form.items ≡ texts_form texts.now) × AreTexts texts.now) }
+    ensures length { IfOk result (λ form. length form.items ≡ texts_length texts.now) }
     ensures memory { IfErr result (λ e. e ≡ Refusal.NoMemory) }
 {
     let mut form = Vec::with_capacity(alloc, texts_length(texts))?;

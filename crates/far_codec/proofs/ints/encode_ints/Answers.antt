@@ -1,10 +1,11 @@
-use Rattle.std.proofs.Common.{◌≡◌, ◌++◌, ℕ, List, map, FitsSigned, sym, ap, ◌∙◌}
+use Rattle.std.proofs.Common.{◌≡◌, ◌++◌, ℕ, List, length, map, FitsSigned, sym, ap, ◌∙◌}
 use Rattle.std.specs.Prelude.{is_none, IfSome}
 use Rattle.std.specs.Int.{w64}
 use Rattle.std.specs.List.{flat_map}
 use Rattle.std.proofs.lemmas.List.Elements.{All-from_recursion}
 use Rattle.far_codec.specs.FarForm.{head, number_bytes}
 use Rattle.far_codec.proofs.IntForms.{ints_form_is}
+use Rattle.far_codec.proofs.Laws.{ints_form_length}
 use Rattle.far_codec.proofs.ints.encode_ints.Goals as goal
 
 pub returns-clause-spelled : goal.returns-clause-spelled
@@ -14,3 +15,6 @@ returns-clause-spelled c =
       c.in_ok-push_words.ensures.written ∙ ap (λ (l : List ℕ). l ++ flat_map number_bytes numbers) front ∙ sym (ints_form_is numbers),
       record { range = All-from_recursion (λ number. IfSome number (FitsSigned w64)) numbers c.in_ok-push_words.ensures.range; count = c.requires },
     )
+
+pub returns-clause-length : goal.returns-clause-length
+returns-clause-length c = ap length (returns-clause-spelled c).0 ∙ ints_form_length c.args.numbers.now

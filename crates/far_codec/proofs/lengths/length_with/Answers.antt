@@ -40,10 +40,10 @@ returns c =
     let known = tells p.mask.now p.ends.now p.body.now texts c.known_parts-parts.ensures.parts c.known_parts-parts.ensures.same in
     let lent = lent_is _ _ texts i c.text_in.ensures c.known_parts-parts.ensures.same c.requires.there in
     let any : list_any is_none (set texts i text) ≡ (c.is_none.result || c.other_missing.result) =
-        missing_set texts i text c.requires.there
-        ∙ ap (λ b. is_none text || b) (ap (λ flags. some_missing (set flags i false)) known.flags ∙ sym c.other_missing.ensures)
-        ∙ ap (λ b. b || c.other_missing.result) (sym (none_is text c.is_none.result c.is_none.ensures)) in
+    missing_set texts i text c.requires.there
+    ∙ ap (λ b. is_none text || b) (ap (λ flags. some_missing (set flags i false)) known.flags ∙ sym c.other_missing.ensures)
+    ∙ ap (λ b. b || c.other_missing.result) (sym (none_is text c.is_none.result c.is_none.ensures)) in
     let many : length (set texts i text) ≡ length p.ends.now = length-set texts i text ∙ sym known.count in
     let size : text_bytes (set texts i text) ≡ length p.body.now - c.lent_length-old.result + length c.bytes_in.result.now =
-        omega (arith, bytes_set texts i text c.requires.there, known.bytes, c.lent_length-old.ensures, ap (λ t. length (bytes_of t)) lent, one_of texts i c.requires.there, ap length c.bytes_in.ensures.bytes) in
+    omega (arith, bytes_set texts i text c.requires.there, known.bytes, c.lent_length-old.ensures, ap (λ t. length (bytes_of t)) lent, one_of texts i c.requires.there, ap length c.bytes_in.ensures.bytes) in
     c.length_of.ensures ∙ length_is texts (set texts i text) (c.is_none.result || c.other_missing.result) (length p.ends.now) (length p.body.now - c.lent_length-old.result + length c.bytes_in.result.now) any many size

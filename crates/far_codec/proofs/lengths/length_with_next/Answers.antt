@@ -34,9 +34,9 @@ returns c =
     let known = tells p.mask.now p.ends.now p.body.now texts c.known_parts-parts.ensures.parts c.known_parts-parts.ensures.same in
     let flags = flags_of p.mask.now count in
     let others : some_missing (map is_none texts) ≡ c.other_missing.result =
-        ap some_missing (known.flags ∙ sym (set_past flags count false (omega (arith, length-flags_of p.mask.now count)))) ∙ sym c.other_missing.ensures in
+    ap some_missing (known.flags ∙ sym (set_past flags count false (omega (arith, length-flags_of p.mask.now count)))) ∙ sym c.other_missing.ensures in
     let any : list_any is_none (texts ++ text ∷ []) ≡ (c.is_none.result || c.other_missing.result) =
-        missing_next texts text ∙ ap (λ b. is_none text || b) others ∙ ap (λ b. b || c.other_missing.result) (sym (none_is text c.is_none.result c.is_none.ensures)) in
+    missing_next texts text ∙ ap (λ b. is_none text || b) others ∙ ap (λ b. b || c.other_missing.result) (sym (none_is text c.is_none.result c.is_none.ensures)) in
     let many : length (texts ++ text ∷ []) ≡ count + 1 = omega (arith, length-append texts (text ∷ []), known.count) in
     let size : text_bytes (texts ++ text ∷ []) ≡ length p.body.now + length c.bytes_in.result.now = omega (arith, bytes_next texts text, known.bytes, ap length c.bytes_in.ensures.bytes) in
     c.length_of.ensures ∙ length_is texts (texts ++ text ∷ []) (c.is_none.result || c.other_missing.result) (count + 1) (length p.body.now + length c.bytes_in.result.now) any many size

@@ -25,8 +25,8 @@ loop-j-preserved c =
     let flags = set (flags_of mask c.args.count) c.args.i false in
     let more : some_missing (take (j + 1) flags) ≡ (some_missing (take j flags) || get_or flags j false) = list_any_more (λ missing. missing) flags j false (omega (arith, length-set (flags_of mask c.args.count) c.args.i false, length-flags_of mask c.args.count)) in
     sym (more
-      ∙ ap (λ b. some_missing (take j flags) || b) (flag_but mask c.args.count c.args.i j (eqb j c.args.i) c.loop-j-test.true refl ∙ ap (λ b. not (eqb j c.args.i) && b) (sym c.is_set.ensures))
-      ∙ ap (λ b. b || (not (eqb j c.args.i) && c.is_set.result)) (sym c.loop-j.invariant))
+    ∙ ap (λ b. some_missing (take j flags) || b) (flag_but mask c.args.count c.args.i j (eqb j c.args.i) c.loop-j-test.true refl ∙ ap (λ b. not (eqb j c.args.i) && b) (sym c.is_set.ensures))
+    ∙ ap (λ b. b || (not (eqb j c.args.i) && c.is_set.result)) (sym c.loop-j.invariant))
 
 pub returns : goal.returns
 returns c =
