@@ -3,6 +3,7 @@ pub mod Deltas
 pub mod Kept
 pub mod Readings
 pub mod Rows
+pub mod Runs
 pub mod Scans
 pub mod Steps
 pub mod Until

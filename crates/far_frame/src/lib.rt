@@ -10,6 +10,7 @@ mod deltas;
 mod edits;
 pub mod frame;
 mod groups;
+pub mod laws;
 mod readings;
 mod refresh;
 mod refusals;
