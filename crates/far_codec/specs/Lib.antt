@@ -1,0 +1,4 @@
+pub mod FarForm
+pub mod PlainLaws
+pub mod PlainNumbers
+pub mod Spelling

@@ -1,0 +1,27 @@
+-- Numbers of which none is missing.
+use Rattle.std.specs.Prelude.{◌≡◌, ℕ, ◌+◌, ◌*◌, ℤ, List, ◌∷◌, length, map, take, drop, Some}
+use Rattle.std.specs.Int.{w32, w64, to_le_bytes, from_le_bytes, cast_signed}
+use Rattle.std.specs.Simd.{first_chunks}
+use Rattle.far_codec.specs.FarForm.{ints_form}
+
+-- their far form
+abbrev pub plain_form : List ℤ → List ℕ
+plain_form numbers = ints_form (map Some numbers)
+
+-- the number that eight bytes are
+unfoldable pub number_of : List ℕ → ℤ
+number_of bytes = cast_signed w64 (from_le_bytes w64 bytes)
+
+-- how many values the head of a form counts
+abbrev pub count_in : List ℕ → ℕ
+count_in bytes = from_le_bytes w32 (drop 2 bytes)
+
+-- the numbers that stand behind a head without a mask
+abbrev pub plain_meaning : List ℕ → List ℤ
+plain_meaning bytes = map number_of (first_chunks 8 (count_in bytes) (drop 6 bytes))
+
+-- the bytes are a head without a mask, and the words
+pub record IsPlain (bytes : List ℕ) (words : List (List ℕ)) : Type 0 where
+  pub head : take 6 bytes ≡ 1 ∷ 0 ∷ to_le_bytes w32 (length words)
+  pub words_are : words ≡ first_chunks 8 (length words) (drop 6 bytes)
+  pub len : length bytes ≡ 6 + 8 * length words
