@@ -4,12 +4,13 @@ use Rattle.std.specs.Int.{w32, w64, to_le_bytes, from_le_bytes}
 use Rattle.std.specs.List.{flat_map, AllByRecursion}
 use Rattle.std.specs.Simd.{first_chunks}
 use Rattle.std.proofs.lemmas.Bool.{cases_lt}
-use Rattle.std.proofs.lemmas.List.{length-map, length-take, length-drop, append-nil, nil_from_length, take-append-drop, get_or-take, get_or-drop, get_or_past}
+use Rattle.std.proofs.lemmas.List.{length-map, length-take, length-drop, append-nil, nil_from_length, take-append-drop, get_or-take, get_or-drop, get_or_past, drop_at}
 use Rattle.std.proofs.lemmas.Nat.{le_bytes_8}
 use Rattle.std.proofs.lemmas.Int.{of_z-to_z}
 use Rattle.std.proofs.Math.Facts.{sfits_to_z}
 use Rattle.far_codec.specs.FarForm.{number_bytes}
-use Rattle.far_codec.specs.PlainNumbers.{plain_form, number_of, IsPlain}
+use Rattle.far_codec.specs.PlainNumbers.{plain_form, IsPlain}
+use Rattle.far_codec.specs.Reading.{number_of}
 use Rattle.far_codec.specs.PlainLaws.{plain_form_is, words_again, length-numbers}
 use Rattle.far_codec.proofs.Chunks.{chunks_joined}
 
@@ -25,6 +26,9 @@ IsBytes-take n bytes h i =
       | inl lt ↦ rw (get_or-take n bytes i 0 lt) (h i)
       | inr le ↦ rw (get_or_past (take n bytes) i 0 (omega (arith, length-take n bytes))) (omega arith)
     ]
+
+pub IsBytes-behind : (bytes front back : List ℕ) → IsBytes bytes → bytes ≡ front ++ back → IsBytes back
+IsBytes-behind bytes front back fits e = subst IsBytes (ap (drop (length front)) e ∙ drop_at front back (length front) refl) (IsBytes-drop (length front) bytes fits)
 
 value_below : (bytes : List ℕ) → IsBytes bytes → from_le_bytes w64 bytes < 2 ^ 64
 value_below bytes fits = omega (arith, fits 0, fits 1, fits 2, fits 3, fits 4, fits 5, fits 6, fits 7)

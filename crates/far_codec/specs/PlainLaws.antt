@@ -1,42 +1,43 @@
 -- That numbers of which none is missing have one far form, and are read back from it.
-use Rattle.std.proofs.Common.{◌≡◌, ℕ, ◌+◌, ◌*◌, ◌/◌, false, cond, ℤ, List, [], ◌∷◌, ◌++◌, length, map, take, drop, Option, Some, All, FitsSigned, refl, sym, ap, ◌∙◌, arith}
+use Rattle.std.proofs.Common.{◌≡◌, ℕ, ◌+◌, ◌*◌, Bool, false, cond, ℤ, List, [], ◌∷◌, ◌++◌, length, map, Some, All, FitsSigned, refl, sym, ap, ◌∙◌, arith}
 use Rattle.std.specs.Prelude.{is_none}
 use Rattle.std.specs.Int.{w32, w64, to_le_bytes, cast_unsigned, cast_signed}
-use Rattle.std.specs.List.{list_any, flat_map, range_with_len, AllByRecursion}
+use Rattle.std.specs.List.{list_any, flat_map, AllByRecursion}
 use Rattle.std.specs.Simd.{first_chunks}
-use Rattle.std.proofs.lemmas.List.{length-map, length-append, append-nil, take_at, drop_at}
+use Rattle.std.proofs.lemmas.List.{length-map, length-append, append-nil}
 use Rattle.std.proofs.lemmas.List.Elements.{recursion_from_All}
 use Rattle.std.proofs.lemmas.List.Folds.{flat_map-map}
 use Rattle.std.proofs.lemmas.Nat.{from_le_bytes-to_le_bytes_8, from_le_bytes-to_le_bytes_4}
 use Rattle.std.proofs.lemmas.Int.{to_z-of_z}
 use Rattle.std.proofs.Math.Facts.{Fits-of_z}
-use Rattle.far_codec.specs.FarForm.{mask_byte, head, number_bytes, ints_form, FitsCount}
-use Rattle.far_codec.specs.PlainNumbers.{plain_form, number_of, count_in, plain_meaning}
+use Rattle.far_codec.specs.FarForm.{mask_of, head, number_bytes, ints_form, FitsCount}
+use Rattle.far_codec.specs.MaskLaws.{no_mask}
+use Rattle.far_codec.specs.ReadingLaws.{chunks_again, length-number_bytes}
+use Rattle.far_codec.specs.PlainNumbers.{plain_form, plain_meaning}
+use Rattle.far_codec.specs.Reading.{number_of, count_in}
 
-none_missing : (numbers : List ℤ) → list_any is_none (map Some numbers) ≡ false
+none_missing : (numbers : List ℤ) → list_any (λ missing. missing) (map is_none (map Some numbers)) ≡ false
 none_missing [] = refl
 none_missing (x ∷ numbers) = none_missing numbers
 
 -- a head without a mask
-pub plain_head : {A : Type 0} (kind : ℕ) (values : List (Option A)) → list_any is_none values ≡ false → head kind values ≡ 1 ∷ kind ∷ to_le_bytes w32 (length values)
-plain_head kind values h =
-    ap (λ b. cond b 2 1 ∷ kind ∷ to_le_bytes w32 (length values) ++ map (λ k. mask_byte (take 8 (drop (8 * k) values))) (range_with_len 0 (cond b ((length values + 7) / 8) 0))) h
-    ∙ append-nil (1 ∷ kind ∷ to_le_bytes w32 (length values))
+pub plain_head : (kind : ℕ) (flags : List Bool) → list_any (λ missing. missing) flags ≡ false → head kind flags ≡ 1 ∷ kind ∷ to_le_bytes w32 (length flags)
+unfolding head
+plain_head kind flags none =
+    ap (λ b. cond b 2 1 ∷ kind ∷ to_le_bytes w32 (length flags) ++ mask_of flags) none
+    ∙ ap (λ m. 1 ∷ kind ∷ to_le_bytes w32 (length flags) ++ m) (no_mask flags none)
+    ∙ append-nil (1 ∷ kind ∷ to_le_bytes w32 (length flags))
 
 pub plain_form_is : (numbers : List ℤ) → plain_form numbers ≡ 1 ∷ 0 ∷ to_le_bytes w32 (length numbers) ++ flat_map (λ x. number_bytes (Some x)) numbers
 unfolding ints_form
 plain_form_is numbers =
-    ap (λ front. front ++ flat_map number_bytes (map Some numbers)) (plain_head 0 (map Some numbers) (none_missing numbers))
-    ∙ ap (λ n. 1 ∷ 0 ∷ to_le_bytes w32 n ++ flat_map number_bytes (map Some numbers)) (length-map numbers Some)
+    ap (λ front. front ++ flat_map number_bytes (map Some numbers)) (plain_head 0 (map is_none (map Some numbers)) (none_missing numbers))
+    ∙ ap (λ n. 1 ∷ 0 ∷ to_le_bytes w32 n ++ flat_map number_bytes (map Some numbers)) (length-map (map Some numbers) is_none ∙ length-map numbers Some)
     ∙ ap (λ rest. 1 ∷ 0 ∷ to_le_bytes w32 (length numbers) ++ rest) (flat_map-map number_bytes Some numbers)
-
-pub length-number_bytes : (x : ℤ) → length (number_bytes (Some x)) ≡ 8
-unfolding number_bytes
-length-number_bytes x = refl
 
 pub length-numbers : (numbers : List ℤ) → length (flat_map (λ x. number_bytes (Some x)) numbers) ≡ 8 * length numbers
 length-numbers [] = refl
-length-numbers (x ∷ numbers) = omega (arith, length-append (number_bytes (Some x)) (flat_map (λ y. number_bytes (Some y)) numbers), length-number_bytes x, length-numbers numbers)
+length-numbers (x ∷ numbers) = omega (arith, length-append (number_bytes (Some x)) (flat_map (λ y. number_bytes (Some y)) numbers), length-number_bytes (Some x), length-numbers numbers)
 
 pub number_back : (x : ℤ) → FitsSigned w64 x → number_of (number_bytes (Some x)) ≡ x
 unfolding number_of number_bytes
@@ -44,14 +45,7 @@ number_back x fits = ap (cast_signed w64) (from_le_bytes-to_le_bytes_8 (cast_uns
 
 -- the words of a form are the bytes of its numbers
 pub words_again : (numbers : List ℤ) → first_chunks 8 (length numbers) (flat_map (λ x. number_bytes (Some x)) numbers) ≡ map (λ x. number_bytes (Some x)) numbers
-words_again [] = refl
-words_again (x ∷ numbers) =
-    let rest = flat_map (λ y. number_bytes (Some y)) numbers in
-    let front : take 8 (number_bytes (Some x) ++ rest) ≡ number_bytes (Some x) = take_at (number_bytes (Some x)) rest 8 (length-number_bytes x) in
-    let back : drop 8 (number_bytes (Some x) ++ rest) ≡ rest = drop_at (number_bytes (Some x)) rest 8 (length-number_bytes x) in
-    ap (λ front. front ∷ first_chunks 8 (length numbers) (drop 8 (number_bytes (Some x) ++ rest))) front
-    ∙ ap (λ l. number_bytes (Some x) ∷ first_chunks 8 (length numbers) l) back
-    ∙ ap (λ l. number_bytes (Some x) ∷ l) (words_again numbers)
+words_again numbers = chunks_again 8 (λ x. number_bytes (Some x)) (λ x. length-number_bytes (Some x)) numbers
 
 pub numbers_again : (numbers : List ℤ) → AllByRecursion (FitsSigned w64) numbers → map number_of (map (λ x. number_bytes (Some x)) numbers) ≡ numbers
 numbers_again [] fits = refl

@@ -1,20 +1,13 @@
 -- Numbers of which none is missing.
 use Rattle.std.specs.Prelude.{◌≡◌, ℕ, ◌+◌, ◌*◌, ℤ, List, ◌∷◌, length, map, take, drop, Some}
-use Rattle.std.specs.Int.{w32, w64, to_le_bytes, from_le_bytes, cast_signed}
+use Rattle.std.specs.Int.{w32, to_le_bytes}
 use Rattle.std.specs.Simd.{first_chunks}
 use Rattle.far_codec.specs.FarForm.{ints_form}
+use Rattle.far_codec.specs.Reading.{count_in, number_of}
 
 -- their far form
 abbrev pub plain_form : List ℤ → List ℕ
 plain_form numbers = ints_form (map Some numbers)
-
--- the number that eight bytes are
-unfoldable pub number_of : List ℕ → ℤ
-number_of bytes = cast_signed w64 (from_le_bytes w64 bytes)
-
--- how many values the head of a form counts
-abbrev pub count_in : List ℕ → ℕ
-count_in bytes = from_le_bytes w32 (drop 2 bytes)
 
 -- the numbers that stand behind a head without a mask
 abbrev pub plain_meaning : List ℕ → List ℤ

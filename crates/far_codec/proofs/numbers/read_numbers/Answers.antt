@@ -1,7 +1,7 @@
 use Rattle.std.proofs.Common.{rules}
 use Rattle.std.proofs.lemmas.Iterator.{YieldsList-from_map, YieldsList-from_slice}
 use Rattle.std.proofs.lemmas.Iterator.Adapters.{items_from_extend}
-use Rattle.far_codec.specs.PlainNumbers.{number_of}
+use Rattle.far_codec.specs.Reading.{number_of}
 use Rattle.far_codec.proofs.numbers.read_numbers.Goals as goal
 
 pub returns : goal.returns

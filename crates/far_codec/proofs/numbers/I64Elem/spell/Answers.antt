@@ -10,7 +10,7 @@ pub returns-clause-spelled : goal.returns-clause-spelled
 returns-clause-spelled c =
     let head : c.extend_from_slice-2.new.self.items ≡ 1 ∷ 0 ∷ to_le_bytes w32 (length c.args.view.now) = search rules in
     record {
-      range = All-from_recursion (FitsSigned w64) c.args.view.now c.in_ok-push_numbers.ensures.range;
+      range = All-from_recursion (FitsSigned w64) c.args.view.now c.in_ok-push_words.ensures.range;
       has = c.requires;
-      is = c.in_ok-push_numbers.ensures.written ∙ ap (λ (l : List ℕ). l ++ flat_map (λ x. number_bytes (Some x)) c.args.view.now) head ∙ sym (plain_form_is c.args.view.now);
+      is = c.in_ok-push_words.ensures.written ∙ ap (λ (l : List ℕ). l ++ flat_map (λ x. number_bytes (Some x)) c.args.view.now) head ∙ sym (plain_form_is c.args.view.now);
     }

@@ -1,7 +1,8 @@
 use Rattle.std.proofs.Common.{ℕ, List, map, FitsSigned, ap, ◌∙◌, arith}
 use Rattle.std.specs.Int.{w64}
 use Rattle.std.proofs.lemmas.List.Elements.{All-from_recursion}
-use Rattle.far_codec.specs.PlainNumbers.{plain_form, number_of}
+use Rattle.far_codec.specs.PlainNumbers.{plain_form}
+use Rattle.far_codec.specs.Reading.{number_of}
 use Rattle.far_codec.specs.PlainLaws.{numbers_again}
 use Rattle.far_codec.proofs.PlainWords.{plain_found, IsBytes}
 use Rattle.far_codec.proofs.numbers.I64Elem.spells.Goals as goal

@@ -2,7 +2,8 @@ use Rattle.std.proofs.Common.{◌≡◌, map, FitsSigned, Some, sym, ap, ◌∙�
 use Rattle.std.specs.Int.{w64}
 use Rattle.std.proofs.lemmas.List.{length-map}
 use Rattle.std.proofs.lemmas.List.Elements.{All-from_recursion, recursion_from_All}
-use Rattle.far_codec.specs.PlainNumbers.{plain_form, number_of}
+use Rattle.far_codec.specs.PlainNumbers.{plain_form}
+use Rattle.far_codec.specs.Reading.{number_of}
 use Rattle.far_codec.specs.PlainLaws.{numbers_again}
 use Rattle.far_codec.proofs.PlainWords.{plain_found, all_fit, IsBytes}
 use Rattle.far_codec.proofs.numbers.I64Elem.unspell.Goals as goal
