@@ -13,7 +13,7 @@ lowest-first f fs n takes = rw takes (rw (lt-ltb 0 (suc (length fs)) (omega arit
 
 lowest-later : (f : ℕ) (fs : List ℕ) (n : ℕ) → nat_le n f ≡ false → lowest_for (f ∷ fs) n ≡ option_map_or (λ i. Some (suc i)) (lowest_for fs n) None
 lowest-later f fs n refuses =
-    let first : ℕ = position_or_len (λ left. nat_le n left) fs in
+    let first : ℕ = position_or_len (λ space. nat_le n space) fs in
     let next : 1 + first ≡ suc first = omega arith in
     rw refuses (elim (cases_lt first (length fs)) [
       | inl lt ↦ rw (lt-ltb (1 + first) (suc (length fs)) (omega arith), lt-ltb first (length fs) lt) (ap Some next)
@@ -22,7 +22,7 @@ lowest-later f fs n refuses =
 
 -- what the first segment takes, the others need not
 abbrev placed : List ℕ → ℕ → List ℕ → ℕ → Bool
-placed lefts n ns i = waiting_fit (slice_set lefts i (slice_index lefts i - n)) ns
+placed spaces n ns i = waiting_fit (slice_set spaces i (slice_index spaces i - n)) ns
 
 pub filled-first : (f : ℕ) (fs ws : List ℕ) → waiting_fit (f ∷ fs) ws ≡ waiting_fit fs (once_filled f ws)
 filled-first f fs [] = refl
@@ -61,21 +61,21 @@ none-left (n ∷ ns) = elim (cases_eq n 0) [
 ]
 
 -- where nothing waits, all is placed
-pub none-waiting : (lefts ws : List ℕ) → list_all (λ len. eqb len 0) ws ≡ true → waiting_fit lefts ws ≡ true
-none-waiting lefts [] h = refl
-none-waiting lefts (n ∷ ns) h = elim (cases_eq n 0) [
-  | inl none ↦ let takes = eq-eqb n 0 none in rw takes (none-waiting lefts ns (rw takes at h))
+pub none-waiting : (spaces ws : List ℕ) → list_all (λ len. eqb len 0) ws ≡ true → waiting_fit spaces ws ≡ true
+none-waiting spaces [] h = refl
+none-waiting spaces (n ∷ ns) h = elim (cases_eq n 0) [
+  | inl none ↦ let takes = eq-eqb n 0 none in rw takes (none-waiting spaces ns (rw takes at h))
   | inr some ↦ let refuses = ne_eqb n 0 some in absurd (let false-true = rw refuses at h in cc)
 ]
 
 -- lengths of lists that are not empty all wait
-pub all-waiting : (lefts ns : List ℕ) → All (λ n. 0 < n) ns → waiting_fit lefts ns ≡ fit_in_order lefts ns
-all-waiting lefts [] h = refl
-all-waiting lefts (n ∷ ns) h =
+pub all-waiting : (spaces ns : List ℕ) → All (λ n. 0 < n) ns → waiting_fit spaces ns ≡ fit_in_order spaces ns
+all-waiting spaces [] h = refl
+all-waiting spaces (n ∷ ns) h =
     let some : 0 < n = h 0 0 (omega arith) in
-    rw (ne_eqb n 0 (λ e. omega arith)) (each (lowest_for lefts n) (λ i. all-waiting (slice_set lefts i (slice_index lefts i - n)) ns (λ k d lt. h (suc k) d (omega arith))))
+    rw (ne_eqb n 0 (λ e. omega arith)) (each (lowest_for spaces n) (λ i. all-waiting (slice_set spaces i (slice_index spaces i - n)) ns (λ k d lt. h (suc k) d (omega arith))))
   where
-    each : (o : Option ℕ) → ((i : ℕ) → waiting_fit (slice_set lefts i (slice_index lefts i - n)) ns ≡ fit_in_order (slice_set lefts i (slice_index lefts i - n)) ns)
-        → option_map_or (placed lefts n ns) o false ≡ option_map_or (λ i. fit_in_order (slice_set lefts i (slice_index lefts i - n)) ns) o false
+    each : (o : Option ℕ) → ((i : ℕ) → waiting_fit (slice_set spaces i (slice_index spaces i - n)) ns ≡ fit_in_order (slice_set spaces i (slice_index spaces i - n)) ns)
+        → option_map_or (placed spaces n ns) o false ≡ option_map_or (λ i. fit_in_order (slice_set spaces i (slice_index spaces i - n)) ns) o false
     each None e = refl
     each (Some i) e = e i

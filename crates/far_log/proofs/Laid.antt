@@ -4,7 +4,7 @@ use Rattle.std.specs.Prelude.{filter, not, slice_range, IsSomeAnd}
 use Rattle.std.proofs.lemmas.Bool.{eq-eqb, ne_eqb, cases_eq, cases_lt}
 use Rattle.std.proofs.lemmas.Option.{same_Some, none-some}
 use Rattle.std.proofs.lemmas.List.{take_all, take_at, drop_all}
-use Rattle.far_log.specs.Room.{Part, SegmentRoom, end_of, fill_from, fill_of, left_in, AreLaid, IsLaid, list_at}
+use Rattle.far_log.specs.Room.{Part, SegmentRoom, end_of, fill_from, fill_of, space_in, AreLaid, IsLaid, list_at}
 use Rattle.far_log.specs.Changes.{with_part, without_part, with_list, written, written_over, overwritten, replaced}
 
 module _ {X : Type 0} where
@@ -31,12 +31,12 @@ module _ {X : Type 0} where
   laid-push from size [] q h le some within = (le, some, within)
   laid-push from size (p ∷ ps) q h le some within = (h.0, h.1, laid-push (end_of p) size ps q h.2 le some within)
 
-  pub laid-with_part : (s : SegmentRoom X) (list : List X) → IsLaid s → 0 < length list → length list ≤ left_in s → IsLaid (with_part s list)
+  pub laid-with_part : (s : SegmentRoom X) (list : List X) → IsLaid s → 0 < length list → length list ≤ space_in s → IsLaid (with_part s list)
   laid-with_part s list h some fits =
       laid-push 0 s.size s.parts record { offset = fill_of s; list = list } h (omega arith) some (omega (arith, fill-le-size 0 s.size s.parts h))
 
-  pub left-with_part : (s : SegmentRoom X) (list : List X) → left_in (with_part s list) ≡ left_in s - length list
-  left-with_part s list = omega (arith, fill-push 0 s.parts record { offset = fill_of s; list = list })
+  pub space-with_part : (s : SegmentRoom X) (list : List X) → space_in (with_part s list) ≡ space_in s - length list
+  space-with_part s list = omega (arith, fill-push 0 s.parts record { offset = fill_of s; list = list })
 
   -- without a part
   laid-filter : (from size : ℕ) (ps : List (Part X)) (test : Part X → Bool) → AreLaid from ps size → AreLaid from (filter test ps) size
@@ -192,3 +192,10 @@ module _ {X : Type 0} where
   whole-range o xs lent e h =
       let is : lent ≡ slice_range xs 0 (length xs) = rw e at h in
       e ∙ ap Some (sym (is ∙ take_all (length xs - 0) xs (omega arith)))
+
+  -- no part begins behind the segment
+  pub no-list-behind : (from size : ℕ) (ps : List (Part X)) (offset : ℕ) → AreLaid from ps size → size ≤ offset → list_at ps offset ≡ None
+  no-list-behind from size [] offset h le = refl
+  no-list-behind from size (p ∷ ps) offset h le =
+      let within = from-le-fill (end_of p) size ps h.2 in
+      rw (ne_eqb p.offset offset (λ e. omega (arith, within, fill-le-size (end_of p) size ps h.2, h.1))) (no-list-behind (end_of p) size ps offset h.2 le)

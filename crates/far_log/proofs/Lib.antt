@@ -8,4 +8,5 @@ pub mod RoomLaws
 pub mod Gathers
 pub mod Halves
 pub mod Fits
+pub mod Distinct
 pub mod Compactions

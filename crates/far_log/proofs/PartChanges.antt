@@ -6,7 +6,7 @@ use Rattle.std.proofs.lemmas.List.Elements.{filter-append}
 use Rattle.std.specs.Prelude.{filter, sum_by}
 use Rattle.std.proofs.lemmas.List.Sums.{sum_by-cons, sum_by_push}
 use Rattle.far_log.specs.declared.slots.Slot.{Slot}
-use Rattle.far_log.specs.Room.{Part, SegmentRoom, left_in}
+use Rattle.far_log.specs.Room.{Part, SegmentRoom, space_in}
 use Rattle.far_log.specs.Storage.{AreLined, slots_end, EndsLive, part_in, parts_in, IsStored}
 use Rattle.far_log.specs.Changes.{with_part}
 use Rattle.far_log.proofs.StoredParts.{head-within, begin-le-end, length-part, stored-fill}
@@ -97,8 +97,8 @@ module _ {X : Type 0} where
       }
 
   -- how much is left behind the last part
-  pub left-is : (items : List X) (ss : List Slot) (used size capacity : ℕ) (s : SegmentRoom X) → IsStored items ss used size capacity → record { parts = parts_in items ss; size = size } ≡ s → left_in s ≡ size - length items
-  left-is items ss used size capacity s h e = ap left_in (sym e) ∙ ap (λ n. size - n) (stored-fill items ss used size capacity h)
+  pub space-is : (items : List X) (ss : List Slot) (used size capacity : ℕ) (s : SegmentRoom X) → IsStored items ss used size capacity → record { parts = parts_in items ss; size = size } ≡ s → space_in s ≡ size - length items
+  space-is items ss used size capacity s h e = ap space_in (sym e) ∙ ap (λ n. size - n) (stored-fill items ss used size capacity h)
 
 module _ {X : Type 0} where
   -- what a segment shows

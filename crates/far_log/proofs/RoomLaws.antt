@@ -8,9 +8,9 @@ use Rattle.std.proofs.Common.{replicate, zero, suc}
 use Rattle.std.proofs.lemmas.List.{length-replicate}
 use Rattle.std.proofs.lemmas.List.Elements.{All-set, All-get_or, All-replicate}
 use Rattle.far_pointer.specs.declared.pointer.At.{At}
-use Rattle.far_log.specs.Room.{SegmentRoom, Room, fill_of, left_in, IsLaid, list_at, segment_of, part_of, lefts_of, target_of, IsRegion}
+use Rattle.far_log.specs.Room.{SegmentRoom, Room, fill_of, space_in, IsLaid, list_at, segment_of, part_of, spaces_of, target_of, IsRegion}
 use Rattle.far_log.specs.Changes.{ChangesOnly, WritesPart, with_segment, with_part, with_list, written_at, with_list_at}
-use Rattle.far_log.proofs.Laid.{ChangesList, left-with_part, laid-with_part, changes-placed, changes-replaced, no-list-at-fill, written-one}
+use Rattle.far_log.proofs.Laid.{ChangesList, space-with_part, laid-with_part, changes-placed, changes-replaced, no-list-at-fill, no-list-behind, written-one}
 
 -- a location is its two numbers
 same-at : (q at : At) → q.segment ≡ at.segment → q.offset ≡ at.offset → q ≡ at
@@ -68,23 +68,23 @@ module _ {X : Type 0} (room : Room X) where
   ]
 
   -- the segment that is picked for a list takes it
-  pub target-takes : (n i : ℕ) → target_of room n ≡ Some i → (i < length room) × (n ≤ left_in (segment_of room i))
+  pub target-takes : (n i : ℕ) → target_of room n ≡ Some i → (i < length room) × (n ≤ space_in (segment_of room i))
   target-takes n i e =
-      let found = position-Some (λ left. nat_le n left) (map left_in room) i 0 e in
-      let lt : i < length room = omega (arith, found.0, length-map room left_in) in
-      let at : get_or (map left_in room) i 0 ≡ left_in (segment_of room i) = get_or-map left_in room i _ 0 lt in
-      (lt, leb-true n (left_in (segment_of room i)) (rw at at found.1))
+      let found = position-Some (λ space. nat_le n space) (map space_in room) i 0 e in
+      let lt : i < length room = omega (arith, found.0, length-map room space_in) in
+      let at : get_or (map space_in room) i 0 ≡ space_in (segment_of room i) = get_or-map space_in room i _ 0 lt in
+      (lt, leb-true n (space_in (segment_of room i)) (rw at at found.1))
 
   -- how much is left in each segment after a placement
-  pub lefts-placed : (i : ℕ) (list : List X) → i < length room → lefts_of (with_segment room i (with_part (segment_of room i) list)) ≡ slice_set (lefts_of room) i (slice_index (lefts_of room) i - length list)
-  lefts-placed i list lt =
-      let at : get_or (map left_in room) i 0 ≡ left_in (segment_of room i) = get_or-map left_in room i _ 0 lt in
-      map-set left_in room i (with_part (segment_of room i) list) ∙ ap (slice_set (map left_in room) i) (left-with_part (segment_of room i) list ∙ ap (λ n. n - length list) (sym at))
+  pub spaces-placed : (i : ℕ) (list : List X) → i < length room → spaces_of (with_segment room i (with_part (segment_of room i) list)) ≡ slice_set (spaces_of room) i (slice_index (spaces_of room) i - length list)
+  spaces-placed i list lt =
+      let at : get_or (map space_in room) i 0 ≡ space_in (segment_of room i) = get_or-map space_in room i _ 0 lt in
+      map-set space_in room i (with_part (segment_of room i) list) ∙ ap (slice_set (map space_in room) i) (space-with_part (segment_of room i) list ∙ ap (λ n. n - length list) (sym at))
 
   -- a list is placed in the segment that is picked for it
   pub record Places (at : At) (list : List X) : Type 0 where
     pub within : at.segment < length room
-    pub fits : length list ≤ left_in (segment_of room at.segment)
+    pub fits : length list ≤ space_in (segment_of room at.segment)
     pub region : IsRegion (with_segment room at.segment (with_part (segment_of room at.segment) list))
     pub free : part_of room at ≡ None
     pub change : ChangesOnly room (with_segment room at.segment (with_part (segment_of room at.segment) list)) at (Some list)
@@ -149,3 +149,14 @@ region-new {X} (suc n) size le =
       even = All-replicate (λ s. s.size ≡ size) (suc n) empty refl;
       laid = All-replicate IsLaid (suc n) empty (omega arith);
     }
+
+-- parts begin within their segment, and all segments are as long as the first
+pub below-size : {X : Type 0} (room : Room X) (number offset : ℕ) → IsRegion room → IsSome (list_at (segment_of room number).parts offset) → offset < (segment_of room 0).size
+below-size room number offset h some =
+    let lt = part-there room record { segment = number; offset = offset } some in
+    elim (cases_lt offset (segment_of room 0).size) [
+      | inl under ↦ under
+      | inr over ↦
+        let none = no-list-behind 0 (segment_of room number).size (segment_of room number).parts offset (laid-segment room number h lt) (omega (arith, even-sizes room number h lt)) in
+        absurd (let never = rw none at some in cc)
+    ]

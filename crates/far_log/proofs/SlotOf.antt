@@ -1,7 +1,7 @@
 -- The slot in which the part lies that begins at an offset.
 use Rattle.std.proofs.Common.{◌≡◌, ℕ, zero, suc, ◌+◌, ◌<◌, ◌≤◌, Bool, true, false, List, [], ◌∷◌, length, get_or, take, drop, map, Some, IsSome, cond, eqb, refl, ap, ◌∙◌, arith}
 use Rattle.std.specs.Prelude.{filter, slice_get}
-use Rattle.std.proofs.lemmas.Bool.{eqb-true}
+use Rattle.std.proofs.lemmas.Bool.{eqb-true, eq-eqb}
 use Rattle.std.proofs.lemmas.Option.{slice_get_within, get_or_from_slice_get}
 use Rattle.far_log.specs.declared.slots.Slot.{Slot}
 use Rattle.far_log.specs.Room.{list_at}
@@ -49,6 +49,19 @@ module _ {X : Type 0} (items : List X) where
   slot-in-table ss offset i h only =
       let found = some-slot ss offset h in
       omega (arith, only found.0 found.1.0 found.1.1.here found.1.1.begins, slice_get_within ss found.0 found.1.0 found.1.1.here)
+
+  -- a slot with a part shows it
+  live-step : (s : Slot) (ss : List Slot) (offset : ℕ) (live here : Bool) → s.live ≡ live → eqb s.offset offset ≡ here → IsSome (list_at (parts_in items ss) offset) → IsSome (list_at (parts_in items (s ∷ ss)) offset)
+  live-step s ss offset true true l e h = rw l (rw e refl)
+  live-step s ss offset true false l e h = rw l (rw e h)
+  live-step s ss offset false here l e h = rw l h
+
+  pub live-shows : (ss : List Slot) (offset i : ℕ) (s : Slot) → slice_get ss i ≡ Some s → s.live ≡ true → s.offset ≡ offset → IsSome (list_at (parts_in items ss) offset)
+  live-shows [] offset i s e live at = absurd (cc)
+  live-shows (t ∷ ss) offset zero s e live at =
+      let same : t ≡ s = cc in
+      rw (ap (λ (u : Slot). u.live) same ∙ live) (rw (eq-eqb t.offset offset (ap (λ (u : Slot). u.offset) same ∙ at)) refl)
+  live-shows (t ∷ ss) offset (suc i) s e live at = live-step t ss offset t.live (eqb t.offset offset) refl refl (live-shows ss offset i s e live at)
 
 -- a slot ends within its table
 pub slot-within : (from : ℕ) (ss : List Slot) (i : ℕ) (s : Slot) → AreLined from ss → slice_get ss i ≡ Some s → s.offset + s.len ≤ slots_end from ss

@@ -31,9 +31,9 @@ module _ {X : Type 0} where
   abbrev pub fill_of : SegmentRoom X → ℕ
   fill_of s = fill_from 0 s.parts
 
-  -- how many elements a segment takes behind its fill
-  abbrev pub left_in : SegmentRoom X → ℕ
-  left_in s = s.size - fill_of s
+  -- the space of a segment: how many elements it takes behind its fill
+  abbrev pub space_in : SegmentRoom X → ℕ
+  space_in s = s.size - fill_of s
 
   -- the lengths of a segment's parts together
   abbrev pub used_in : SegmentRoom X → ℕ
@@ -65,24 +65,24 @@ module _ {X : Type 0} where
   abbrev pub used_of : Room X → ℕ
   used_of room = sum_by used_in room
 
-  -- how many elements each segment takes behind its fill
-  abbrev pub lefts_of : Room X → List ℕ
-  lefts_of room = map left_in room
+  -- the space of each segment
+  abbrev pub spaces_of : Room X → List ℕ
+  spaces_of room = map space_in room
 
--- the lowest segment that takes n elements, where so many are left in each
+-- the lowest segment that takes n elements, where each has so much space
 abbrev pub lowest_for : List ℕ → ℕ → Option ℕ
-lowest_for lefts n = position (λ left. nat_le n left) lefts
+lowest_for spaces n = position (λ space. nat_le n space) spaces
 
 -- whether lists of these lengths can be placed one after the other, each in the lowest segment that takes it
 abbrev pub fit_in_order : List ℕ → List ℕ → Bool
-fit_in_order lefts [] = true
-fit_in_order lefts (n ∷ ns) =
-    option_map_or (λ i. fit_in_order (slice_set lefts i (slice_index lefts i - n)) ns) (lowest_for lefts n) false
+fit_in_order spaces [] = true
+fit_in_order spaces (n ∷ ns) =
+    option_map_or (λ i. fit_in_order (slice_set spaces i (slice_index spaces i - n)) ns) (lowest_for spaces n) false
 
 module _ {X : Type 0} where
-  -- the segment that takes a list of n elements: the lowest that has so many left
+  -- the segment that takes a list of n elements: the lowest that has the space
   abbrev pub target_of : Room X → ℕ → Option ℕ
-  target_of room n = lowest_for (lefts_of room) n
+  target_of room n = lowest_for (spaces_of room) n
 
   -- whether some segment takes a list of n elements
   abbrev pub fits_in : Room X → ℕ → Bool

@@ -3,11 +3,11 @@ ghost use Rattle.std.specs.Prelude.{◌≡◌, ◌==◌};
 ghost use Rattle.std.specs.List.{list_all};
 ghost use Rattle.far_log.specs.Fitting.{once_filled};
 
-/// Gives what is left in a segment to the lengths that wait, in their order: each that it takes is then 0.
-pub fn fill(left: usize, waiting: &mut [usize])
-    ensures { waiting.new ≡ once_filled left waiting.old }
+/// Gives the space of a segment to the lengths that wait, in their order: each that it takes is then 0.
+pub fn fill(space: usize, waiting: &mut [usize])
+    ensures { waiting.new ≡ once_filled space waiting.old }
 {
-    let mut free = left;
+    let mut free = space;
     for len in waiting.iter_mut() {
         if *len <= free {
             free -= *len;

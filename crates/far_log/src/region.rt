@@ -1,7 +1,7 @@
 // The local region.
 ghost use Rattle.std.specs.Prelude.{◌≡◌, ◌≢◌, ℕ, ◌+◌, ◌-◌, ◌<◌, ◌≤◌, ◌^◌, ◌↔◌, ◌⊎◌, List, [], ◌++◌, length, take, drop, replicate, true, false, Some, IsSome, IsSomeAnd, IsTrue, IfOk, IfErr, IfSome, OnOk, OnErr, IfNone, IsErrOf, slice_index, slice_range, slice_set, All};
 ghost use Rattle.std.specs.Borrow.{sem};
-ghost use Rattle.far_log.specs.Room.{part_of, used_of, lefts_of, fits_in, target_of, fit_in_order, segment_of, IsRegion};
+ghost use Rattle.far_log.specs.Room.{part_of, used_of, spaces_of, fits_in, target_of, fit_in_order, segment_of, IsRegion};
 ghost use Rattle.far_log.specs.Changes.{ChangesOnly, WritesPart, written_at, IsPlaced, IsEmptyOther, HasNoEmptyOther, IsOrder, Compacts, with_segment, without_part};
 
 use super::compaction::{Moved, move_segment};
@@ -13,7 +13,11 @@ use far_types::Refusal;
 use std::alloc::Global;
 use std::marker::Model;
 
-/// Parts of elements in segments, which lie one behind the other as in a log.
+/// Parts of elements in segments, after the log-structured local memory of AIFM (Ruan et al., OSDI 2020).
+///
+/// A part is a list of elements that is not empty and lies in one segment, in one piece. A segment's fill is where its
+/// last part ends, 0 where it has none: it falls when the last part is taken away. A location says the segment and where
+/// in it the part begins, counted in elements.
 #[derive(Drop)]
 pub struct Region<T> {
     segments: Vec<Segment<T>>,
@@ -32,7 +36,10 @@ impl<T> Model for Region<T> {
 }
 
 impl<T: Elem> Region<T> {
-    /// A region of so many segments, each for `size` elements, without parts. Refused with `NoMemory` (1) alone.
+    /// A region of so many segments, each for `size` elements, without parts.
+    ///
+    /// All memory for elements is taken here. It is reserved and not written, so that it costs what is used of it.
+    /// Refused with `NoMemory` (1) alone.
     pub fn new(alloc: Global, segments: u32, size: u32) -> Result<Region<T>, Refusal>
         requires { segments ≤ 65536 }
         ensures empty { IfOk result (λ region. region ≡ replicate segments record { parts = []; size = size }) }
@@ -46,18 +53,18 @@ impl<T: Elem> Region<T> {
         Ok(Region { segments: made })
     }
 
-    /// The number of the lowest segment that takes a list of `len` elements.
+    // The number of the lowest segment that has the space for a list of `len` elements.
     fn target(&self, len: usize) -> Option<usize>
         ensures lowest { result ≡ target_of self.now len }
         ensures sound { IsRegion self.now }
     {
         self.segments
             .iter()
-            .map(|segment| segment.left())
-            .position(|left| len <= left)
+            .map(|segment| segment.space())
+            .position(|space| len <= space)
     }
 
-    /// Whether some segment takes a list of `len` elements.
+    /// Whether some segment has the space for a list of `len` elements behind its fill. Takes no memory.
     pub fn fits(&self, len: usize) -> bool
         ensures fits { result ≡ fits_in self.now len }
         ensures sound { IsRegion self.now }
@@ -65,11 +72,15 @@ impl<T: Elem> Region<T> {
         self.target(len).is_some()
     }
 
-    /// Whether lists of these lengths can be placed one after the other.
+    /// Whether lists of these lengths, none of them empty and at most 16, can be placed one after the other. Takes no
+    /// memory and places nothing.
+    ///
+    /// Each list goes to the lowest segment that has the space. So the lists that go to a segment can be told from that
+    /// segment alone, and the segments are gone through once.
     pub fn fits_in_order(&self, lens: &[usize]) -> bool
         requires few { length lens.now ≤ 16 }
         requires some { All (λ len. 0 < len) lens.now }
-        ensures { result ≡ fit_in_order (lefts_of self.now) lens.now }
+        ensures { result ≡ fit_in_order (spaces_of self.now) lens.now }
     {
         let mut room = [0; 16];
         let waiting = &mut room[..lens.len()];
@@ -78,12 +89,12 @@ impl<T: Elem> Region<T> {
             if none_waits(waiting) {
                 return true;
             }
-            fill(segment.left(), waiting);
+            fill(segment.space(), waiting);
         }
         none_waits(waiting)
     }
 
-    /// The lengths of all parts together.
+    /// The lengths of all parts together, in elements. Takes no memory.
     pub fn used(&self) -> u64
         ensures { result ≡ used_of self.now }
     {
@@ -93,7 +104,26 @@ impl<T: Elem> Region<T> {
             .sum()
     }
 
-    /// The list that lies at a location.
+    /// For how many elements each segment is made; 0 where there is no segment. Takes no memory.
+    pub fn size(&self) -> u32
+        ensures size { result ≡ (segment_of self.now 0).size }
+        ensures sound { IsRegion self.now }
+    {
+        match self.segments.first() {
+            Some(segment) => segment.size(),
+            None => 0,
+        }
+    }
+
+    /// Whether a part begins at a location. Takes no memory.
+    pub fn holds(&self, at: At) -> bool
+        ensures { IsTrue result ↔ IsSome (part_of self.now at) }
+    {
+        let number = at.segment as usize;
+        number < self.segments.len() && self.segments[number].holds(at.offset)
+    }
+
+    /// The part at a location, lent in place. Takes no memory.
     pub fn part(&self, at: At) -> &[T]
         requires { IsSome (part_of self.now at) }
         ensures { part_of self.now at ≡ Some result.now }
@@ -101,7 +131,7 @@ impl<T: Elem> Region<T> {
         self.segments[at.segment as usize].part(at.offset)
     }
 
-    /// Takes the part away that lies at a location.
+    /// Takes the part at a location away, and moves no other. Takes no memory.
     pub fn drop_at(&mut self, at: At)
         requires { IsSome (part_of self.old at) }
         ensures room { self.new ≡ with_segment self.old at.segment (without_part (segment_of self.old at.segment) at.offset) }
@@ -111,13 +141,16 @@ impl<T: Elem> Region<T> {
         self.segments[at.segment as usize].drop_at(at.offset);
     }
 
-    /// Places a list.
+    /// Places a list as a new part in the lowest segment that has the space, at its fill, and answers where it lies.
+    ///
+    /// It takes no memory for elements. Refused with `RegionFull` (17) exactly where `fits` is false, else with `NoMemory`
+    /// (1) alone, where the table of parts cannot grow; then nothing is changed.
     pub fn place(&mut self, items: &[T]) -> Result<At, Refusal>
         requires some { 0 < length items.now }
         ensures placed { IfOk result (λ at. IsPlaced self.old self.new at items.now) }
         ensures free { IfOk result (λ at. part_of self.old at ≡ None) }
         ensures change { IfOk result (λ at. ChangesOnly self.old self.new at (Some items.now)) }
-        ensures left { IfOk result (λ at. lefts_of self.new ≡ slice_set (lefts_of self.old) at.segment (slice_index (lefts_of self.old) at.segment - length items.now)) }
+        ensures space { IfOk result (λ at. spaces_of self.new ≡ slice_set (spaces_of self.old) at.segment (slice_index (spaces_of self.old) at.segment - length items.now)) }
         ensures sound { IsRegion self.new }
         ensures full { IsErrOf result Refusal.RegionFull ↔ (fits_in self.old (length items.now) ≡ false) }
         ensures refused { IfErr result (λ e. (e ≡ Refusal.RegionFull) ⊎ (e ≡ Refusal.NoMemory)) }
@@ -133,7 +166,7 @@ impl<T: Elem> Region<T> {
         })
     }
 
-    /// The lowest segment without parts, other than `from`.
+    // The lowest segment without parts, other than `from`.
     fn empty_other(&self, from: usize) -> Option<usize>
         ensures found { IfSome result (λ to. IsEmptyOther self.now from to) }
         ensures none { IfNone result (HasNoEmptyOther self.now from) }
@@ -146,7 +179,12 @@ impl<T: Elem> Region<T> {
         None
     }
 
-    /// Moves the parts of a segment.
+    /// Moves the parts of segment `from` into the lowest other segment without parts, in the order in which `order`
+    /// lists where they begin, and answers where they lie now. Segment `from` is left without parts.
+    ///
+    /// Reads the one segment while it writes the other, and copies each element once. Refused with `OutOfRange` (14)
+    /// exactly where there is no segment `from`, with `RegionFull` (17) exactly where there is one and no other is without
+    /// parts, else with `NoMemory` (1) alone; then nothing is changed.
     pub fn compact(&mut self, alloc: Global, from: u32, order: &[u32]) -> Result<Moved, Refusal>
         requires { IsOrder (segment_of self.old from).parts order.now }
         ensures compacted { IfOk result (λ moved. Compacts self.old self.new from moved.segment order.now moved.offsets.items) }
@@ -174,27 +212,32 @@ impl<T: Elem> Region<T> {
 impl<T: Elem> Region<T> {
     ghost use Rattle.far_log.specs.Lending.{lends_part};
 
-    /// The list that lies at a location, to be written.
+    /// The part at a location, lent in place to be written. Takes no memory.
+    ///
+    /// What the borrow leaves is the part's list, and no other part changes (`alone`).
     pub fn part_mut(&mut self, at: At) -> &mut [T]
         requires { IsSome (part_of self.old at) }
         ensures* writes_back { sem 𝓛 (lends_part T.row self.entry at 0 result) }
         ensures lent { part_of self.old at ≡ Some result.now }
-        ensures alone { (left : List T) → length left ≡ length result.now → WritesPart self.old (written_at self.old at 0 left) at left }
+        ensures alone { (list : List T) → length list ≡ length result.now → WritesPart self.old (written_at self.old at 0 list) at list }
     {
         let segment = &mut self.segments[at.segment as usize];
         let len = segment.part(at.offset).len();
         segment.range_mut(at.offset, 0, len)
     }
 
-    /// A range of the list that lies at a location, to be written.
+    /// The elements `from` to `to` of the part at a location, lent in place to be written. Takes no memory.
     pub fn range_mut(&mut self, at: At, from: usize, to: usize) -> &mut [T]
         requires ordered { from ≤ to }
         requires within { IsSomeAnd (part_of self.old at) (λ list. to ≤ length list) }
         ensures* writes_back { sem 𝓛 (lends_part T.row self.entry at from result) }
         ensures lent { IsSomeAnd (part_of self.old at) (λ list. result.now ≡ slice_range list from to) }
-        ensures alone { IsSomeAnd (part_of self.old at) (λ list. (left : List T) → length left ≡ to - from → WritesPart self.old (written_at self.old at from left) at (take from list ++ (left ++ drop to list))) }
+        ensures alone { IsSomeAnd (part_of self.old at) (λ list. (range : List T) → length range ≡ to - from → WritesPart self.old (written_at self.old at from range) at (take from list ++ (range ++ drop to list))) }
     {
         let segment = &mut self.segments[at.segment as usize];
         segment.range_mut(at.offset, from, to)
     }
 }
+
+#[cfg(test)]
+mod tests;

@@ -1,7 +1,7 @@
 // A segment of the region.
 ghost use Rattle.std.specs.Prelude.{◌≡◌, ℕ, ◌+◌, ◌-◌, ◌<◌, ◌≤◌, ◌^◌, ◌↔◌, List, [], length, take, drop, map, slice_range, Some, IsSome, IsSomeAnd, IsTrue, IfOk, IfErr, OnOk};
 ghost use Rattle.std.specs.Borrow.{sem};
-ghost use Rattle.far_log.specs.Room.{list_at, fill_of, left_in, used_in, IsLaid};
+ghost use Rattle.far_log.specs.Room.{list_at, fill_of, space_in, used_in, IsLaid};
 ghost use Rattle.far_log.specs.Changes.{with_part, without_part, gathered, IsOrder};
 
 use super::slots::{Slot, end_of, live_len, slot_at};
@@ -47,12 +47,19 @@ impl<T: Copy + Drop> Segment<T> {
     }
 
     /// How many elements it takes behind its last part.
-    pub fn left(&self) -> usize
-        ensures left { result ≡ left_in self.now }
+    pub fn space(&self) -> usize
+        ensures space { result ≡ space_in self.now }
         ensures small { result < 2 ^ 32 }
         ensures laid { IsLaid self.now }
     {
         self.size as usize - self.items.len()
+    }
+
+    /// For how many elements it is made.
+    pub fn size(&self) -> u32
+        ensures { result ≡ self.now.size }
+    {
+        self.size
     }
 
     /// The lengths of its parts together.
@@ -69,6 +76,18 @@ impl<T: Copy + Drop> Segment<T> {
         self.slots.is_empty()
     }
 
+    /// Whether a part begins at an offset.
+    pub fn holds(&self, offset: u32) -> bool
+        ensures { IsTrue result ↔ IsSome (list_at self.now.parts offset) }
+    {
+        let number = slot_at(&self.slots, offset);
+        if number >= self.slots.len() {
+            return false;
+        }
+        let slot = self.slots[number];
+        slot.live && slot.offset == offset
+    }
+
     /// The part that begins at an offset.
     pub fn part(&self, offset: u32) -> &[T]
         requires { IsSome (list_at self.now.parts offset) }
@@ -83,7 +102,7 @@ impl<T: Copy + Drop> Segment<T> {
     /// table of parts cannot grow; it takes no memory for elements.
     pub fn place(&mut self, items: &[T]) -> Result<u32, Refusal>
         requires some { 0 < length items.now }
-        requires fits { length items.now ≤ left_in self.old }
+        requires fits { length items.now ≤ space_in self.old }
         ensures placed { OnOk result (self.new ≡ with_part self.old items.now) }
         ensures offset { IfOk result (λ offset. offset ≡ fill_of self.old) }
         ensures memory { IfErr result (λ e. (e ≡ Refusal.NoMemory) × (self.new ≡ self.old)) }

@@ -1,9 +1,9 @@
 use Rattle.std.proofs.Common.{arith}
 use Rattle.far_log.proofs.StoredParts.{stored-fill, stored-laid}
-use Rattle.far_log.proofs.segment.Segment.left.Goals as goal
+use Rattle.far_log.proofs.segment.Segment.space.Goals as goal
 
-pub returns-clause-left : goal.returns-clause-left
-returns-clause-left g c =
+pub returns-clause-space : goal.returns-clause-space
+returns-clause-space g c =
     let fill = stored-fill c.self.inside.items.items c.self.inside.slots.items _ _ _ c.self.invariant in
     rw (← c.self.view_is, fill) (omega (arith, c.self.inside.items.ok.0))
 
