@@ -157,6 +157,6 @@ below-size room number offset h some =
     elim (cases_lt offset (segment_of room 0).size) [
       | inl under ↦ under
       | inr over ↦
-        let none = no-list-behind 0 (segment_of room number).size (segment_of room number).parts offset (laid-segment room number h lt) (omega (arith, even-sizes room number h lt)) in
-        absurd (let never = rw none at some in cc)
+          let none = no-list-behind 0 (segment_of room number).size (segment_of room number).parts offset (laid-segment room number h lt) (omega (arith, even-sizes room number h lt)) in
+          absurd (let never = rw none at some in cc)
     ]

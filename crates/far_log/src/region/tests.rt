@@ -3,6 +3,8 @@ ghost use Rattle.std.specs.Prelude.{◌≡◌, ◌≢◌, ◌<◌, ◌≤◌, �
 ghost use Rattle.far_log.specs.Room.{part_of, segment_of, list_at};
 ghost use Rattle.far_log.specs.Changes.{ChangesOnly, IsOrder};
 
+mod random;
+
 use super::*;
 use std::test::Fail;
 
@@ -55,7 +57,7 @@ fn are_all<T: Elem>(region: &Region<T>, segment: u16, end: u32, order: &[u32]) -
 }
 
 /// Whether the offsets are those of a segment's parts, each once.
-fn is_order<T: Elem>(region: &Region<T>, segment: u16, order: &[u32]) -> bool
+pub fn is_order<T: Elem>(region: &Region<T>, segment: u16, order: &[u32]) -> bool
     ensures { IsTrue result → IsOrder (segment_of region.now segment).parts order.now }
 {
     if !are_distinct(order) {
@@ -87,19 +89,40 @@ fn a_place_is_full_where_no_segment_has_the_space(rt: HostRuntime) -> Result<(),
 fn a_compaction_moves_what_is_left_of_a_segment(rt: HostRuntime) -> Result<(), Fail> {
     let mut region = Region::<i64>::new(rt.alloc(), 3, 4)?;
     let first = region.place(&[1, 2])?;
-    assert_eq!(rt; first, At { segment: 0, offset: 0 });
-    assert_eq!(rt; region.place(&[3, 4])?, At { segment: 0, offset: 2 });
+    assert_eq!(rt;
+        first,
+        At {
+            segment: 0,
+            offset: 0
+        }
+    );
+    assert_eq!(rt;
+        region.place(&[3, 4])?,
+        At {
+            segment: 0,
+            offset: 2
+        }
+    );
     assert!(rt; region.holds(first));
     region.drop_at(first);
     assert!(rt; is_order(&region, 0, &[2]));
     let moved = region.compact(rt.alloc(), 0, &[2])?;
     assert_eq!(rt; moved.segment, 1);
     assert_eq!(rt; moved.offsets.as_slice(), [0].as_slice());
-    let at = At { segment: 1, offset: 0 };
+    let at = At {
+        segment: 1,
+        offset: 0,
+    };
     assert!(rt; region.holds(at));
     assert_eq!(rt; region.part(at), [3, 4].as_slice());
     assert!(rt; is_order(&region, 0, &[]));
-    assert_eq!(rt; region.place(&[5, 6, 7, 8])?, At { segment: 0, offset: 0 });
+    assert_eq!(rt;
+        region.place(&[5, 6, 7, 8])?,
+        At {
+            segment: 0,
+            offset: 0
+        }
+    );
     Ok(())
 }
 
@@ -110,9 +133,15 @@ fn a_compaction_needs_its_segment_and_another_without_parts(rt: HostRuntime) -> 
     region.place(&[5, 6, 7, 8])?;
     region.place(&[9])?;
     assert!(rt; is_order(&region, 0, &[0]));
-    assert_eq!(rt; region.compact(rt.alloc(), 0, &[0]).err(), Some(Refusal::RegionFull));
+    assert_eq!(rt;
+        region.compact(rt.alloc(), 0, &[0]).err(),
+        Some(Refusal::RegionFull)
+    );
     assert!(rt; is_order(&region, 3, &[]));
-    assert_eq!(rt; region.compact(rt.alloc(), 3, &[]).err(), Some(Refusal::OutOfRange));
+    assert_eq!(rt;
+        region.compact(rt.alloc(), 3, &[]).err(),
+        Some(Refusal::OutOfRange)
+    );
     assert_eq!(rt; region.used(), 9);
     Ok(())
 }
