@@ -1,0 +1,123 @@
+-- The region once the parts of one segment lie in another.
+use Rattle.std.proofs.Common.{◌≡◌, ◌≢◌, ℕ, zero, suc, ◌+◌, ◌<◌, ◌≤◌, List, [], ◌∷◌, ◌++◌, length, get_or, map, Some, IsSome, refl, sym, ap, ◌∙◌, inl, inr, arith}
+use Rattle.std.specs.Prelude.{slice_set, sum_by, Contains}
+use Rattle.far_log.specs.Room.{Part, SegmentRoom, Room, segment_of, list_at, AreLaid, IsRegion}
+use Rattle.far_log.specs.Changes.{gathered, compacted, laid_from, list_or_none, IsOrder, IsEmptyOther, Compacts, with_segment}
+use Rattle.std.proofs.Common.{get_or-set_same, get_or-set_other, length-set, take, drop}
+use Rattle.std.proofs.lemmas.Bool.{eq-eqb, ne_eqb, cases_eq}
+use Rattle.std.proofs.lemmas.List.{take_at}
+use Rattle.std.proofs.lemmas.List.Sums.{sum_by-cons}
+use Rattle.std.proofs.lemmas.List.Elements.{All-get_or}
+use Rattle.far_log.proofs.Gathers.{list-there, lens-le-size, some-list}
+use Rattle.far_log.proofs.RoomLaws.{region-set, laid-segment, even-sizes}
+use Rattle.far_log.proofs.Halves.{set-low-last, set-high-last}
+
+module _ {X : Type 0} (segs low high : Room X) (from to : ℕ) (order : List ℕ) (source target s t : SegmentRoom X)
+    (source_is : source ≡ segment_of segs from) (target_is : target ≡ segment_of segs to) (moved : t ≡ record target { parts = gathered source.parts order }) (emptied : s ≡ record source { parts = [] }) (split : segs ≡ low ++ high) where
+  moved_is : t ≡ record (segment_of segs to) { parts = gathered (segment_of segs from).parts order }
+  moved_is = moved ∙ rw (source_is, target_is) refl
+
+  emptied_is : s ≡ record (segment_of segs from) { parts = [] }
+  emptied_is = emptied ∙ rw source_is refl
+
+  pub moved-up : length low ≡ to → from < to → slice_set low from s ++ slice_set high 0 t ≡ compacted segs from to order
+  moved-up count lt = rw (moved_is, emptied_is) (sym (set-low-last segs low high from to (record (segment_of segs from) { parts = [] }) (record (segment_of segs to) { parts = gathered (segment_of segs from).parts order }) split count lt))
+
+  pub moved-down : length low ≡ from → to < from → slice_set low to t ++ slice_set high 0 s ≡ compacted segs from to order
+  moved-down count lt = rw (moved_is, emptied_is) (sym (set-high-last segs low high to from (record (segment_of segs to) { parts = gathered (segment_of segs from).parts order }) (record (segment_of segs from) { parts = [] }) split count lt))
+
+-- lists that have elements, laid one behind the other
+module _ {X : Type 0} (pick : ℕ → List X) where
+  abbrev laid-at : ℕ → List ℕ → List (Part X)
+  laid-at from order = laid_from from (map pick order)
+
+  abbrev AllFilled : List ℕ → Type 0
+  AllFilled order = (k : ℕ) → k < length order → 0 < length (pick (get_or order k 0))
+
+  begins-at-least : (from : ℕ) (order : List ℕ) (k : ℕ) → k < length order → from ≤ get_or (map (λ p. p.offset) (laid-at from order)) k 0
+  begins-at-least from [] k lt = absurd (omega arith)
+  begins-at-least from (o ∷ os) zero lt = omega arith
+  begins-at-least from (o ∷ os) (suc k) lt = let later = begins-at-least (from + length (pick o)) os k (omega arith) in omega arith
+
+  rest-filled : (o : ℕ) (os : List ℕ) → AllFilled (o ∷ os) → AllFilled os
+  rest-filled o os h = λ k lt. h (suc k) (omega arith)
+
+  laid-picked : (from size : ℕ) (order : List ℕ) → AllFilled order → from + sum_by (λ o. length (pick o)) order ≤ size → AreLaid from (laid-at from order) size
+  laid-picked from size [] h le = omega arith
+  laid-picked from size (o ∷ os) h le =
+      (omega arith, h zero (omega arith), laid-picked (from + length (pick o)) size os (rest-filled o os h) (omega (arith, sum_by-cons (λ n. length (pick n)) o os)))
+
+  picked-at : (from : ℕ) (order : List ℕ) (k : ℕ) → AllFilled order → k < length order → list_at (laid-at from order) (get_or (map (λ p. p.offset) (laid-at from order)) k 0) ≡ Some (pick (get_or order k 0))
+  picked-at from [] k h lt = absurd (omega arith)
+  picked-at from (o ∷ os) zero h lt = rw (eq-eqb from from refl) refl
+  picked-at from (o ∷ os) (suc k) h lt =
+      let some = h zero (omega arith) in
+      let later = begins-at-least (from + length (pick o)) os k (omega arith) in
+      rw (ne_eqb from (get_or (map (λ p. p.offset) (laid-at (from + length (pick o)) os)) k 0) (λ e. omega arith)) (picked-at (from + length (pick o)) os k (rest-filled o os h) (omega arith))
+
+-- where a list lies, a part begins
+some-offset : {X : Type 0} (ps : List (Part X)) (offset : ℕ) → IsSome (list_at ps offset) → Contains (map (λ p. p.offset) ps) offset
+some-offset [] offset some = absurd (cc)
+some-offset (p ∷ ps) offset some =
+    elim (cases_eq p.offset offset) [
+      | inl same ↦ (zero, omega arith, same)
+      | inr other ↦
+          let later = some-offset ps offset (rw (ne_eqb p.offset offset other) at some) in
+          (suc later.0, omega (arith, later.1), later.2)
+    ]
+
+module _ {X : Type 0} (old : Room X) (from to : ℕ) (order : List ℕ) (region : IsRegion old) (there : from < length old) (target : IsEmptyOther old from to) (listed : IsOrder (segment_of old from).parts order) where
+  source : SegmentRoom X
+  source = segment_of old from
+
+  filled : AllFilled (list_or_none (segment_of old from).parts) order
+  filled k lt = some-list 0 (segment_of old from).size (segment_of old from).parts (get_or order k 0) (laid-segment old from region there) (All-get_or (λ o. IsSome (list_at (segment_of old from).parts o)) order k 0 lt listed.listed)
+
+  laid-gathered : AreLaid 0 (gathered (segment_of old from).parts order) (segment_of old to).size
+  laid-gathered =
+      laid-picked (list_or_none (segment_of old from).parts) 0 (segment_of old to).size order filled
+      (omega (arith, lens-le-size (segment_of old from) order (laid-segment old from region there) listed, even-sizes old from region there, even-sizes old to region target.within))
+
+  abbrev filled_room : Room X
+  filled_room = with_segment old to (record (segment_of old to) { parts = gathered (segment_of old from).parts order })
+
+  stays : (number : ℕ) → number ≢ to → segment_of filled_room number ≡ segment_of old number
+  stays number ne = get_or-set_other old to number _ _ ne
+
+  pub compacted-region : IsRegion (compacted old from to order)
+  compacted-region =
+      region-set filled_room from (record (segment_of old from) { parts = [] })
+      (region-set old to (record (segment_of old to) { parts = gathered (segment_of old from).parts order }) region target.within refl laid-gathered)
+      (omega (arith, there, length-set old to (record (segment_of old to) { parts = gathered (segment_of old from).parts order })))
+      (ap (λ s. s.size) (sym (stays from (λ e. target.other (sym e)))))
+      (omega arith)
+
+  at-target : segment_of (compacted old from to order) to ≡ record (segment_of old to) { parts = gathered (segment_of old from).parts order }
+  at-target = get_or-set_other filled_room from to _ _ target.other ∙ get_or-set_same old to _ _ target.within
+
+  at-source : segment_of (compacted old from to order) from ≡ record (segment_of old from) { parts = [] }
+  at-source = get_or-set_same filled_room from _ _ (omega (arith, there, length-set old to (record (segment_of old to) { parts = gathered (segment_of old from).parts order })))
+
+  pub compacts : (new : Room X) (offsets : List ℕ) → new ≡ compacted old from to order → offsets ≡ map (λ p. p.offset) (gathered (segment_of old from).parts order) → Compacts old new from to order offsets
+  compacts new offsets is are = rw (is, are) (record {
+    target = target;
+    room = refl;
+    offsets_are = refl;
+    moved = λ k lt.
+        let o : ℕ = get_or order k 0 in
+        ap (λ s. list_at s.parts (get_or (map (λ p. p.offset) (gathered (segment_of old from).parts order)) k 0)) at-target
+        ∙ picked-at (list_or_none (segment_of old from).parts) 0 order k filled lt
+        ∙ sym (list-there (segment_of old from).parts o (All-get_or (λ n. IsSome (list_at (segment_of old from).parts n)) order k 0 lt listed.listed));
+    only = λ offset some. some-offset (gathered (segment_of old from).parts order) offset (rw at-target at some);
+    emptied = ap (λ s. s.parts) at-source;
+    others = λ number apart other. get_or-set_other filled_room from number _ _ apart ∙ stays number other;
+  })
+
+-- a slice that goes back into its Vec is all that is left
+pub whole-back : {X : Type 0} (n : ℕ) (old new : List X) → n ≡ length new → take n (new ++ drop (length new) old) ≡ new
+whole-back n old new e = take_at new _ n (sym e)
+
+pub length-compacted : {X : Type 0} (old : Room X) (from to : ℕ) (order : List ℕ) → length (compacted old from to order) ≡ length old
+length-compacted old from to order =
+    length-set (with_segment old to (record (segment_of old to) { parts = gathered (segment_of old from).parts order })) from (record (segment_of old from) { parts = [] })
+    ∙ length-set old to (record (segment_of old to) { parts = gathered (segment_of old from).parts order })

@@ -1,0 +1,12 @@
+pub mod StoredParts
+pub mod SlotOf
+pub mod PartChanges
+pub mod PartDrops
+pub mod Writes
+pub mod Laid
+pub mod RoomLaws
+pub mod Gathers
+pub mod Halves
+pub mod Fits
+pub mod Distinct
+pub mod Compactions

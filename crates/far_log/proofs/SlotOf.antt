@@ -1,0 +1,79 @@
+-- The slot in which the part lies that begins at an offset.
+use Rattle.std.proofs.Common.{◌≡◌, ℕ, zero, suc, ◌+◌, ◌<◌, ◌≤◌, Bool, true, false, List, [], ◌∷◌, length, get_or, take, drop, map, Some, IsSome, cond, eqb, refl, ap, ◌∙◌, arith}
+use Rattle.std.specs.Prelude.{filter, slice_get}
+use Rattle.std.proofs.lemmas.Bool.{eqb-true, eq-eqb}
+use Rattle.std.proofs.lemmas.Option.{slice_get_within, get_or_from_slice_get}
+use Rattle.far_log.specs.declared.slots.Slot.{Slot}
+use Rattle.far_log.specs.Room.{list_at}
+use Rattle.far_log.specs.Storage.{AreLined, slots_end, part_in, parts_in}
+use Rattle.far_log.proofs.StoredParts.{begin-le-end}
+
+module _ {X : Type 0} where
+  -- the slot with number i holds the part that begins at an offset
+  pub record IsSlotOf (items : List X) (ss : List Slot) (offset i : ℕ) (s : Slot) : Type 0 where
+    pub here : slice_get ss i ≡ Some s
+    pub live : s.live ≡ true
+    pub begins : s.offset ≡ offset
+    pub shows : list_at (parts_in items ss) offset ≡ Some (take s.len (drop s.offset items))
+
+module _ {X : Type 0} (items : List X) where
+  abbrev Some-slot : List Slot → ℕ → Type 0
+  Some-slot ss offset = (i : ℕ) × ((s : Slot) × IsSlotOf items ss offset i s)
+
+  some-slot-step : (s : Slot) (ss : List Slot) (offset : ℕ) (live here : Bool) → s.live ≡ live → eqb s.offset offset ≡ here
+      → (IsSome (list_at (parts_in items ss) offset) → Some-slot ss offset)
+      → IsSome (list_at (map (part_in items) (cond live (s ∷ filter (λ u. u.live) ss) (filter (λ u. u.live) ss))) offset) → Some-slot (s ∷ ss) offset
+  some-slot-step s ss offset true true l e later h = (0, (s, record { here = refl; live = l; begins = eqb-true s.offset offset e; shows = rw l (rw e refl) }))
+  some-slot-step s ss offset true false l e later h =
+      let r = later (rw e at h) in
+      (suc r.0, (r.1.0, record { here = r.1.1.here; live = r.1.1.live; begins = r.1.1.begins; shows = rw l (rw e r.1.1.shows) }))
+  some-slot-step s ss offset false here l e later h =
+      let r = later h in
+      (suc r.0, (r.1.0, record { here = r.1.1.here; live = r.1.1.live; begins = r.1.1.begins; shows = rw l r.1.1.shows }))
+
+  pub some-slot : (ss : List Slot) (offset : ℕ) → IsSome (list_at (parts_in items ss) offset) → Some-slot ss offset
+  some-slot [] offset h = absurd (cc)
+  some-slot (s ∷ ss) offset h = some-slot-step s ss offset s.live (eqb s.offset offset) refl refl (some-slot ss offset) h
+
+  -- the only slot that begins there
+  pub slot-of : (ss : List Slot) (offset i : ℕ) (s : Slot) → IsSome (list_at (parts_in items ss) offset)
+      → ((k : ℕ) (t : Slot) → slice_get ss k ≡ Some t → t.offset ≡ offset → i ≡ k) → s ≡ get_or ss i s → IsSlotOf items ss offset i s
+  slot-of ss offset i s h only e =
+      let found = some-slot ss offset h in
+      let at : i ≡ found.0 = only found.0 found.1.0 found.1.1.here found.1.1.begins in
+      let is : s ≡ found.1.0 = e ∙ ap (λ k. get_or ss k s) at ∙ get_or_from_slice_get ss found.0 found.1.0 s found.1.1.here in
+      rw (at, is) found.1.1
+
+  pub slot-in-table : (ss : List Slot) (offset i : ℕ) → IsSome (list_at (parts_in items ss) offset)
+      → ((k : ℕ) (t : Slot) → slice_get ss k ≡ Some t → t.offset ≡ offset → i ≡ k) → i < length ss
+  slot-in-table ss offset i h only =
+      let found = some-slot ss offset h in
+      omega (arith, only found.0 found.1.0 found.1.1.here found.1.1.begins, slice_get_within ss found.0 found.1.0 found.1.1.here)
+
+  -- a slot with a part shows it
+  live-step : (s : Slot) (ss : List Slot) (offset : ℕ) (live here : Bool) → s.live ≡ live → eqb s.offset offset ≡ here → IsSome (list_at (parts_in items ss) offset) → IsSome (list_at (parts_in items (s ∷ ss)) offset)
+  live-step s ss offset true true l e h = rw l (rw e refl)
+  live-step s ss offset true false l e h = rw l (rw e h)
+  live-step s ss offset false here l e h = rw l h
+
+  pub live-shows : (ss : List Slot) (offset i : ℕ) (s : Slot) → slice_get ss i ≡ Some s → s.live ≡ true → s.offset ≡ offset → IsSome (list_at (parts_in items ss) offset)
+  live-shows [] offset i s e live at = absurd (cc)
+  live-shows (t ∷ ss) offset zero s e live at =
+      let same : t ≡ s = cc in
+      rw (ap (λ (u : Slot). u.live) same ∙ live) (rw (eq-eqb t.offset offset (ap (λ (u : Slot). u.offset) same ∙ at)) refl)
+  live-shows (t ∷ ss) offset (suc i) s e live at = live-step t ss offset t.live (eqb t.offset offset) refl refl (live-shows ss offset i s e live at)
+
+-- a slot ends within its table
+pub slot-within : (from : ℕ) (ss : List Slot) (i : ℕ) (s : Slot) → AreLined from ss → slice_get ss i ≡ Some s → s.offset + s.len ≤ slots_end from ss
+slot-within from [] i s h e = absurd (cc)
+slot-within from (t ∷ ss) zero s h e =
+    let later = begin-le-end (from + t.len) ss h.2 in let same : t ≡ s = cc in
+    omega (arith, h.0, ap (λ (u : Slot). u.offset) same, ap (λ (u : Slot). u.len) same)
+slot-within from (t ∷ ss) (suc i) s h e = slot-within (from + t.len) ss i s h.2 e
+
+-- the last slot ends where the table does
+pub last-ends : (from : ℕ) (ss : List Slot) (i : ℕ) (s : Slot) → AreLined from ss → length ss ≡ suc i → slice_get ss i ≡ Some s → s.offset + s.len ≡ slots_end from ss
+last-ends from [] i s h n e = absurd (cc)
+last-ends from (t ∷ []) zero s h n e = let same : t ≡ s = cc in omega (arith, h.0, ap (λ (u : Slot). u.offset) same, ap (λ (u : Slot). u.len) same)
+last-ends from (t ∷ (u ∷ ss)) zero s h n e = absurd (omega arith)
+last-ends from (t ∷ ss) (suc i) s h n e = last-ends (from + t.len) ss i s h.2 (omega arith) e

@@ -1,0 +1,5 @@
+pub mod Room
+pub mod Changes
+pub mod Storage
+pub mod Lending
+pub mod Fitting

@@ -1,0 +1,24 @@
+// Whether several lists find room, one after the other.
+ghost use Rattle.std.specs.Prelude.{◌≡◌, ◌==◌};
+ghost use Rattle.std.specs.List.{list_all};
+ghost use Rattle.far_log.specs.Fitting.{once_filled};
+
+/// Gives the space of a segment to the lengths that wait, in their order: each that it takes is then 0.
+pub fn fill(space: usize, waiting: &mut [usize])
+    ensures { waiting.new ≡ once_filled space waiting.old }
+{
+    let mut free = space;
+    for len in waiting.iter_mut() {
+        if *len <= free {
+            free -= *len;
+            *len = 0;
+        }
+    }
+}
+
+/// Whether no length waits.
+pub fn none_waits(waiting: &[usize]) -> bool
+    ensures { result ≡ list_all (λ len. len == 0) waiting.now }
+{
+    waiting.iter().all(|len| *len == 0)
+}

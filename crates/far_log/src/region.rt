@@ -1,0 +1,243 @@
+// The local region.
+ghost use Rattle.std.specs.Prelude.{◌≡◌, ◌≢◌, ℕ, ◌+◌, ◌-◌, ◌<◌, ◌≤◌, ◌^◌, ◌↔◌, ◌⊎◌, List, [], ◌++◌, length, take, drop, replicate, true, false, Some, IsSome, IsSomeAnd, IsTrue, IfOk, IfErr, IfSome, OnOk, OnErr, IfNone, IsErrOf, slice_index, slice_range, slice_set, All};
+ghost use Rattle.std.specs.Borrow.{sem};
+ghost use Rattle.far_log.specs.Room.{part_of, used_of, spaces_of, fits_in, target_of, fit_in_order, segment_of, IsRegion};
+ghost use Rattle.far_log.specs.Changes.{ChangesOnly, WritesPart, written_at, IsPlaced, IsEmptyOther, HasNoEmptyOther, IsOrder, Compacts, with_segment, without_part};
+
+use super::compaction::{Moved, move_segment};
+use super::fitting::{fill, none_waits};
+use super::segment::Segment;
+use far_codec::Elem;
+use far_pointer::At;
+use far_types::Refusal;
+use std::alloc::Global;
+use std::marker::Model;
+
+/// Parts of elements in segments, after the log-structured local memory of AIFM (Ruan et al., OSDI 2020).
+///
+/// A part is a list of elements that is not empty and lies in one segment, in one piece. A segment's fill is where its
+/// last part ends, 0 where it has none: it falls when the last part is taken away. A location says the segment and where
+/// in it the part begins, counted in elements.
+#[derive(Drop)]
+pub struct Region<T> {
+    segments: Vec<Segment<T>>,
+}
+
+impl<T> Model for Region<T> {
+    ghost use Rattle.far_log.specs.Room.{Room};
+
+    ghost Value = { Room T };
+
+    ghost use Rattle.far_log.specs.Room.{IsRegion};
+
+    ghost view = { λ r. r.segments.items };
+
+    ghost invariant = { λ r. IsRegion r.segments.items };
+}
+
+impl<T: Elem> Region<T> {
+    /// A region of so many segments, each for `size` elements, without parts.
+    ///
+    /// All memory for elements is taken here. It is reserved and not written, so that it costs what is used of it.
+    /// Refused with `NoMemory` (1) alone.
+    pub fn new(alloc: Global, segments: u32, size: u32) -> Result<Region<T>, Refusal>
+        requires { segments ≤ 65536 }
+        ensures empty { IfOk result (λ region. region ≡ replicate segments record { parts = []; size = size }) }
+        ensures sound { IfOk result IsRegion }
+        ensures memory { IfErr result (λ e. e ≡ Refusal.NoMemory) }
+    {
+        let mut made = Vec::with_capacity(alloc, segments as usize)?;
+        for _ in 0..segments {
+            made.push(Segment::new(alloc, size)?)?;
+        }
+        Ok(Region { segments: made })
+    }
+
+    // The number of the lowest segment that has the space for a list of `len` elements.
+    fn target(&self, len: usize) -> Option<usize>
+        ensures lowest { result ≡ target_of self.now len }
+        ensures sound { IsRegion self.now }
+    {
+        self.segments
+            .iter()
+            .map(|segment| segment.space())
+            .position(|space| len <= space)
+    }
+
+    /// Whether some segment has the space for a list of `len` elements behind its fill. Takes no memory.
+    pub fn fits(&self, len: usize) -> bool
+        ensures fits { result ≡ fits_in self.now len }
+        ensures sound { IsRegion self.now }
+    {
+        self.target(len).is_some()
+    }
+
+    /// Whether lists of these lengths, none of them empty and at most 16, can be placed one after the other. Takes no
+    /// memory and places nothing.
+    ///
+    /// Each list goes to the lowest segment that has the space. So the lists that go to a segment can be told from that
+    /// segment alone, and the segments are gone through once.
+    pub fn fits_in_order(&self, lens: &[usize]) -> bool
+        requires few { length lens.now ≤ 16 }
+        requires some { All (λ len. 0 < len) lens.now }
+        ensures { result ≡ fit_in_order (spaces_of self.now) lens.now }
+    {
+        let mut room = [0; 16];
+        let waiting = &mut room[..lens.len()];
+        waiting.copy_from_slice(lens);
+        for segment in &self.segments {
+            if none_waits(waiting) {
+                return true;
+            }
+            fill(segment.space(), waiting);
+        }
+        none_waits(waiting)
+    }
+
+    /// The lengths of all parts together, in elements. Takes no memory.
+    pub fn used(&self) -> u64
+        ensures { result ≡ used_of self.now }
+    {
+        self.segments
+            .iter()
+            .map(|segment| segment.used() as u64)
+            .sum()
+    }
+
+    /// For how many elements each segment is made; 0 where there is no segment. Takes no memory.
+    pub fn size(&self) -> u32
+        ensures size { result ≡ (segment_of self.now 0).size }
+        ensures sound { IsRegion self.now }
+    {
+        match self.segments.first() {
+            Some(segment) => segment.size(),
+            None => 0,
+        }
+    }
+
+    /// Whether a part begins at a location. Takes no memory.
+    pub fn holds(&self, at: At) -> bool
+        ensures { IsTrue result ↔ IsSome (part_of self.now at) }
+    {
+        let number = at.segment as usize;
+        number < self.segments.len() && self.segments[number].holds(at.offset)
+    }
+
+    /// The part at a location, lent in place. Takes no memory.
+    pub fn part(&self, at: At) -> &[T]
+        requires { IsSome (part_of self.now at) }
+        ensures { part_of self.now at ≡ Some result.now }
+    {
+        self.segments[at.segment as usize].part(at.offset)
+    }
+
+    /// Takes the part at a location away, and moves no other. Takes no memory.
+    pub fn drop_at(&mut self, at: At)
+        requires { IsSome (part_of self.old at) }
+        ensures room { self.new ≡ with_segment self.old at.segment (without_part (segment_of self.old at.segment) at.offset) }
+        ensures change { ChangesOnly self.old self.new at None }
+        ensures sound { IsRegion self.new }
+    {
+        self.segments[at.segment as usize].drop_at(at.offset);
+    }
+
+    /// Places a list as a new part in the lowest segment that has the space, at its fill, and answers where it lies.
+    ///
+    /// It takes no memory for elements. Refused with `RegionFull` (17) exactly where `fits` is false, else with `NoMemory`
+    /// (1) alone, where the table of parts cannot grow; then nothing is changed.
+    pub fn place(&mut self, items: &[T]) -> Result<At, Refusal>
+        requires some { 0 < length items.now }
+        ensures placed { IfOk result (λ at. IsPlaced self.old self.new at items.now) }
+        ensures free { IfOk result (λ at. part_of self.old at ≡ None) }
+        ensures change { IfOk result (λ at. ChangesOnly self.old self.new at (Some items.now)) }
+        ensures space { IfOk result (λ at. spaces_of self.new ≡ slice_set (spaces_of self.old) at.segment (slice_index (spaces_of self.old) at.segment - length items.now)) }
+        ensures sound { IsRegion self.new }
+        ensures full { IsErrOf result Refusal.RegionFull ↔ (fits_in self.old (length items.now) ≡ false) }
+        ensures refused { IfErr result (λ e. (e ≡ Refusal.RegionFull) ⊎ (e ≡ Refusal.NoMemory)) }
+        ensures err { OnErr result (self.new ≡ self.old) }
+    {
+        let Some(number) = self.target(items.len()) else {
+            return Err(Refusal::RegionFull);
+        };
+        let offset = self.segments[number].place(items)?;
+        Ok(At {
+            segment: number as u16,
+            offset,
+        })
+    }
+
+    // The lowest segment without parts, other than `from`.
+    fn empty_other(&self, from: usize) -> Option<usize>
+        ensures found { IfSome result (λ to. IsEmptyOther self.now from to) }
+        ensures none { IfNone result (HasNoEmptyOther self.now from) }
+    {
+        for (number, segment) in self.segments.iter().enumerate() {
+            if number != from && segment.is_empty() {
+                return Some(number);
+            }
+        }
+        None
+    }
+
+    /// Moves the parts of segment `from` into the lowest other segment without parts, in the order in which `order`
+    /// lists where they begin, and answers where they lie now. Segment `from` is left without parts.
+    ///
+    /// Reads the one segment while it writes the other, and copies each element once. Refused with `OutOfRange` (14)
+    /// exactly where there is no segment `from`, with `RegionFull` (17) exactly where there is one and no other is without
+    /// parts, else with `NoMemory` (1) alone; then nothing is changed.
+    pub fn compact(&mut self, alloc: Global, from: u32, order: &[u32]) -> Result<Moved, Refusal>
+        requires { IsOrder (segment_of self.old from).parts order.now }
+        ensures compacted { IfOk result (λ moved. Compacts self.old self.new from moved.segment order.now moved.offsets.items) }
+        ensures sound { IsRegion self.new }
+        ensures missing { IsErrOf result Refusal.OutOfRange ↔ (length self.old ≤ from) }
+        ensures full { IsErrOf result Refusal.RegionFull ↔ ((from < length self.old) × HasNoEmptyOther self.old from) }
+        ensures refused { IfErr result (λ e. (e ≡ Refusal.OutOfRange) ⊎ ((e ≡ Refusal.RegionFull) ⊎ (e ≡ Refusal.NoMemory))) }
+        ensures err { OnErr result (self.new ≡ self.old) }
+    {
+        let from = from as usize;
+        if from >= self.segments.len() {
+            return Err(Refusal::OutOfRange);
+        }
+        let Some(to) = self.empty_other(from) else {
+            return Err(Refusal::RegionFull);
+        };
+        let offsets = move_segment(alloc, &mut self.segments, from, to, order)?;
+        Ok(Moved {
+            segment: to as u16,
+            offsets,
+        })
+    }
+}
+
+impl<T: Elem> Region<T> {
+    ghost use Rattle.far_log.specs.Lending.{lends_part};
+
+    /// The part at a location, lent in place to be written. Takes no memory.
+    ///
+    /// What the borrow leaves is the part's list, and no other part changes (`alone`).
+    pub fn part_mut(&mut self, at: At) -> &mut [T]
+        requires { IsSome (part_of self.old at) }
+        ensures* writes_back { sem 𝓛 (lends_part T.row self.entry at 0 result) }
+        ensures lent { part_of self.old at ≡ Some result.now }
+        ensures alone { (list : List T) → length list ≡ length result.now → WritesPart self.old (written_at self.old at 0 list) at list }
+    {
+        let segment = &mut self.segments[at.segment as usize];
+        let len = segment.part(at.offset).len();
+        segment.range_mut(at.offset, 0, len)
+    }
+
+    /// The elements `from` to `to` of the part at a location, lent in place to be written. Takes no memory.
+    pub fn range_mut(&mut self, at: At, from: usize, to: usize) -> &mut [T]
+        requires ordered { from ≤ to }
+        requires within { IsSomeAnd (part_of self.old at) (λ list. to ≤ length list) }
+        ensures* writes_back { sem 𝓛 (lends_part T.row self.entry at from result) }
+        ensures lent { IsSomeAnd (part_of self.old at) (λ list. result.now ≡ slice_range list from to) }
+        ensures alone { IsSomeAnd (part_of self.old at) (λ list. (range : List T) → length range ≡ to - from → WritesPart self.old (written_at self.old at from range) at (take from list ++ (range ++ drop to list))) }
+    {
+        let segment = &mut self.segments[at.segment as usize];
+        segment.range_mut(at.offset, from, to)
+    }
+}
+
+#[cfg(test)]
+mod tests;

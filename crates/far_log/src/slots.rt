@@ -1,0 +1,57 @@
+// The table of a segment: where its parts lie, and where parts lay that are gone.
+ghost use Rattle.std.specs.Prelude.{◌≡◌, ℕ, ◌<◌, ◌≤◌, ◌^◌, List, length, take, filter, slice_get, Some};
+ghost use Rattle.far_log.specs.Storage.{AreLined, EndsLive, slots_end};
+
+/// A stretch of a segment that has a part, or had one.
+#[derive(Clone, Copy)]
+pub struct Slot {
+    /// The place in the segment where it begins.
+    pub offset: u32,
+    /// How many elements it has.
+    pub len: u32,
+    /// A part lies there.
+    pub live: bool,
+}
+
+/// The number of the slot that begins at an offset; some number where none does.
+pub fn slot_at(slots: &[Slot], offset: u32) -> usize
+    requires { AreLined 0 slots.now }
+    ensures { (k : ℕ) (s : Slot) → slice_get slots.now k ≡ Some s → s.offset ≡ offset → result ≡ k }
+{
+    let mut low = 0;
+    let mut high = slots.len();
+    while high - low > 1 {
+        let middle = low + (high - low) / 2;
+        if slots[middle].offset <= offset {
+            low = middle;
+        } else {
+            high = middle;
+        }
+    }
+    low
+}
+
+/// How many slots are left once those behind the last part are taken off.
+pub fn live_len(slots: &[Slot]) -> usize
+    ensures within { result ≤ length slots.now }
+    ensures kept { filter (λ s. s.live) (take result slots.now) ≡ filter (λ s. s.live) slots.now }
+    ensures last { EndsLive (take result slots.now) }
+{
+    let mut len = slots.len();
+    while len > 0 && !slots[len - 1].live {
+        len -= 1;
+    }
+    len
+}
+
+/// Where the last of the slots ends.
+pub fn end_of(slots: &[Slot]) -> usize
+    requires lined { AreLined 0 slots.now }
+    requires fits { slots_end 0 slots.now < 2 ^ 32 }
+    ensures { result ≡ slots_end 0 slots.now }
+{
+    match slots.last() {
+        Some(slot) => slot.offset as usize + slot.len as usize,
+        None => 0,
+    }
+}
