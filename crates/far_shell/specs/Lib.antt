@@ -1,3 +1,5 @@
 pub mod Fields
 pub mod Numbers
 pub mod OneRecord
+pub mod Words
+pub mod Commands

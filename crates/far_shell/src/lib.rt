@@ -3,5 +3,7 @@
 //! are printed.
 
 mod field;
+mod command;
 mod number;
 mod record;
+mod words;
