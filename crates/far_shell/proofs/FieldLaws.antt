@@ -1,6 +1,5 @@
 -- Fields, one after the other.
 use Rattle.std.proofs.Common.{◌≡◌, ◌==◌, ℕ, suc, ◌+◌, ◌<◌, ◌∙◌, Bool, true, false, ◌&&◌, zero, List, [], ◌∷◌, ◌++◌, Option, None, Some, not, drop, length, slice_get, append_assoc, refl, sym, ap, arith}
-use Rattle.std.specs.Prelude.{◌||◌}
 use Rattle.std.specs.List.{list_any, slice_split, position_or_len, before_first, after_first}
 use Rattle.std.proofs.lemmas.Bool.{eqb-true}
 use Rattle.std.proofs.lemmas.List.Splits.{slice_split_first}
@@ -9,39 +8,8 @@ use Rattle.far_types.specs.declared.cell.Cell.{Cell}
 use Rattle.far_types.specs.declared.cell.Kind.{Kind}
 use Rattle.far_shell.specs.OneRecord.{one_record, is_comma, is_mark, is_plain}
 use Rattle.far_shell.specs.Fields.{cell_of, cells_from, only_field}
+use Rattle.far_shell.proofs.PartLaws.{last-part}
 use Rattle.far_shell.proofs.PlainRecords.{one_record-plain, one_record-empty}
-
-left : (a b : Bool) → (a || b) ≡ false → a ≡ false
-left false b e = refl
-left true b e = cc e
-
-right : (a b : Bool) → (a || b) ≡ false → b ≡ false
-right false b e = e
-right true b e = cc e
-
--- a list without a comma is one part
-no-comma : (c : ℕ) (cs : List ℕ) → (c == 44) ≡ false → slice_split is_comma cs ≡ cs ∷ [] → slice_split is_comma (c ∷ cs) ≡ (c ∷ cs) ∷ []
-no-comma c cs other rest = rw other (rw rest refl)
-
-pub one-part : (xs : List ℕ) → list_any is_comma xs ≡ false → slice_split is_comma xs ≡ xs ∷ []
-one-part [] h = refl
-one-part (c ∷ cs) h = no-comma c cs (left (c == 44) _ h) (one-part cs (right (c == 44) _ h))
-
--- a first comma that stands at the end of a list is none
-past-end : (n m : ℕ) → 1 + n ≡ suc m → n ≡ m
-past-end n m h = omega (arith, h)
-
-not-there : (m : ℕ) → 0 ≡ suc m → ⊥
-not-there m h = omega (arith, h)
-
-last-part-at : (b : Bool) (c : ℕ) (cs : List ℕ) → (c == 44) ≡ b → position_or_len is_comma (c ∷ cs) ≡ suc (length cs)
-    → (position_or_len is_comma cs ≡ length cs → slice_split is_comma cs ≡ cs ∷ []) → slice_split is_comma (c ∷ cs) ≡ (c ∷ cs) ∷ []
-last-part-at true c cs is h rest = absurd (not-there (length cs) (rw is at h))
-last-part-at false c cs is h rest = no-comma c cs is (rest (past-end (position_or_len is_comma cs) (length cs) (rw is at h)))
-
-pub last-part : (xs : List ℕ) → position_or_len is_comma xs ≡ length xs → slice_split is_comma xs ≡ xs ∷ []
-last-part [] h = refl
-last-part (c ∷ cs) h = last-part-at (c == 44) c cs refl h (last-part cs)
 
 -- cells so far, and those of the fields to come
 pub one-cell-more : (kinds : List Kind) (cells : List Cell) (n : ℕ) (rest : List ℕ) (whole : List Cell) → position_or_len is_comma rest < length rest
@@ -64,7 +32,7 @@ cells-go-on kinds cells n rest whole field others column cell after m parts made
 pub last-cell : (kinds : List Kind) (cells : List Cell) (n : ℕ) (rest : List ℕ) (whole : List Cell) → position_or_len is_comma rest ≡ length rest
     → cells ++ cells_from kinds n (slice_split is_comma rest) ≡ whole
     → cells ++ cell_of (slice_get kinds n) rest ∷ [] ≡ whole
-last-cell kinds cells n rest whole h e = sym (ap (λ (parts : List (List ℕ)). cells ++ cells_from kinds n parts) (last-part rest h)) ∙ e
+last-cell kinds cells n rest whole h e = sym (ap (λ (parts : List (List ℕ)). cells ++ cells_from kinds n parts) (last-part is_comma rest h)) ∙ e
 
 some-same : (f g : List ℕ) → Some f ≡ Some g → f ≡ g
 some-same f g h = cc h

@@ -1,3 +1,7 @@
-pub mod NumberLaws
-pub mod PlainRecords
 pub mod FieldLaws
+pub mod NumberLaws
+pub mod PartLaws
+pub mod PlainRecords
+pub mod WordLaws
+pub mod TestLaws
+pub mod KindLaws

@@ -1,6 +1,5 @@
 -- The commands that lines spell.
-use Rattle.std.specs.Prelude.{ℕ, ◌==◌, Bool, List, [], ◌∷◌, Option, None, Some, option_map, option_and_then, is_none, slice_get, codes, if◌then◌else◌}
-use Rattle.std.specs.Cmp.Lexicographic.{pointwise}
+use Rattle.std.specs.Prelude.{ℕ, List, Option, None, Some, option_map, option_and_then, is_none, slice_get, codes, if◌then◌else◌}
 use Rattle.far_types.specs.declared.cell.Kind.{Kind}
 use Rattle.far_types.specs.declared.edit.Edit.TheVariants as edit
 use Rattle.far_shell.specs.declared.command.Command.{Command}
@@ -8,11 +7,8 @@ use Rattle.far_shell.specs.declared.command.Command.TheVariants as command
 use Rattle.far_shell.specs.declared.command.Verb.{Verb}
 use Rattle.far_shell.specs.declared.command.Verb.TheVariants as verb
 use Rattle.far_shell.specs.Fields.{row_of, lone_cell_of}
-use Rattle.far_shell.specs.Words.{word_of, rest_of, after, number_in, last_number_in}
-
--- whether a word is this one
-abbrev pub reads : List ℕ → List ℕ → Bool
-reads word name = pointwise ◌==◌ word name
+use Rattle.far_shell.specs.Watches.{spec_of}
+use Rattle.far_shell.specs.Words.{word_of, rest_of, after, number_in, last_number_in, reads}
 
 -- the first word of a command
 abbrev pub verb_of : List ℕ → Option Verb
@@ -43,7 +39,22 @@ set_of kinds left =
 abbrev pub scan_of : Option (List ℕ) → Option Command
 scan_of left = option_and_then (λ aggregate. option_map (λ group. command.Scan aggregate group) (last_number_in (after left))) (number_in left)
 
-abbrev pub command_of : ℕ → ℕ
-command_of n = n
-abbrev pub step_of : ℕ → ℕ
-step_of n = n
+-- a command that has one number
+abbrev pub numbered : (ℕ → Command) → Option (List ℕ) → Option Command
+numbered make left = option_map make (last_number_in left)
+
+-- what a verb says with the rest of its line
+abbrev pub command_by : List Kind → Verb → Option (List ℕ) → Option Command
+command_by kinds verb.Insert left = insert_of kinds left
+command_by kinds verb.Set left = set_of kinds left
+command_by kinds verb.Remove left = numbered (λ place. command.Edit (edit.Remove place)) left
+command_by kinds verb.Watch left = option_map command.Watch (spec_of kinds left)
+command_by kinds verb.Unwatch left = numbered command.Unwatch left
+command_by kinds verb.Scan left = scan_of left
+command_by kinds verb.Ask left = numbered command.Ask left
+command_by kinds verb.Load left = numbered command.Load left
+command_by kinds verb.Dump left = if is_none left then Some command.Dump else None
+
+-- the command that a line spells over a table of these columns
+abbrev pub command_of : List Kind → List ℕ → Option Command
+command_of kinds line = option_and_then (λ verb. command_by kinds verb (rest_of line)) (verb_of (word_of line))

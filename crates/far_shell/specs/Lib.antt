@@ -3,3 +3,5 @@ pub mod Numbers
 pub mod OneRecord
 pub mod Words
 pub mod Commands
+pub mod Watches
+pub mod Openings

@@ -1,5 +1,7 @@
 -- The words of a line, which stand behind one space each.
-use Rattle.std.specs.Prelude.{ℕ, ◌==◌, Bool, nat_lt, List, [], ◌∷◌, length, Option, None, Some, option_map, option_and_then, is_none, if◌then◌else◌}
+use Rattle.std.specs.Prelude.{ℕ, ◌==◌, Bool, false, nat_lt, List, [], length, Option, None, Some, option_map, option_and_then, is_none, if◌then◌else◌}
+use Rattle.std.specs.Option.{option_map_or}
+use Rattle.std.specs.Cmp.Lexicographic.{pointwise}
 use Rattle.std.specs.List.{position_or_len, before_first, after_first, slice_split}
 use Rattle.far_shell.specs.Numbers.{number_of, long_number_of}
 
@@ -37,3 +39,11 @@ last_number_in left = if is_none (after left) then number_in left else None
 abbrev pub words_in : Option (List ℕ) → List (List ℕ)
 words_in None = []
 words_in (Some text) = slice_split is_space text
+
+-- whether a word is this one
+abbrev pub reads : List ℕ → List ℕ → Bool
+reads word name = pointwise ◌==◌ word name
+
+-- whether the next word is this one
+abbrev pub is_next : Option (List ℕ) → List ℕ → Bool
+is_next left name = option_map_or (λ word. reads word name) (word_in left) false

@@ -1,9 +1,10 @@
 // Lines as commands.
 ghost use Rattle.std.specs.Prelude.{◌≡◌, IfOk, IfErr, option_map, option_and_then, slice_get, Some, None};
-ghost use Rattle.far_shell.specs.Commands.{verb_of, command_of, insert_of, set_of, scan_of, step_of};
+ghost use Rattle.far_shell.specs.Commands.{verb_of, command_of, insert_of, set_of, scan_of, command_by};
 ghost use Rattle.far_shell.specs.Words.{last_number_in};
 
 use super::field::{kind_of, lone_cell, row};
+use super::watch::spec;
 use super::words::Words;
 use far_types::{Edit, Kind, Refusal, Spec};
 use std::alloc::Global;
@@ -112,4 +113,62 @@ fn scan(mut words: Words) -> Option<Command>
     let aggregate = words.number()?;
     let group = words.last_number()?;
     Some(Command::Scan { aggregate, group })
+}
+
+/// What a verb says with the rest of its line.
+fn complete(
+    alloc: Global,
+    kinds: &[Kind],
+    verb: Verb,
+    words: Words,
+) -> Result<Option<Command>, Refusal>
+    ensures command { IfOk result (λ command. command ≡ command_by kinds.now verb words.entry) }
+    ensures memory { IfErr result (λ e. e ≡ Refusal.NoMemory) }
+{
+    match verb {
+        Verb::Insert => insert(alloc, kinds, words),
+        Verb::Set => set(alloc, kinds, words),
+        Verb::Remove => match words.last_number() {
+            Some(place) => Ok(Some(Command::Edit(Edit::Remove(place)))),
+            None => Ok(None),
+        },
+        Verb::Watch => match spec(alloc, kinds, words)? {
+            Some(spec) => Ok(Some(Command::Watch(spec))),
+            None => Ok(None),
+        },
+        Verb::Unwatch => match words.last_number() {
+            Some(aggregate) => Ok(Some(Command::Unwatch(aggregate))),
+            None => Ok(None),
+        },
+        Verb::Scan => Ok(scan(words)),
+        Verb::Ask => match words.last_number() {
+            Some(aggregate) => Ok(Some(Command::Ask(aggregate))),
+            None => Ok(None),
+        },
+        Verb::Load => match words.last_number() {
+            Some(bytes) => Ok(Some(Command::Load(bytes))),
+            None => Ok(None),
+        },
+        Verb::Dump => Ok(if words.is_empty() {
+            Some(Command::Dump)
+        } else {
+            None
+        }),
+    }
+}
+
+/// The command that a line spells over a table of these columns, or `None` where it spells none. Refused with `NoMemory`
+/// (1) alone.
+pub fn parse(alloc: Global, kinds: &[Kind], line: &str) -> Result<Option<Command>, Refusal>
+    ensures command { IfOk result (λ command. command ≡ command_of kinds.now line.now) }
+    ensures memory { IfErr result (λ e. e ≡ Refusal.NoMemory) }
+{
+    let mut words = Words::new(line);
+    let Some(word) = words.word() else {
+        return Ok(None);
+    };
+    match read_verb(word) {
+        Some(verb) => complete(alloc, kinds, verb, words),
+        None => Ok(None),
+    }
 }

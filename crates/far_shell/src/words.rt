@@ -1,6 +1,6 @@
 // The words of a line.
-ghost use Rattle.std.specs.Prelude.{◌≡◌, option_map, is_none, Some};
-ghost use Rattle.far_shell.specs.Words.{after, word_in, number_in, long_number_in, last_number_in};
+ghost use Rattle.std.specs.Prelude.{◌≡◌, option_map, is_none, IfSome, IfNone, ◌∷◌, [], Some};
+ghost use Rattle.far_shell.specs.Words.{after, word_in, number_in, long_number_in, last_number_in, is_next, words_in};
 
 use super::number::{long_number, number};
 use std::marker::Model;
@@ -46,6 +46,8 @@ impl<'a> Words<'a> {
     pub fn word(&mut self) -> Option<&'a str>
         ensures word { option_map (λ word. word.now) result ≡ word_in self.old }
         ensures left { self.new ≡ after self.old }
+        ensures first { IfSome result (λ word. words_in self.old ≡ word.now ∷ words_in self.new) }
+        ensures none { IfNone result (words_in self.old ≡ []) }
     {
         let text = self.left?;
         match text.split_once(' ') {
@@ -57,6 +59,19 @@ impl<'a> Words<'a> {
                 self.left = None;
                 Some(text)
             }
+        }
+    }
+
+    /// Whether the next word is this one.
+    pub fn next_is(&self, name: &str) -> bool
+        ensures { result ≡ is_next self.now name.now }
+    {
+        match self.left {
+            Some(text) => match text.split_once(' ') {
+                Some((word, _)) => word == name,
+                None => text == name,
+            },
+            None => false,
         }
     }
 
