@@ -5,3 +5,4 @@ pub mod PlainRecords
 pub mod WordLaws
 pub mod TestLaws
 pub mod KindLaws
+pub mod PrintLaws

@@ -5,3 +5,4 @@ pub mod Words
 pub mod Commands
 pub mod Watches
 pub mod Openings
+pub mod Printing
