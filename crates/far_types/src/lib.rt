@@ -26,3 +26,6 @@ pub use row::Row;
 pub use schema::Schema;
 pub use spec::{Fold, Spec};
 pub use text::Text;
+
+#[cfg(test)]
+mod tests;

@@ -1,0 +1,90 @@
+-- The places of a row group: which changes leave them as they are, and how they follow from the places in order.
+use Rattle.std.proofs.Common.{inl, inr, ◌≡◌, ◌≢◌, ℕ, zero, suc, ◌+◌, ◌-◌, ◌*◌, ◌/◌, ◌<◌, ◌≤◌, Bool, true, false, cond, List, [], ◌∷◌, ◌++◌, length, map, take, drop, refl, sym, ap, ◌∙◌, subst, arith, Option, None, Some, slice_get, slice_range, length-drop, length-append}
+use Rattle.std.specs.Prelude.{option_map, ◌⊎◌}
+use Rattle.std.specs.List.{filter_map, cons_option}
+use Rattle.std.proofs.Math.Nat.{div-mul-le_self, lt-div-mul-add, mul-le-mul_right}
+use Rattle.std.proofs.Math.Seq.{drop-nil}
+use Rattle.std.proofs.lemmas.List.{drop-append-le, take-append-le, take_all, drop_all}
+use Rattle.far_types.specs.Edits.{changed_at}
+use Rattle.far_types.specs.Table.{Place, in_group}
+
+pub length-changed : (f : Place → Place) (i : ℕ) (ps : List Place) → length (changed_at f i ps) ≡ length ps
+length-changed f i [] = refl
+length-changed f zero (p ∷ ps) = refl
+length-changed f (suc i) (p ∷ ps) = ap suc (length-changed f i ps)
+
+pub get-changed : (f : Place → Place) (i : ℕ) (ps : List Place) → slice_get (changed_at f i ps) i ≡ option_map f (slice_get ps i)
+get-changed f i [] = refl
+get-changed f zero (p ∷ ps) = refl
+get-changed f (suc i) (p ∷ ps) = get-changed f i ps
+
+pub get-changed_other : (f : Place → Place) (i k : ℕ) (ps : List Place) → k ≢ i → slice_get (changed_at f i ps) k ≡ slice_get ps k
+get-changed_other f i k [] h = refl
+get-changed_other f zero zero (p ∷ ps) h = absurd (h refl)
+get-changed_other f zero (suc k) (p ∷ ps) h = refl
+get-changed_other f (suc i) zero (p ∷ ps) h = refl
+get-changed_other f (suc i) (suc k) (p ∷ ps) h = get-changed_other f i k ps (λ e. h (ap suc e))
+
+drop-changed_before : (f : Place → Place) (n i : ℕ) (ps : List Place) → i < n → drop n (changed_at f i ps) ≡ drop n ps
+drop-changed_before f n i [] h = refl
+drop-changed_before f zero i (p ∷ ps) h = absurd (omega arith)
+drop-changed_before f (suc n) zero (p ∷ ps) h = refl
+drop-changed_before f (suc n) (suc i) (p ∷ ps) h = drop-changed_before f n i ps (omega arith)
+
+drop-changed_behind : (f : Place → Place) (n j : ℕ) (ps : List Place) → drop n (changed_at f (n + j) ps) ≡ changed_at f j (drop n ps)
+drop-changed_behind f n j [] = drop-nil n ∙ ap (changed_at f j) (sym (drop-nil n))
+drop-changed_behind f zero j (p ∷ ps) = let e : zero + j ≡ j = omega arith in rw e refl
+drop-changed_behind f (suc n) j (p ∷ ps) = let e : suc n + j ≡ suc (n + j) = omega arith in rw e (drop-changed_behind f n j ps)
+
+take-changed : (f : Place → Place) (n j : ℕ) (ps : List Place) → n ≤ j → take n (changed_at f j ps) ≡ take n ps
+take-changed f n j [] h = refl
+take-changed f zero j (p ∷ ps) h = refl
+take-changed f (suc n) zero (p ∷ ps) h = absurd (omega arith)
+take-changed f (suc n) (suc j) (p ∷ ps) h = ap (λ l. p ∷ l) (take-changed f n j ps (omega arith))
+
+apart : (a b : ℕ) → a ≢ b → (a < b) ⊎ (b < a)
+apart zero zero h = absurd (h refl)
+apart zero (suc b) h = inl (omega arith)
+apart (suc a) zero h = inr (omega arith)
+apart (suc a) (suc b) h = elim (apart a b (λ e. h (ap suc e))) as (λ o. (suc a < suc b) ⊎ (suc b < suc a)) [ inl l ↦ inl (omega arith) | inr l ↦ inr (omega arith) ]
+
+-- a lower row group ends before a place of a higher one
+ends : (size h i : ℕ) → h < i / size → h * size + size ≤ i
+ends size h i l =
+    let low = div-mul-le_self i size in
+    let most : (h + 1) * size ≤ i / size * size = mul-le-mul_right size (omega arith) in
+    omega arith
+
+-- and a higher one begins behind it
+begins : (size h i : ℕ) → 0 < size → i / size < h → i < h * size
+begins size h i g l =
+    let high : i < i / size * size + size = lt-div-mul-add g in
+    let most : (i / size + 1) * size ≤ h * size = mul-le-mul_right size (omega arith) in
+    omega arith
+
+-- a change of one place leaves the other row groups
+pub in_group-changed : (size h : ℕ) (f : Place → Place) (i : ℕ) (ps : List Place) → 0 < size → h ≢ i / size → in_group size h (changed_at f i ps) ≡ in_group size h ps
+in_group-changed size h f i ps g n = elim (apart h (i / size) n) as (λ o. in_group size h (changed_at f i ps) ≡ in_group size h ps) [
+  | inl l ↦
+      let far = ends size h i l in
+      let j = i - h * size in
+      let e : i ≡ h * size + j = omega arith in
+      ap (λ k. take size (drop (h * size) (changed_at f k ps))) e
+      ∙ ap (take size) (drop-changed_behind f (h * size) j ps)
+      ∙ take-changed f size j (drop (h * size) ps) (omega arith)
+  | inr l ↦ ap (take size) (drop-changed_before f (h * size) i ps (begins size h i g l))
+]
+
+-- and so does a place more
+pub in_group-appended : (size h : ℕ) (ps : List Place) (p : Place) → 0 < size → h ≢ length ps / size → in_group size h (ps ++ p ∷ []) ≡ in_group size h ps
+in_group-appended size h ps p g n = elim (apart h (length ps / size) n) as (λ o. in_group size h (ps ++ p ∷ []) ≡ in_group size h ps) [
+  | inl l ↦
+      let far = ends size h (length ps) l in
+      let rest = length-drop (h * size) ps in
+      ap (take size) (drop-append-le (h * size) ps (p ∷ []) (omega arith))
+      ∙ take-append-le size (drop (h * size) ps) (p ∷ []) (omega arith)
+  | inr l ↦
+      let behind = begins size h (length ps) g l in
+      let more = length-append ps (p ∷ []) in
+      ap (take size) (drop_all (h * size) (ps ++ p ∷ []) (omega arith) ∙ sym (drop_all (h * size) ps (omega arith)))
+]

@@ -1,0 +1,88 @@
+-- What is kept for each aggregate, and how an edit changes it.
+use Rattle.std.specs.Prelude.{◌≡◌, ℕ, ◌+◌, ◌-◌, ◌<◌, ◌≤◌, ◌^◌, ◌/◌, Bool, cond, List, [], ◌∷◌, ◌++◌, length, map, replicate, Option, None, Some, slice_get, slice_index_or}
+use Rattle.std.specs.List.{AllByRecursion, filter_map, cons_option}
+use Rattle.std.specs.FinMap as fin
+use Rattle.far_types.specs.declared.cell.Kind.{Kind}
+use Rattle.far_types.specs.declared.limits.Limits.{Limits}
+use Rattle.far_types.specs.declared.spec.Spec.{Spec}
+use Rattle.far_types.specs.declared.spec.Fold.{Fold}
+use Rattle.far_types.specs.declared.spec.Fold.TheVariants as fold
+use Rattle.far_types.specs.Answers.{Extrema, totals, extrema}
+use Rattle.far_types.specs.Bounds.{AreLimits}
+use Rattle.far_types.specs.Changes.{count_in, with_pair, without_pair}
+use Rattle.far_types.specs.Pairs.{Pair, PairsFit}
+use Rattle.far_types.specs.Table.{Place, Registered, place_pair, in_group, is_unbuilt, left}
+use Rattle.far_groups.specs.Live.{CanTake}
+use Rattle.far_extrema.specs.Live.{Live}
+use Rattle.far_frame.specs.declared.aggregate.Aggregate.{Aggregate}
+use Rattle.far_frame.specs.declared.aggregate.Kept.{Kept}
+use Rattle.far_frame.specs.declared.aggregate.Kept.TheVariants as kept
+use Rattle.far_frame.specs.Rows.{TableRows}
+
+-- what stands under a number
+abbrev pub Slot : Type 0
+Slot = Option Aggregate
+
+-- the pair that totals get from a place or give back, if there is one
+abbrev pub Change : Type 0
+Change = Option Pair
+
+abbrev pub pair_if : Spec → Option Place → Change
+pair_if spec None = None
+pair_if spec (Some place) = place_pair spec place
+
+-- what the table shows of a slot
+abbrev pub registered_in : Slot → Option Registered
+registered_in None = None
+registered_in (Some aggregate) = Some (record { spec = aggregate.spec; registration = aggregate.registration; unbuilt = aggregate.unbuilt })
+
+-- the aggregates by number, of which there are 32. The slots end with the last number that was ever used
+abbrev pub registered_of : List Slot → List (Option Registered)
+registered_of slots = map registered_in slots ++ replicate (32 - length slots) None
+
+-- a place counts while its row group is built in
+abbrev pub built_pair : Spec → ℕ → List Bool → ℕ → Place → Change
+built_pair spec size unbuilt i place = cond (is_unbuilt unbuilt (i / size)) None (place_pair spec place)
+
+-- the pairs of the places, from number i on, whose row groups are built in
+abbrev pub built_pairs : Spec → ℕ → List Bool → ℕ → List Place → List Pair
+built_pairs spec size unbuilt i [] = []
+built_pairs spec size unbuilt i (place ∷ places) = cons_option (built_pair spec size unbuilt i place) (built_pairs spec size unbuilt (i + 1) places)
+
+-- the pairs of the places of one row group
+abbrev pub group_pairs : Spec → ℕ → ℕ → List Place → List Pair
+group_pairs spec size g places = filter_map (place_pair spec) (in_group size g places)
+
+-- what extrema have of a row group: nothing past their room
+abbrev pub group_at : Live → ℕ → Extrema
+group_at live g = slice_index_or live.groups g fin.empty
+
+-- what extrema are to have of a row group: nothing while it is unbuilt
+abbrev pub built_group : Spec → ℕ → List Bool → List Place → ℕ → Extrema
+built_group spec size unbuilt places g = cond (is_unbuilt unbuilt g) fin.empty (extrema (group_pairs spec size g places))
+
+abbrev pub fold_of : Kept → Fold
+fold_of (kept.Totals live) = fold.Totals
+fold_of (kept.Extrema live) = fold.Extrema
+
+-- what is kept is what computing afresh over the row groups that are built in would give
+abbrev pub IsKept : ℕ → List Place → Aggregate → Kept → Type 0
+IsKept size places a (kept.Totals live) = (live.totals ≡ totals (built_pairs a.spec size a.unbuilt 0 places)) × (live.left ≡ left a.unbuilt)
+IsKept size places a (kept.Extrema live) = ((g : ℕ) → group_at live g ≡ built_group a.spec size a.unbuilt places g) × (live.left ≡ left a.unbuilt)
+
+abbrev pub KeepsSlot : ℕ → List Place → Slot → Type 0
+KeepsSlot size places None = Unit {0}
+KeepsSlot size places (Some a) = (fold_of a.kept ≡ a.spec.fold) × IsKept size places a a.kept
+
+abbrev pub Keeps : ℕ → List Place → List Slot → Type 0
+Keeps size places slots = AllByRecursion (KeepsSlot size places) slots
+
+-- what always holds of a table's parts
+pub record IsFrame (schema : List Kind) (limits : Limits) (rows : TableRows) (edits registrations : ℕ) (slots : List Slot) : Type 0 where
+  pub bounds : AreLimits limits
+  pub kinds : rows.kinds ≡ schema
+  pub few : length rows.places ≤ limits.places
+  pub edits_few : edits ≤ limits.edits
+  pub registrations_few : registrations ≤ 2 ^ 32
+  pub numbers : length slots ≤ 32
+  pub kept : Keeps limits.group rows.places slots

@@ -1,0 +1,5 @@
+pub mod Deltas
+pub mod Kept
+pub mod Rows
+pub mod Steps
+pub mod Until

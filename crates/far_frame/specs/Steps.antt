@@ -1,0 +1,169 @@
+-- What a step makes of the state, and its reply.
+use Rattle.std.specs.Prelude.{◌≡◌, ℕ, ◌+◌, ◌^◌, ◌==◌, Bool, true, false, not, cond, nat_lt, List, [], ◌∷◌, length, Option, None, Some, is_none, slice_get, slice_set}
+use Rattle.far_types.specs.declared.edit.Edit.{Edit}
+use Rattle.far_types.specs.declared.edit.Edit.TheVariants as edit
+use Rattle.far_types.specs.declared.cell.Kind.{Kind}
+use Rattle.far_types.specs.declared.limits.Limits.{Limits}
+use Rattle.far_types.specs.declared.spec.Spec.{Spec}
+use Rattle.far_types.specs.declared.refusal.Refusal.{Refusal}
+use Rattle.far_types.specs.declared.refusal.Refusal.TheVariants as refusal
+use Rattle.far_types.specs.Bounds.{spec_refusal}
+use Rattle.far_types.specs.Edits.{edit_refusal, edited}
+use Rattle.far_types.specs.FirstOf.{first_of}
+use Rattle.far_types.specs.Table.{Table, Registered, empty_table, groups, all_unbuilt, is_unbuilt, left, answer_now}
+use Rattle.far_frame.specs.declared.step.Step.{Step}
+use Rattle.far_frame.specs.declared.step.Step.TheVariants as step
+use Rattle.far_frame.specs.declared.step.Reply.{Reply}
+use Rattle.far_frame.specs.declared.step.Reply.TheVariants as reply
+
+-- all that a step can see or change
+pub record State : Type 0 where
+  pub table : Table
+
+abbrev pub empty_state : List Kind → Limits → State
+empty_state schema limits = record { table = empty_table schema limits }
+
+abbrev pub joined : {A : Type 0} → Option (Option A) → Option A
+joined None = None
+joined (Some inner) = inner
+
+-- the aggregate that is registered under a number
+abbrev pub aggregate_at : Table → ℕ → Option Registered
+aggregate_at table a = joined (slice_get table.aggregates a)
+
+-- the lowest number, from one on, under which none is registered
+abbrev pub free_from : ℕ → List (Option Registered) → Option ℕ
+free_from a [] = None
+free_from a (None ∷ rest) = Some a
+free_from a (Some aggregate ∷ rest) = free_from (a + 1) rest
+
+abbrev pub lowest_free : Table → Option ℕ
+lowest_free table = free_from 0 table.aggregates
+
+-- how many row groups hold a place
+abbrev pub group_count : Table → ℕ
+group_count table = groups table.limits.group (length table.places)
+
+abbrev pub or_else : Option Refusal → Option Refusal → Option Refusal
+or_else None other = other
+or_else (Some first) other = Some first
+
+abbrev pub watch_refusal : Table → Spec → Option Refusal
+watch_refusal table spec = or_else (spec_refusal table.schema spec) (first_of (
+    (is_none (lowest_free table), refusal.TooManyAggregates)
+    ∷ (table.registrations == 2 ^ 32, refusal.TooManyAggregates)
+    ∷ []))
+
+abbrev pub unwatch_refusal : Option Registered → Option Refusal
+unwatch_refusal None = Some refusal.NoAggregate
+unwatch_refusal (Some aggregate) = None
+
+-- a row group is built in where it exists and is still to be built in
+abbrev pub scan_refusal : Table → Option Registered → ℕ → Option Refusal
+scan_refusal table None g = Some refusal.NoAggregate
+scan_refusal table (Some aggregate) g = first_of (
+    (not (nat_lt g (group_count table)), refusal.OutOfRange)
+    ∷ (not (is_unbuilt aggregate.unbuilt g), refusal.StaleJob)
+    ∷ [])
+
+-- an aggregate answers where no row group is left to be built in
+abbrev pub ask_refusal : Option Registered → Option Refusal
+ask_refusal None = Some refusal.NoAggregate
+ask_refusal (Some aggregate) = cond (left aggregate.unbuilt == 0) None (Some (refusal.Building (left aggregate.unbuilt)))
+
+-- the refusal of a step, the first that applies, want of memory aside
+abbrev pub refusal_of : State → Step → Option Refusal
+refusal_of state (step.Edit e) = edit_refusal state.table e
+refusal_of state (step.Watch spec) = watch_refusal state.table spec
+refusal_of state (step.Unwatch a) = unwatch_refusal (aggregate_at state.table a)
+refusal_of state (step.ScanGroup a g) = scan_refusal state.table (aggregate_at state.table a) g
+refusal_of state (step.Ask a) = ask_refusal (aggregate_at state.table a)
+
+-- whether a step may be refused for want of memory
+abbrev pub grows : Step → Bool
+grows (step.Edit e) = true
+grows (step.Watch spec) = true
+grows (step.Unwatch a) = false
+grows (step.ScanGroup a g) = true
+grows (step.Ask a) = true
+
+abbrev pub with_aggregate : ℕ → Option Registered → Table → Table
+with_aggregate a aggregate table = record table { aggregates = slice_set table.aggregates a aggregate }
+
+-- an aggregate that is registered now
+abbrev pub registered_now : Spec → Table → Registered
+registered_now spec table = record { spec = spec; registration = table.registrations; unbuilt = all_unbuilt table.limits.group table.places }
+
+abbrev pub registered_at : Option ℕ → Spec → Table → Table
+registered_at None spec table = table
+registered_at (Some a) spec table = record (with_aggregate a (Some (registered_now spec table)) table) { registrations = table.registrations + 1 }
+
+-- a row group less is left to be built in
+abbrev pub built_in : ℕ → Registered → Registered
+built_in g aggregate = record aggregate { unbuilt = slice_set aggregate.unbuilt g false }
+
+abbrev pub scanned_at : ℕ → ℕ → Option Registered → Table → Table
+scanned_at a g None table = table
+scanned_at a g (Some aggregate) table = with_aggregate a (Some (built_in g aggregate)) table
+
+-- the table after a step that is accepted
+abbrev pub table_after : Step → Table → Table
+table_after (step.Edit e) table = edited e table
+table_after (step.Watch spec) table = registered_at (lowest_free table) spec table
+table_after (step.Unwatch a) table = with_aggregate a None table
+table_after (step.ScanGroup a g) table = scanned_at a g (aggregate_at table a) table
+table_after (step.Ask a) table = table
+
+-- the state after a step that is accepted
+abbrev pub after : State → Step → State
+after state s = record state { table = table_after s state.table }
+
+abbrev pub edit_reply : Table → Edit → Reply
+edit_reply table (edit.Insert row) = reply.Place (length table.places)
+edit_reply table (edit.Set place column cell) = reply.Done
+edit_reply table (edit.Remove place) = reply.Done
+
+abbrev pub number_reply : Option ℕ → Reply
+number_reply None = reply.Done
+number_reply (Some a) = reply.Aggregate a
+
+-- what an aggregate answers is computed anew from the rows as they are now
+abbrev pub answer_reply : Table → Option Registered → Reply
+answer_reply table None = reply.Done
+answer_reply table (Some aggregate) = reply.Answer (answer_now aggregate.spec table)
+
+-- the reply to a step that is accepted
+abbrev pub reply_to : State → Step → Reply
+reply_to state (step.Edit e) = edit_reply state.table e
+reply_to state (step.Watch spec) = number_reply (lowest_free state.table)
+reply_to state (step.Unwatch a) = reply.Done
+reply_to state (step.ScanGroup a g) = reply.Done
+reply_to state (step.Ask a) = answer_reply state.table (aggregate_at state.table a)
+
+-- a refusal that may come: the one that is due, and where none is, want of memory in a step that takes some
+abbrev pub MayRefuse : Option Refusal → Bool → Refusal → Type 0
+MayRefuse (Some due) may_grow given = given ≡ due
+MayRefuse None may_grow given = (given ≡ refusal.NoMemory) × (may_grow ≡ true)
+
+-- a step is refused: nothing changes
+abbrev pub Refuses : State → Step → Refusal → State → Type 0
+Refuses old s given new = (new ≡ old) × MayRefuse (refusal_of old s) (grows s) given
+
+-- a step is accepted: its reply and its effect are those of the plain table
+abbrev pub Accepts : State → Step → Reply → State → Type 0
+Accepts old s given new = (refusal_of old s ≡ None) × (given ≡ reply_to old s) × (new ≡ after old s)
+
+-- from old the state goes to new by a step with this reply
+abbrev pub IsStep : State → Step → Reply → State → Type 0
+IsStep old s (reply.Refused given) new = Refuses old s given new
+IsStep old s (reply.Place place) new = Accepts old s (reply.Place place) new
+IsStep old s reply.Done new = Accepts old s reply.Done new
+IsStep old s (reply.Aggregate a) new = Accepts old s (reply.Aggregate a) new
+IsStep old s (reply.Answer answer) new = Accepts old s (reply.Answer answer) new
+
+-- from old the state goes to new by these steps with these replies, one for each
+abbrev pub IsRun : State → List Step → List Reply → State → Type 0
+IsRun old [] [] new = new ≡ old
+IsRun old [] (given ∷ replies) new = ⊥
+IsRun old (s ∷ steps) [] new = ⊥
+IsRun old (s ∷ steps) (given ∷ replies) new = (mid : State) × IsStep old s given mid × IsRun mid steps replies new

@@ -1,0 +1,41 @@
+-- Which row groups of a column are proposed after those that were seen.
+use Rattle.std.specs.Prelude.{ℕ, Bool, ℤ, pos, negsuc, ◌+ℤ◌, ◌-ℤ◌, List, [], ◌∷◌, ◌++◌, Option, None, Some, if◌then◌else◌, nat_lt, not, ◌&&◌, slice_index_or, filter_map}
+use Rattle.std.specs.Ordering.{int_eq}
+use Rattle.circular_buffer.specs.Buffer.{keep_last}
+
+-- the history of a column
+abbrev pub history_of : List (List ℕ) → ℕ → List ℕ
+history_of histories column = slice_index_or histories column []
+
+-- a history after one more group was seen: the last eight groups, oldest first
+abbrev pub with_seen : List ℕ → ℕ → List ℕ
+with_seen history group = keep_last 8 (history ++ group ∷ [])
+
+-- how far it is from one group to another, as a signed number
+abbrev pub difference : ℕ → ℕ → ℤ
+difference from to = pos to -ℤ pos from
+
+-- whether three differences are one stride: they are equal, and not 0
+abbrev pub is_stride : ℤ → ℤ → ℤ → Bool
+is_stride first second third = int_eq first second && int_eq second third && not (int_eq third (pos 0))
+
+-- the group of this number, where it exists
+abbrev pub existing : ℕ → ℤ → Option ℕ
+existing groups (pos group) = if nat_lt group groups then Some group else None
+existing groups (negsuc below) = None
+
+-- the next two groups after the last, each as far from the one before as the last is, in so far as they exist
+abbrev pub next_two : ℕ → ℕ → ℕ → List ℕ
+next_two groups before last =
+    let stride = difference before last
+    in filter_map (existing groups) ((pos last +ℤ stride) ∷ (pos last +ℤ stride +ℤ stride) ∷ [])
+
+-- the proposals after four groups, oldest first: the next two of their stride, where they have one; after fewer, none
+abbrev pub proposed_after : ℕ → List ℕ → List ℕ
+proposed_after groups (a ∷ b ∷ c ∷ d ∷ []) =
+    if is_stride (difference a b) (difference b c) (difference c d) then next_two groups c d else []
+proposed_after groups _ = []
+
+-- the proposals by a history
+abbrev pub proposed : ℕ → List ℕ → List ℕ
+proposed groups history = proposed_after groups (keep_last 4 history)

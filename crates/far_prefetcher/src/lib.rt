@@ -1,0 +1,7 @@
+#![tactic(auto)]
+//! Which objects to fetch next: for each column, the row groups that go on the stride in which it was read.
+
+mod history;
+pub mod prefetcher;
+
+pub use prefetcher::Prefetcher;
