@@ -6,3 +6,4 @@ pub mod WordLaws
 pub mod TestLaws
 pub mod KindLaws
 pub mod PrintLaws
+pub mod Reaching

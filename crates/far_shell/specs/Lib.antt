@@ -6,3 +6,4 @@ pub mod Commands
 pub mod Watches
 pub mod Openings
 pub mod Printing
+pub mod Scripts

@@ -60,7 +60,11 @@ fn plain_cells(alloc: Global, kinds: &[Kind], text: &str) -> Result<Vec<Cell>, R
 }
 
 /// The cells of a record's fields.
-fn record_cells(alloc: Global, kinds: &[Kind], fields: &StringRecord) -> Result<Vec<Cell>, Refusal>
+pub fn record_cells(
+    alloc: Global,
+    kinds: &[Kind],
+    fields: &StringRecord,
+) -> Result<Vec<Cell>, Refusal>
     ensures cells { IfOk result (λ cells. cells.items ≡ cells_from kinds.now 0 (fields_of fields.now)) }
     ensures memory { IfErr result (λ e. e ≡ Refusal.NoMemory) }
 {

@@ -7,11 +7,18 @@ mod command;
 mod fault;
 mod field;
 mod input;
+mod listing;
+mod loading;
 mod number;
 mod opening;
 mod output;
 mod page;
 mod print;
 mod record;
+mod script;
+mod serve;
 mod watch;
 mod words;
+
+pub use fault::ShellFault;
+pub use script::run_script;

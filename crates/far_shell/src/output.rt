@@ -8,6 +8,7 @@ use std::io::Write;
 const FULL: usize = 65_536;
 
 /// A writer, and the replies that it did not take yet.
+#[derive(Drop)]
 pub struct Output<'a, W: Write> {
     writer: &'a mut W,
     /// The replies that were not written yet.
