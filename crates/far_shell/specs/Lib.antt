@@ -7,3 +7,4 @@ pub mod Watches
 pub mod Openings
 pub mod Printing
 pub mod Scripts
+pub mod Faults

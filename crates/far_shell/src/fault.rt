@@ -50,6 +50,19 @@ impl From<Refusal> for ShellFault {
 }
 
 impl ShellFault {
+    ghost use Rattle.far_shell.specs.Faults.{status_of};
+
+    /// The exit status of a program that ends by the fault.
+    pub fn status(self) -> u8
+        ensures { result ≡ status_of self }
+    {
+        match self {
+            ShellFault::BadStart => 2,
+            ShellFault::Input | ShellFault::Output => 3,
+            ShellFault::Memory => 4,
+        }
+    }
+
     /// The fault of a read that failed.
     pub fn of_read(error: &io::Error) -> ShellFault {
         match error.kind() {
