@@ -4,7 +4,7 @@ use Rattle.far_frame.specs.declared.step.Step.{Step}
 use Rattle.far_frame.specs.declared.step.Step.TheVariants as step
 use Rattle.far_frame.specs.declared.step.Reply.{Reply}
 use Rattle.far_frame.specs.declared.step.Reply.TheVariants as reply
-use Rattle.far_frame.specs.Steps.{State, IsRun}
+use Rattle.far_frame.specs.Steps.{State, IsStep, IsRun}
 use Rattle.far_shell.specs.declared.command.Command.{Command}
 use Rattle.far_shell.specs.declared.command.Command.TheVariants as command
 use Rattle.far_shell.specs.Printing.{numbered_text, answer_text, refusal_text}
@@ -29,7 +29,7 @@ reply_text (reply.Refused refusal) = refusal_text refusal
 
 -- from old the state goes to new by this one step, and its reply is printed
 abbrev pub Takes : State → Step → State → List ℕ → List ℕ → Type 0
-Takes old s new before after = (given : Reply) × IsRun old (s ∷ []) (given ∷ []) new × (after ≡ before ++ reply_text given)
+Takes old s new before after = (given : Reply) × IsStep old s given new × (after ≡ before ++ reply_text given)
 
 -- the same of a command, where it is a step
 abbrev pub Answers : State → Option Step → State → List ℕ → List ℕ → Type 0

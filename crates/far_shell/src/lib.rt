@@ -22,3 +22,6 @@ mod words;
 
 pub use fault::ShellFault;
 pub use script::run_script;
+
+#[cfg(test)]
+mod tests;

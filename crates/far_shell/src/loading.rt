@@ -31,7 +31,7 @@ pub fn load(alloc: Global, world: &mut World, text: &str, page: &mut Page) -> Re
         }
         let cells = record_cells(alloc, world.frame().schema().as_slice(), &fields)?;
         let step = Step::Edit(Edit::Insert(Row::new(cells)));
-        if let Reply::Refused(refusal) = take_step(alloc, world, step)? {
+        if let Reply::Refused(refusal) = take_step(world, step) {
             numbered(page, "loaded", u64::from(count))?;
             return refused(page, &refusal);
         }

@@ -1,6 +1,6 @@
 // Commands as steps of the table.
 ghost use Rattle.std.specs.Prelude.{◌≡◌, ◌++◌, [], ◌∷◌, IfOk, IfErr, OnOk, OnErr, codes};
-ghost use Rattle.far_frame.specs.Steps.{IsRun};
+ghost use Rattle.far_frame.specs.Steps.{IsStep};
 ghost use Rattle.far_shell.specs.Commands.{command_of};
 ghost use Rattle.far_shell.specs.Printing.{numbered_text};
 ghost use Rattle.far_shell.specs.Scripts.{Answers, AnswersLine, Reaches, Takes, reply_text, step_of};
@@ -8,7 +8,7 @@ ghost use Rattle.far_shell.specs.Scripts.{Answers, AnswersLine, Reaches, Takes, 
 use super::command::{Command, parse};
 use super::page::Page;
 use super::print::{answer, numbered, refused};
-use far_frame::{Reply, Step, World, run};
+use far_frame::{Reply, Step, World};
 use far_types::Refusal;
 use std::alloc::Global;
 
@@ -37,34 +37,26 @@ pub fn print_reply(page: &mut Page, reply: &Reply) -> Result<(), Refusal>
     }
 }
 
-/// The reply to one step. Refused with `NoMemory` (1) alone, and then nothing was changed.
-pub fn take_step(alloc: Global, world: &mut World, step: Step) -> Result<Reply, Refusal>
-    ensures ok { IfOk result (λ given. IsRun world.old (step ∷ []) (given ∷ []) world.new) }
-    ensures unchanged { OnErr result (world.new ≡ world.old) }
+/// The reply to one step.
+pub fn take_step(world: &mut World, step: Step) -> Reply
+    ensures step { IsStep world.old step result world.new }
     ensures reached { Reaches world.old world.new }
-    ensures memory { IfErr result (λ e. e ≡ Refusal.NoMemory) }
 {
-    let steps = vec![in alloc; step]?;
-    let mut replies = run(alloc, world, steps)?;
-    match replies.pop() {
-        Some(reply) => Ok(reply),
-        None => Err(Refusal::NoMemory),
-    }
+    world.serve(step)
 }
 
 /// Takes a step, and prints its reply.
-fn answer_step(alloc: Global, world: &mut World, step: Step, page: &mut Page) -> Result<(), Refusal>
+fn answer_step(world: &mut World, step: Step, page: &mut Page) -> Result<(), Refusal>
     ensures ok { OnOk result (Takes world.old step world.new page.old page.new) }
     ensures reached { Reaches world.old world.new }
     ensures memory { IfErr result (λ e. e ≡ Refusal.NoMemory) }
 {
-    let reply = take_step(alloc, world, step)?;
+    let reply = take_step(world, step);
     print_reply(page, &reply)
 }
 
 /// Answers a command, but for the rows of a load or a dump, which follow.
 fn answer_command(
-    alloc: Global,
     world: &mut World,
     command: Command,
     page: &mut Page,
@@ -82,7 +74,7 @@ fn answer_command(
         Command::Load(bytes) => return Ok(Next::Load(bytes)),
         Command::Dump => return Ok(Next::Dump),
     };
-    answer_step(alloc, world, step, page)?;
+    answer_step(world, step, page)?;
     Ok(Next::Line)
 }
 
@@ -99,7 +91,7 @@ fn answer_words(
     ensures memory { IfErr result (λ e. e ≡ Refusal.NoMemory) }
 {
     match parse(alloc, world.frame().schema().as_slice(), line)? {
-        Some(command) => answer_command(alloc, world, command, page),
+        Some(command) => answer_command(world, command, page),
         None => {
             numbered(page, "syntax command", u64::from(number))?;
             Ok(Next::Line)
