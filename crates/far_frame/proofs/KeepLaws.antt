@@ -1,8 +1,9 @@
 -- What is kept for an aggregate stays what the places give, under an edit of the places.
-use Rattle.std.proofs.Common.{◌≡◌, ◌≢◌, ℕ, zero, suc, ◌+◌, ◌-◌, ◌*◌, ◌/◌, ◌<◌, ◌≤◌, ◌^◌, Bool, true, false, cond, List, [], ◌∷◌, ◌++◌, length, map, take, drop, inl, inr, refl, sym, ap, ◌∙◌, subst, arith, zero-add, Option, None, Some, slice_get, slice_set, slice_index_or}
+use Rattle.std.proofs.Common.{All, ◌≡◌, ◌≢◌, ℕ, zero, suc, ◌+◌, ◌-◌, ◌*◌, ◌/◌, ◌<◌, ◌≤◌, ◌^◌, Bool, true, false, cond, List, [], ◌∷◌, ◌++◌, length, map, take, drop, inl, inr, refl, sym, ap, ◌∙◌, subst, arith, zero-add, Option, None, Some, slice_get, slice_set, slice_index_or}
 use Rattle.std.specs.Prelude.{◌⊎◌, option_map}
 use Rattle.std.specs.List.{AllByRecursion, cons_option, filter_map}
 use Rattle.std.specs.FinMap as fin
+use Rattle.std.proofs.lemmas.List.Elements.{recursion_from_All}
 use Rattle.std.proofs.lemmas.List.{get_or-set_same, get_or-set_other, length-map}
 use Rattle.far_types.specs.declared.cell.Kind.{Kind}
 use Rattle.far_types.specs.declared.spec.Spec.{Spec}
@@ -30,7 +31,7 @@ use Rattle.far_frame.proofs.SlotLaws.{can_take}
 abbrev slot : Spec → ℕ → List Bool → Kept → Slot
 slot spec registration unbuilt k = Some (record { spec = spec; registration = registration; unbuilt = unbuilt; kept = k })
 
-same_or_not : (a b : ℕ) → (a ≡ b) ⊎ (a ≢ b)
+pub same_or_not : (a b : ℕ) → (a ≡ b) ⊎ (a ≢ b)
 same_or_not zero zero = inl refl
 same_or_not zero (suc b) = inr (λ e. absurd (omega arith))
 same_or_not (suc a) zero = inr (λ e. absurd (omega arith))
@@ -65,15 +66,15 @@ module _ (spec : Spec) (size : ℕ) (unbuilt : List Bool) (g : ℕ) (ps qs : Lis
         | inr n ↦ ap (λ l. cond (is_unbuilt unbuilt h) fin.empty (extrema (filter_map (place_pair spec) l))) (sym (others h n))
       ]
   fresh-groups false is others kept room h = elim (same_or_not h g) as (λ o. slice_index_or (slice_set gs g (extrema (group_pairs spec size g qs))) h fin.empty ≡ built_group spec size unbuilt qs h) [
-      | inl e ↦
-          ap (λ k. slice_index_or (slice_set gs g (extrema (group_pairs spec size g qs))) k fin.empty) e
-          ∙ get_or-set_same gs g (extrema (group_pairs spec size g qs)) fin.empty room
-          ∙ sym (ap (λ b. cond b fin.empty (extrema (group_pairs spec size g qs))) is)
-          ∙ ap (built_group spec size unbuilt qs) (sym e)
-      | inr n ↦
-          get_or-set_other gs g h (extrema (group_pairs spec size g qs)) fin.empty n
-          ∙ kept h ∙ ap (λ l. cond (is_unbuilt unbuilt h) fin.empty (extrema (filter_map (place_pair spec) l))) (sym (others h n))
-    ]
+    | inl e ↦
+        ap (λ k. slice_index_or (slice_set gs g (extrema (group_pairs spec size g qs))) k fin.empty) e
+        ∙ get_or-set_same gs g (extrema (group_pairs spec size g qs)) fin.empty room
+        ∙ sym (ap (λ b. cond b fin.empty (extrema (group_pairs spec size g qs))) is)
+        ∙ ap (built_group spec size unbuilt qs) (sym e)
+    | inr n ↦
+        get_or-set_other gs g h (extrema (group_pairs spec size g qs)) fin.empty n
+        ∙ kept h ∙ ap (λ l. cond (is_unbuilt unbuilt h) fin.empty (extrema (filter_map (place_pair spec) l))) (sym (others h n))
+  ]
 
 -- one slot under an insert, a set and a removal
 
@@ -217,9 +218,12 @@ taken-room g (Some a) (Some p) h = kept-less_room g a a.kept p h
 
 -- over all slots
 
-pub rows-fit : (kinds : List Kind) (ps : List Place) → AllByRecursion (λ (p : Place). IsRow kinds p.cells) ps → PlacesFit ps
-rows-fit kinds [] h = tt
-rows-fit kinds (p ∷ ps) h = (h.0.fits, rows-fit kinds ps h.1)
+each-fits : (kinds : List Kind) (ps : List Place) → AllByRecursion (λ (p : Place). IsRow kinds p.cells) ps → PlacesFit ps
+each-fits kinds [] h = tt
+each-fits kinds (p ∷ ps) h = (h.0.fits, each-fits kinds ps h.1)
+
+pub rows-fit : (kinds : List Kind) (ps : List Place) → All (λ (p : Place). IsRow kinds p.cells) ps → PlacesFit ps
+rows-fit kinds ps h = each-fits kinds ps (recursion_from_All (λ (p : Place). IsRow kinds p.cells) ps h)
 
 pub each-folds : (size : ℕ) (ps : List Place) (slots : List Slot) → PlacesFit ps → length ps ≤ 2 ^ 24 → Keeps size ps slots → EachFolds slots
 each-folds size ps [] fit few h k s e = cc

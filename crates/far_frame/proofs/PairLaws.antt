@@ -86,7 +86,7 @@ totals-next spec ps from i o l h e = sym (ap totals (pairs_between-next spec ps 
 pub extrema-next : (spec : Spec) (ps : List Place) (from i : ℕ) (o : Change) → from ≤ i → i < length ps → o ≡ pair_if spec (slice_get ps i) → with_seen_change (extrema (pairs_between spec ps from i)) o ≡ extrema (pairs_between spec ps from (i + 1))
 extrema-next spec ps from i o l h e = sym (ap extrema (pairs_between-next spec ps from i l h ∙ ap (λ c. pairs_between spec ps from i ++ cons_option c []) (sym e)) ∙ extrema-joined (pairs_between spec ps from i) o)
 
-pairs-few : (spec : Spec) (ps : List Place) → length (filter_map (place_pair spec) ps) ≤ length ps
+pub pairs-few : (spec : Spec) (ps : List Place) → length (filter_map (place_pair spec) ps) ≤ length ps
 pairs-few spec [] = omega arith
 pairs-few spec (p ∷ ps) =
     let rest = pairs-few spec ps in

@@ -35,7 +35,7 @@ roomy-kept : (g size : ℕ) (ps : List Place) (a : Aggregate) (k : Kept) → IsK
 roomy-kept g size ps a (kept.Totals live) h = h
 roomy-kept g size ps a (kept.Extrema live) h = (λ i. index-replicate live.groups (g + 1 - length live.groups) i fin.empty ∙ h.0 i, h.1)
 
-same-kept : (size : ℕ) (ps : List Place) (a b : Aggregate) (k : Kept) → a.spec ≡ b.spec → a.unbuilt ≡ b.unbuilt → IsKept size ps a k → IsKept size ps b k
+pub same-kept : (size : ℕ) (ps : List Place) (a b : Aggregate) (k : Kept) → a.spec ≡ b.spec → a.unbuilt ≡ b.unbuilt → IsKept size ps a k → IsKept size ps b k
 same-kept size ps a b (kept.Totals live) e f h = rw (← e, ← f) h
 same-kept size ps a b (kept.Extrema live) e f h = rw (← e, ← f) h
 

@@ -7,13 +7,15 @@ use Rattle.far_types.specs.declared.limits.Limits.{Limits}
 use Rattle.far_types.specs.declared.spec.Spec.{Spec}
 use Rattle.far_types.specs.declared.spec.Fold.{Fold}
 use Rattle.far_types.specs.declared.spec.Fold.TheVariants as fold
-use Rattle.far_types.specs.Answers.{Extrema, totals, extrema}
+use Rattle.far_types.specs.declared.answer.Answer.{Answer}
+use Rattle.far_types.specs.declared.answer.Answer.TheVariants as answer
+use Rattle.far_types.specs.Answers.{Extrema, totals, extrema, or_zero, total_lines, extrema_lines}
 use Rattle.far_types.specs.Bounds.{AreLimits}
 use Rattle.far_types.specs.Changes.{count_in, with_pair, without_pair}
 use Rattle.far_types.specs.Pairs.{Pair, PairsFit}
 use Rattle.far_types.specs.Table.{Place, Registered, place_pair, in_group, is_unbuilt, left}
 use Rattle.far_groups.specs.Live.{CanTake}
-use Rattle.far_extrema.specs.Live.{Live}
+use Rattle.far_extrema.specs.Live.{Live, all_groups}
 use Rattle.far_frame.specs.declared.aggregate.Aggregate.{Aggregate}
 use Rattle.far_frame.specs.declared.aggregate.Kept.{Kept}
 use Rattle.far_frame.specs.declared.aggregate.Kept.TheVariants as kept
@@ -64,6 +66,21 @@ built_group spec size unbuilt places g = cond (is_unbuilt unbuilt g) fin.empty (
 abbrev pub fold_of : Kept → Fold
 fold_of (kept.Totals live) = fold.Totals
 fold_of (kept.Extrema live) = fold.Extrema
+
+-- how many row groups are left
+abbrev pub left_in : Kept → ℕ
+left_in (kept.Totals live) = live.left
+left_in (kept.Extrema live) = live.left
+
+-- what is answered by what is kept
+abbrev pub kept_answer : Option ℕ → Kept → Answer
+kept_answer key (kept.Totals live) = answer.Totals (or_zero key (total_lines live.totals))
+kept_answer key (kept.Extrema live) = answer.Extrema (extrema_lines (all_groups live.groups))
+
+-- nothing is in, and as many row groups are left
+abbrev pub KeepsNothing : ℕ → Kept → Type 0
+KeepsNothing count (kept.Totals live) = (live.left ≡ count) × (live.totals ≡ fin.empty)
+KeepsNothing count (kept.Extrema live) = (live.left ≡ count) × (live.groups ≡ [])
 
 -- what is kept is what computing afresh over the row groups that are built in would give
 abbrev pub IsKept : ℕ → List Place → Aggregate → Kept → Type 0

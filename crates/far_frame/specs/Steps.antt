@@ -10,7 +10,7 @@ use Rattle.far_types.specs.declared.refusal.Refusal.TheVariants as refusal
 use Rattle.far_types.specs.Bounds.{spec_refusal}
 use Rattle.far_types.specs.Edits.{edit_refusal, edited}
 use Rattle.far_types.specs.FirstOf.{first_of}
-use Rattle.far_types.specs.Table.{Table, Registered, empty_table, groups, all_unbuilt, is_unbuilt, left, answer_now}
+use Rattle.far_types.specs.Table.{Place, Table, Registered, empty_table, groups, all_unbuilt, is_unbuilt, left, answer_now}
 use Rattle.far_frame.specs.declared.step.Step.{Step}
 use Rattle.far_frame.specs.declared.step.Step.TheVariants as step
 use Rattle.far_frame.specs.declared.step.Reply.{Reply}
@@ -22,6 +22,10 @@ pub record State : Type 0 where
 
 abbrev pub empty_state : List Kind → Limits → State
 empty_state schema limits = record { table = empty_table schema limits }
+
+-- a table of which only what an edit's refusal looks at is told
+abbrev pub plain_table : List Kind → Limits → List Place → ℕ → Table
+plain_table schema limits places edits = record { schema = schema; limits = limits; places = places; edits = edits; registrations = 0; aggregates = [] }
 
 abbrev pub joined : {A : Type 0} → Option (Option A) → Option A
 joined None = None

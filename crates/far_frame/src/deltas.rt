@@ -89,12 +89,14 @@ fn change(
     ensures memory { IfErr result (λ e. e ≡ Refusal.NoMemory) }
 {
     match slot {
-        Some(Aggregate {
-            spec,
-            unbuilt,
-            kept: Kept::Totals(_),
-            ..
-        }) => {
+        Some(
+            Aggregate {
+                spec,
+                unbuilt,
+                kept: Kept::Totals(_),
+                ..
+            },
+        ) => {
             if unbuilt.has(place / size as usize) {
                 return Ok(None);
             }

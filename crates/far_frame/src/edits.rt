@@ -94,6 +94,7 @@ pub fn set_cell(
     requires of_kind { is_of_other_kind (slice_get rows.old.kinds column) cell ≡ false }
     requires kept { Keeps size rows.old.places slots.old }
     ensures kinds { rows.new.kinds ≡ rows.old.kinds }
+    ensures count { length rows.new.places ≡ length rows.old.places }
     ensures places { OnOk result (rows.new.places ≡ places_after (edit.Set place column cell) rows.old.places) }
     ensures unchanged { OnErr result (rows.new.places ≡ rows.old.places) }
     ensures kept { Keeps size rows.new.places slots.new }
@@ -127,6 +128,7 @@ pub fn remove_row(
     requires within { place < length rows.old.places }
     requires kept { Keeps size rows.old.places slots.old }
     ensures kinds { rows.new.kinds ≡ rows.old.kinds }
+    ensures count { length rows.new.places ≡ length rows.old.places }
     ensures places { OnOk result (rows.new.places ≡ places_after (edit.Remove place) rows.old.places) }
     ensures unchanged { OnErr result (rows.new.places ≡ rows.old.places) }
     ensures kept { Keeps size rows.new.places slots.new }

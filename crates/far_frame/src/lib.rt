@@ -2,12 +2,28 @@
 //! The table: its rows, the aggregates that are kept up to date under every edit, and whole runs of steps.
 
 mod aggregate;
+mod answers;
+pub mod cell_ref;
+mod column;
+mod columns;
 mod deltas;
 mod edits;
+pub mod frame;
 mod groups;
 mod refresh;
+mod refusals;
+mod registrations;
 pub mod rows;
+mod scans;
 pub mod step;
+#[cfg(test)]
+mod tests;
+mod text_form;
 mod unbuilt;
+pub mod world;
 
+pub use cell_ref::CellRef;
+pub use frame::Frame;
+pub use rows::Rows;
 pub use step::{Reply, Step};
+pub use world::{World, run};

@@ -54,12 +54,14 @@ fn fresh(
     ensures memory { IfErr result (λ e. e ≡ Refusal.NoMemory) }
 {
     match slot {
-        Some(Aggregate {
-            spec,
-            unbuilt,
-            kept: Kept::Extrema(_),
-            ..
-        }) => {
+        Some(
+            Aggregate {
+                spec,
+                unbuilt,
+                kept: Kept::Extrema(_),
+                ..
+            },
+        ) => {
             if unbuilt.has(group) {
                 return Ok(None);
             }

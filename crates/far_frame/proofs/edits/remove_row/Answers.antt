@@ -3,6 +3,7 @@ use Rattle.far_types.specs.Edits.{changed_at, removed}
 use Rattle.far_frame.specs.Kept.{Keeps, registered_in}
 use Rattle.far_frame.specs.Deltas.{taken, change_of, fresh_of, refreshed, HaveRoom}
 use Rattle.far_frame.specs.Until.{zip_all, zip_until}
+use Rattle.far_frame.proofs.GroupLaws.{length-changed}
 use Rattle.far_frame.proofs.KeepLaws.{rows-fit, remove_may_take, after_remove, until-taken_room, until-taken_registered, all-refreshed_registered}
 use Rattle.far_frame.proofs.edits.remove_row.Goals as goal
 
@@ -38,3 +39,6 @@ returns-clause-kept c =
 pub returns-clause-registered : goal.returns-clause-registered
 returns-clause-registered c =
     ap (map registered_in) c.refresh_all.ensures ∙ all-refreshed_registered _ _ _ ∙ ap (map registered_in) c.take_until.ensures ∙ until-taken_registered _ _ _ ∙ c.in_ok-make_rooms.ensures.registered
+
+pub returns-clause-count : goal.returns-clause-count
+returns-clause-count c = ap length c.clear.ensures.places ∙ length-changed removed c.args.place c.args.rows.now.places

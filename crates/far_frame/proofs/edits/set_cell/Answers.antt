@@ -51,3 +51,6 @@ returns-clause-kept c =
     let ps = c.args.rows.now.places in
     subst (Keeps c.args.size c.set-cell.new.self.places) (sym c.in-Err.ensures.err)
     (subst (λ l. Keeps c.args.size l c.make_rooms.new.slots) (sym (c.set-cell.ensures.places ∙ c.set-old.ensures.back)) (c.in_ok-make_rooms.ensures.kept c.args.size ps c.requires.kept))
+
+pub returns-in-Ok-clause-count : goal.returns-in-Ok-clause-count
+returns-in-Ok-clause-count c = ap length c.set-old.ensures.places ∙ length-changed (with_cell c.args.column c.args.cell) c.args.place c.args.rows.now.places

@@ -1,0 +1,53 @@
+-- What a column and a lent cell hold, as cells of the plain table.
+use Rattle.std.specs.Prelude.{ℕ, ◌+◌, ◌/◌, ℤ, ◌<◌, Bool, ◌&&◌, nat_lt, List, ◌∷◌, ◌++◌, map, take, drop, Option, None, Some, vec_len, vec_capacity}
+use Rattle.far_types.specs.declared.cell.Cell.{Cell}
+use Rattle.far_types.specs.declared.cell.Cell.TheVariants as cell
+use Rattle.far_types.specs.declared.cell.Kind.{Kind}
+use Rattle.far_types.specs.declared.cell.Kind.TheVariants as kind
+use Rattle.far_types.specs.declared.limits.Limits.{Limits}
+use Rattle.far_types.specs.Bounds.{is_text}
+use Rattle.far_types.specs.Cells.{text_in}
+use Rattle.far_types.specs.FormLengths.{texts_length}
+use Rattle.far_types.specs.Table.{in_group}
+use Rattle.far_frame.specs.declared.column.Column.{Column}
+use Rattle.far_frame.specs.declared.column.Column.TheVariants.{Ints, Texts}
+use Rattle.far_frame.specs.declared.cell_ref.CellRef.{CellRef}
+use Rattle.far_frame.specs.declared.cell_ref.CellRef.TheVariants as lent
+
+-- the cell that is lent in place
+abbrev pub lent_cell : CellRef → Cell
+lent_cell (lent.Int number) = cell.Int number
+lent_cell (lent.Text text) = cell.Text text.now
+lent_cell lent.Missing = cell.Missing
+
+abbrev pub int_cell : Option ℤ → Cell
+int_cell (Some number) = cell.Int number
+int_cell None = cell.Missing
+
+abbrev pub text_cell : Option (List ℕ) → Cell
+text_cell (Some text) = cell.Text text
+text_cell None = cell.Missing
+
+-- the kind of a column's cells
+abbrev pub kind_in : Column → Kind
+kind_in (Ints numbers) = kind.Int
+kind_in (Texts texts) = kind.Text
+
+-- the cells of a column, by place
+abbrev pub cells_in : Column → List Cell
+cells_in (Ints numbers) = map int_cell numbers.items
+cells_in (Texts texts) = map text_cell texts.items
+
+-- one more cell can be pushed without memory
+abbrev pub HasRoom : Column → Type 0
+HasRoom (Ints numbers) = vec_len numbers < vec_capacity numbers
+HasRoom (Texts texts) = vec_len texts < vec_capacity texts
+
+-- the cells with one put at a place, or appended
+abbrev pub put : ℕ → Cell → List Cell → List Cell
+put place cell cells = take place cells ++ cell ∷ drop (place + 1) cells
+
+-- whether the text object of a row group would be too long with a cell put at a place
+abbrev pub overfilled : Limits → ℕ → Cell → Column → Bool
+overfilled limits place cell column =
+    is_text (Some (kind_in column)) && nat_lt limits.text_size (texts_length (map text_in (in_group limits.group (place / limits.group) (put place cell (cells_in column)))))

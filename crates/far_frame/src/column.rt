@@ -1,0 +1,176 @@
+// The cells of one column.
+ghost use Rattle.std.specs.Prelude.{◌≡◌, ◌<◌, ◌≤◌, ◌-◌, take, ◌++◌, [], ◌∷◌, true, OnOk, OnErr, IfErr, slice_index_or, slice_set, length};
+ghost use Rattle.far_types.specs.Cells.{is_of_kind, CellFits, RowFits};
+ghost use Rattle.far_types.specs.declared.cell.Cell.TheVariants.{Missing};
+ghost use Rattle.far_frame.specs.Columns.{lent_cell, int_cell, text_cell, kind_in, cells_in, HasRoom, overfilled};
+
+use super::cell_ref::CellRef;
+use super::text_form::texts_length;
+use far_types::{Cell, Kind, Limits, Refusal, Text};
+use std::alloc::Global;
+use std::mem;
+
+/// The cells of one column, by place. A cell without a value is a `None`.
+#[derive(Drop, Debug)]
+pub enum Column {
+    Ints(Vec<Option<i64>>),
+    Texts(Vec<Option<Text>>),
+}
+
+impl Column {
+    /// A column without cells. Takes no memory.
+    pub fn new(alloc: Global, kind: Kind) -> Column
+        ensures kind { kind_in result ≡ kind }
+        ensures cells { cells_in result ≡ [] }
+    {
+        match kind {
+            Kind::Int => Column::Ints(Vec::new(alloc)),
+            Kind::Text => Column::Texts(Vec::new(alloc)),
+        }
+    }
+
+    /// The cell of a place, lent where it lies. Past the end there is no value.
+    pub fn cell(&self, place: usize) -> CellRef<'_>
+        ensures cell { lent_cell result ≡ slice_index_or (cells_in self.now) place Missing }
+        ensures fits { CellFits (lent_cell result) }
+    {
+        match self {
+            Column::Ints(numbers) => match numbers.get(place) {
+                Some(Some(number)) => CellRef::Int(*number),
+                _ => CellRef::Missing,
+            },
+            Column::Texts(texts) => match texts.get(place) {
+                Some(Some(text)) => CellRef::Text(text.as_str()),
+                _ => CellRef::Missing,
+            },
+        }
+    }
+
+    /// Takes the memory for one more cell. Refused with `NoMemory` (1) alone.
+    pub fn reserve(&mut self) -> Result<(), Refusal>
+        ensures room { OnOk result (HasRoom self.new) }
+        ensures kind { kind_in self.new ≡ kind_in self.old }
+        ensures cells { cells_in self.new ≡ cells_in self.old }
+        ensures memory { IfErr result (λ e. e ≡ Refusal.NoMemory) }
+    {
+        match self {
+            Column::Ints(numbers) => numbers.reserve(1)?,
+            Column::Texts(texts) => texts.reserve(1)?,
+        }
+        Ok(())
+    }
+
+    /// Appends a cell, for which there is room. Takes no memory.
+    pub fn push(&mut self, cell: Cell)
+        requires of_kind { is_of_kind (kind_in self.old) cell ≡ true }
+        requires room { HasRoom self.old }
+        ensures kind { kind_in self.new ≡ kind_in self.old }
+        ensures cells { cells_in self.new ≡ cells_in self.old ++ cell ∷ [] }
+        ensures fits { CellFits cell }
+    {
+        match self {
+            Column::Ints(numbers) => numbers.push(number_of(cell)).unwrap(),
+            Column::Texts(texts) => texts.push(text_of(cell)).unwrap(),
+        }
+    }
+
+    /// Takes back the last cell. Takes no memory.
+    pub fn pop(&mut self)
+        ensures kind { kind_in self.new ≡ kind_in self.old }
+        ensures cells { cells_in self.new ≡ take (length (cells_in self.old) - 1) (cells_in self.old) }
+    {
+        match self {
+            Column::Ints(numbers) => {
+                numbers.pop();
+            }
+            Column::Texts(texts) => {
+                texts.pop();
+            }
+        }
+    }
+
+    /// Puts a cell in the place of another, which is handed back and could be put there again. Takes no memory.
+    pub fn replace(&mut self, place: usize, cell: Cell) -> Cell
+        requires within { place < length (cells_in self.old) }
+        requires of_kind { is_of_kind (kind_in self.old) cell ≡ true }
+        ensures kind { kind_in self.new ≡ kind_in self.old }
+        ensures cells { cells_in self.new ≡ slice_set (cells_in self.old) place cell }
+        ensures old { result ≡ slice_index_or (cells_in self.old) place Missing }
+        ensures old_kind { is_of_kind (kind_in self.old) result ≡ true }
+        ensures old_fits { CellFits result }
+        ensures fits { CellFits cell }
+    {
+        match self {
+            Column::Ints(numbers) => cell_of_number(mem::replace(
+                &mut numbers[place],
+                number_of(cell),
+            )),
+            Column::Texts(texts) => cell_of_text(mem::replace(&mut texts[place], text_of(cell))),
+        }
+    }
+
+    /// Whether a cell put at a place, or appended, would make the text object of its row group longer than a text
+    /// segment. Takes no memory.
+    pub fn overfills(&self, limits: &Limits, place: usize, cell: &Cell) -> bool
+        requires group_low { 1 ≤ limits.now.group }
+        requires place { place ≤ length (cells_in self.now) }
+        ensures { result ≡ overfilled limits.now place cell.now self.now }
+    {
+        let Column::Texts(texts) = self else {
+            return false;
+        };
+        let group = limits.group as usize;
+        let from = place / group * group;
+        let to = (from + group).min(texts.len());
+        let texts = texts.as_slice();
+        let before = &texts[from..place];
+        let after = &texts[(place + 1).min(to)..to];
+        texts_length(before, cell, after) > limits.text_size as u128
+    }
+}
+
+/// The number of a cell of a column of numbers.
+fn number_of(cell: Cell) -> Option<i64>
+    requires { is_of_kind Kind.Int cell ≡ true }
+    ensures cell { int_cell result ≡ cell }
+    ensures fits { CellFits cell }
+{
+    match cell {
+        Cell::Int(number) => Some(number),
+        Cell::Text(_) => unreachable!(),
+        Cell::Missing => None,
+    }
+}
+
+/// The text of a cell of a column of texts.
+fn text_of(cell: Cell) -> Option<Text>
+    requires { is_of_kind Kind.Text cell ≡ true }
+    ensures cell { text_cell result ≡ cell }
+    ensures fits { CellFits cell }
+{
+    match cell {
+        Cell::Int(_) => unreachable!(),
+        Cell::Text(text) => Some(text),
+        Cell::Missing => None,
+    }
+}
+
+fn cell_of_number(number: Option<i64>) -> Cell
+    ensures cell { result ≡ int_cell number }
+    ensures fits { CellFits result }
+{
+    match number {
+        Some(number) => Cell::Int(number),
+        None => Cell::Missing,
+    }
+}
+
+fn cell_of_text(text: Option<Text>) -> Cell
+    ensures cell { result ≡ text_cell text }
+    ensures fits { CellFits result }
+{
+    match text {
+        Some(text) => Cell::Text(text),
+        None => Cell::Missing,
+    }
+}
