@@ -32,8 +32,8 @@ fn cell(page: &mut Page, is_lone: bool, cell: CellRef) -> Result<(), Refusal> {
 }
 
 /// A row as a line.
-fn row(page: &mut Page, frame: &Frame, place: usize) -> Result<(), Refusal> {
-    let width = frame.schema().len();
+fn row(page: &mut Page, frame: &Frame, place: u32) -> Result<(), Refusal> {
+    let width = frame.schema().len() as u32;
     for column in 0..width {
         if column > 0 {
             page.text(",")?;
