@@ -1,0 +1,5 @@
+use Rattle.far_shell.specs.Scripts.{Reaches}
+use Rattle.far_shell.proofs.script.serve_lines.Given as goal
+
+abbrev pub invariant-loop : goal.invariant-loop
+invariant-loop g l = Reaches l.fn.world l.world

@@ -1,0 +1,162 @@
+// Lines and loads of a script, as they come.
+ghost use Rattle.std.specs.Prelude.{◌≡◌, ◌≤◌, ◌<◌, ◌+◌, IfOk, IfSome, OnOk, vec_len};
+
+use super::bounded::{Bounded, MAX_READS};
+use super::fault::ShellFault;
+use super::output::Output;
+use std::alloc::Global;
+use std::io::{Read, Write};
+use std::str;
+
+/// How many bytes are read at a time, at least.
+const CHUNK: usize = 65_536;
+
+/// A script that is read as it is answered: at most one line or one load of it is held, and what came with it.
+#[derive(Drop)]
+pub struct Input<R: Read + Drop> {
+    source: Bounded<R>,
+    /// What was read, and room behind it.
+    buffer: Vec<u8>,
+    /// Where the next line begins.
+    start: usize,
+    /// There is no end of a line between `start` and here.
+    searched: usize,
+    /// Where the room begins.
+    filled: usize,
+    ghost begun: { start ≤ searched },
+    ghost known: { searched ≤ filled },
+    ghost held: { filled ≤ vec_len buffer },
+}
+
+impl<R: Read + Drop> Input<R> {
+    /// A script of which nothing was read yet.
+    pub fn new(alloc: Global, reader: R) -> Input<R> {
+        Input {
+            source: Bounded::new(reader),
+            buffer: Vec::new(alloc),
+            start: 0,
+            searched: 0,
+            filled: 0,
+        }
+    }
+
+    /// Moves what was not taken yet to the front.
+    fn move_to_front(&mut self) {
+        if self.start == 0 {
+            return;
+        }
+        self.buffer.copy_within(self.start..self.filled, 0);
+        self.filled -= self.start;
+        self.searched -= self.start;
+        self.start = 0;
+    }
+
+    /// Makes room for more bytes.
+    fn make_room(&mut self) -> Result<(), ShellFault>
+        ensures { OnOk result (self.new.filled < vec_len self.new.buffer) }
+    {
+        self.move_to_front();
+        if self.buffer.len() - self.filled < CHUNK / 2 {
+            let more = self.buffer.len().max(CHUNK);
+            let Some(len) = self.buffer.len().checked_add(more) else {
+                return Err(ShellFault::Memory);
+            };
+            self.buffer.resize(len, 0)?;
+        }
+        Ok(())
+    }
+
+    /// Reads once, and says whether bytes came. They stop at the end of the script alone.
+    fn fill(&mut self) -> Result<bool, ShellFault> {
+        self.make_room()?;
+        let count = self.source.read(&mut self.buffer[self.filled..])?;
+        self.filled += count;
+        Ok(count > 0)
+    }
+
+    /// Where the first line ends that is whole in the buffer.
+    fn line_end(&mut self) -> Option<usize>
+        ensures { IfSome result (λ end. (self.new.start ≤ end) × (end < self.new.filled)) }
+    {
+        match self.buffer[self.searched..self.filled]
+            .iter()
+            .position(|byte| *byte == b'\n')
+        {
+            Some(at) => {
+                self.searched += at;
+                Some(self.searched)
+            }
+            None => {
+                self.searched = self.filled;
+                None
+            }
+        }
+    }
+
+    /// Reads until a whole line is at hand, and says where it ends; `None` at the end of the script. Replies are written
+    /// before the reader is asked.
+    fn seek_line<W: Write>(&mut self, output: &mut Output<W>) -> Result<Option<usize>, ShellFault>
+        ensures { IfOk result (λ found. IfSome found (λ end. (self.new.start ≤ end) × (end < self.new.filled))) }
+    {
+        for _ in 0..=MAX_READS {
+            if let Some(end) = self.line_end() {
+                return Ok(Some(end));
+            }
+            output.flush()?;
+            if !self.fill()? {
+                return Ok(None);
+            }
+        }
+        Ok(None)
+    }
+
+    /// Takes what stands up to a place, and leaves out the end of a line that follows it. It must be UTF-8, else the fault
+    /// is `Input`.
+    fn take_text(&mut self, end: usize, next: usize) -> Result<&str, ShellFault>
+        requires { (self.old.start ≤ end) × (end ≤ next) × (next ≤ self.old.filled) }
+    {
+        let from = self.start;
+        self.start = next;
+        self.searched = next;
+        match str::from_utf8(&self.buffer[from..end]) {
+            Ok(text) => Ok(text),
+            Err(_) => Err(ShellFault::Input),
+        }
+    }
+
+    /// The next line without its end, which is a line feed and a carriage return directly before it, if there is one; the
+    /// last line may lack its end. `None` where the script has no more.
+    pub fn line<W: Write>(&mut self, output: &mut Output<W>) -> Result<Option<&str>, ShellFault> {
+        let Some(end) = self.seek_line(output)? else {
+            if self.start == self.filled {
+                return Ok(None);
+            }
+            let filled = self.filled;
+            return Ok(Some(self.take_text(filled, filled)?));
+        };
+        let text = self.take_text(end, end + 1)?;
+        Ok(Some(text.strip_suffix('\r').unwrap_or(text)))
+    }
+
+    /// The next bytes, as many as asked. Where the script ends before them, or they are no UTF-8, the fault is `Input`.
+    pub fn bytes<W: Write>(
+        &mut self,
+        output: &mut Output<W>,
+        count: usize,
+    ) -> Result<&str, ShellFault> {
+        for _ in 0..=MAX_READS {
+            if self.filled - self.start >= count {
+                break;
+            }
+            output.flush()?;
+            if !self.fill()? {
+                return Err(ShellFault::Input);
+            }
+        }
+        if self.filled - self.start < count {
+            return Err(ShellFault::Input);
+        }
+        let end = self.start + count;
+        self.take_text(end, end)
+    }
+}

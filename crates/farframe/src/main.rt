@@ -1,0 +1,17 @@
+#![tactic(auto)]
+//! Runs a script: reads it from standard input, and writes its replies to standard output.
+//!
+//! The exit status is 0 at the end of the script, refusals included; 2 where its first command opens no table; 3 where a
+//! read or a write fails, or the script is too long or no UTF-8; 4 where memory is refused.
+
+use far_shell::run_script;
+use std::io;
+use std::process::ExitCode;
+
+fn main(rt: HostRuntime) -> ExitCode {
+    let mut writer = io::writer(&rt);
+    match run_script(&rt, rt.reader(), &mut writer) {
+        Ok(()) => ExitCode::SUCCESS,
+        Err(fault) => ExitCode::from(fault.status()),
+    }
+}
