@@ -31,9 +31,9 @@ use Rattle.far_frame.proofs.BuiltLaws.{built-all}
 -- what is left of a slot is what the table shows
 pub left_there : (slots : List Slot) (a g : ℕ) → option_map_or (λ (r : Registered). is_unbuilt r.unbuilt g) (joined (slice_get (registered_of slots) a)) false ≡ has_unbuilt g (joined (slice_get slots a))
 left_there slots a g = elim (joined (slice_get slots a)) as (λ o. joined (slice_get slots a) ≡ o → option_map_or (λ (r : Registered). is_unbuilt r.unbuilt g) (joined (slice_get (registered_of slots) a)) false ≡ has_unbuilt g o) [
-    | None ↦ λ h. ap (λ o. option_map_or (λ (r : Registered). is_unbuilt r.unbuilt g) o false) (none_at_number slots a h)
-    | Some w ↦ λ h. ap (λ o. option_map_or (λ (r : Registered). is_unbuilt r.unbuilt g) o false) (at_number slots a w h)
-  ] refl
+  | None ↦ λ h. ap (λ o. option_map_or (λ (r : Registered). is_unbuilt r.unbuilt g) o false) (none_at_number slots a h)
+  | Some w ↦ λ h. ap (λ o. option_map_or (λ (r : Registered). is_unbuilt r.unbuilt g) o false) (at_number slots a w h)
+] refl
 
 -- without key column each pair stands under the one key "none"
 
