@@ -1,22 +1,21 @@
 -- What is kept, where nothing is left to be built in, answers for the rows as they are.
-use Rattle.std.proofs.Common.{inl, inr, ◌≡◌, ℕ, zero, suc, ◌+◌, ◌-◌, ◌*◌, ◌<◌, ◌≤◌, Bool, true, false, cond, List, [], ◌∷◌, ◌++◌, length, map, take, drop, refl, sym, ap, ◌∙◌, subst, arith, Option, None, Some, slice_index_or, replicate, length-append}
+use Rattle.std.proofs.Common.{◌≡◌, ℕ, zero, suc, ◌+◌, ◌*◌, ◌<◌, ◌≤◌, cond, List, [], ◌∷◌, ◌++◌, length, take, refl, sym, ap, ◌∙◌, arith, Option, None, Some, slice_index_or, replicate, length-append}
 use Rattle.std.specs.Prelude.{fold, ℤ}
 use Rattle.std.specs.List.{filter_map}
 use Rattle.std.specs.FinMap as fin
 use Rattle.std.proofs.Math.Nat.{le-mul_of_pos_right}
 use Rattle.std.proofs.Math.Seq.{take-add}
-use Rattle.std.proofs.lemmas.List.{append-nil, take_all, length-replicate}
+use Rattle.std.proofs.lemmas.List.{take_all, length-replicate}
 use Rattle.std.proofs.lemmas.List.Sums.{fold-append}
 use Rattle.std.proofs.lemmas.List.Elements.{filter_map-append}
 use Rattle.far_types.specs.declared.answer.Answer.TheVariants as answer
-use Rattle.far_types.specs.declared.key.Key.{Key}
 use Rattle.far_types.specs.declared.spec.Spec.{Spec}
 use Rattle.far_types.specs.declared.spec.Fold.{Fold}
-use Rattle.far_types.specs.Answers.{Totals, Extrema, totals, extrema, or_zero, total_lines, extrema_lines, answer_of, answer_over}
+use Rattle.far_types.specs.Answers.{Extrema, totals, extrema, or_zero, total_lines, extrema_lines, answer_of, answer_over}
 use Rattle.far_types.specs.Changes.{together, join_spans, joined_extrema}
 use Rattle.far_types.specs.Keys.{line_cmp}
 use Rattle.far_types.specs.Pairs.{Pair, pairs_of}
-use Rattle.far_types.specs.Table.{Place, rows_of, place_pair, in_group, is_unbuilt, left}
+use Rattle.far_types.specs.Table.{Place, rows_of, place_pair, in_group, left}
 use Rattle.far_types.proofs.Grouping.{same, get-joined}
 use Rattle.far_types.proofs.PlaceLaws.{pairs_of-rows}
 use Rattle.far_types.proofs.TotalLaws.{extrema-append}
@@ -24,7 +23,7 @@ use Rattle.far_extrema.specs.Live.{all_groups}
 use Rattle.far_frame.specs.declared.aggregate.Aggregate.{Aggregate}
 use Rattle.far_frame.specs.declared.aggregate.Kept.{Kept}
 use Rattle.far_frame.specs.declared.aggregate.Kept.TheVariants as kept
-use Rattle.far_frame.specs.Kept.{built_pairs, group_pairs, built_group, fold_of, left_in, kept_answer, IsKept, KeepsSlot}
+use Rattle.far_frame.specs.Kept.{group_pairs, fold_of, left_in, kept_answer, IsKept, KeepsSlot}
 use Rattle.far_frame.proofs.BuiltLaws.{none_left, built-all}
 use Rattle.far_frame.proofs.ListLaws.{index-replicate}
 

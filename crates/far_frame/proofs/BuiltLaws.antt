@@ -1,6 +1,6 @@
 -- How the totals of the places that are built in change with the places, and with the row groups that are built in.
-use Rattle.std.proofs.Common.{◌≡◌, ℕ, zero, suc, ◌+◌, ◌-◌, ◌/◌, ◌<◌, ◌≤◌, ◌^◌, Bool, true, false, cond, List, [], ◌∷◌, ◌++◌, length, refl, sym, ap, ◌∙◌, subst, arith, add-zero, zero-add, Option, None, Some, slice_get, slice_set, slice_index_or}
-use Rattle.std.specs.Prelude.{ℤ, FitsSigned, count_by}
+use Rattle.std.proofs.Common.{◌≡◌, ℕ, zero, suc, ◌+◌, ◌/◌, ◌<◌, ◌≤◌, Bool, true, false, cond, List, [], ◌∷◌, ◌++◌, length, refl, sym, ap, ◌∙◌, subst, arith, add-zero, zero-add, Option, None, Some, slice_get}
+use Rattle.std.specs.Prelude.{ℤ, FitsSigned}
 use Rattle.std.specs.Int.{w64}
 use Rattle.std.specs.List.{AllByRecursion, filter_map, cons_option}
 use Rattle.std.proofs.lemmas.List.Sums.{sum_by-cons}
@@ -8,17 +8,15 @@ use Rattle.far_types.specs.declared.cell.Cell.{Cell}
 use Rattle.far_types.specs.declared.cell.Cell.TheVariants as cell
 use Rattle.far_types.specs.declared.key.Key.{Key}
 use Rattle.far_types.specs.declared.spec.Spec.{Spec}
-use Rattle.far_types.specs.Answers.{Totals, totals}
+use Rattle.far_types.specs.Answers.{totals}
 use Rattle.far_types.specs.Cells.{RowFits, CellFits, cells_of, number_in}
-use Rattle.far_types.specs.Changes.{with_pair, without_pair, joined_totals}
 use Rattle.far_types.specs.Edits.{changed_at}
 use Rattle.far_types.specs.Filters.{keeps}
 use Rattle.far_types.specs.Pairs.{Pair, PairsFit, paired, pair_in, pair_of, key_under}
 use Rattle.far_types.specs.Table.{Place, place_pair, is_unbuilt, left}
-use Rattle.far_types.proofs.TotalLaws.{totals-cons, totals-among, totals-append, without_pair-totals}
+use Rattle.far_types.proofs.TotalLaws.{totals-cons, totals-among, without_pair-totals}
 use Rattle.far_frame.specs.Kept.{Change, built_pair, built_pairs}
 use Rattle.far_frame.specs.Deltas.{with_change, without_change}
-use Rattle.far_frame.specs.Rows.{IsRow}
 
 pub totals-more : (o : Change) (ps : List Pair) → totals (cons_option o ps) ≡ with_change (totals ps) o
 totals-more None ps = refl

@@ -1,10 +1,9 @@
 -- The places of a row group: which changes leave them as they are, and how they follow from the places in order.
-use Rattle.std.proofs.Common.{inl, inr, ◌≡◌, ◌≢◌, ℕ, zero, suc, ◌+◌, ◌-◌, ◌*◌, ◌/◌, ◌<◌, ◌≤◌, Bool, true, false, cond, List, [], ◌∷◌, ◌++◌, length, map, take, drop, refl, sym, ap, ◌∙◌, subst, arith, Option, None, Some, slice_get, slice_range, length-drop, length-append}
+use Rattle.std.proofs.Common.{inl, inr, ◌≡◌, ◌≢◌, ℕ, zero, suc, ◌+◌, ◌-◌, ◌*◌, ◌/◌, ◌<◌, ◌≤◌, List, [], ◌∷◌, ◌++◌, length, take, drop, refl, sym, ap, ◌∙◌, arith, slice_get, length-drop, length-append}
 use Rattle.std.specs.Prelude.{option_map, ◌⊎◌}
-use Rattle.std.specs.List.{filter_map, cons_option}
 use Rattle.std.proofs.Math.Nat.{div-mul-le_self, lt-div-mul-add, mul-le-mul_right}
 use Rattle.std.proofs.Math.Seq.{drop-nil}
-use Rattle.std.proofs.lemmas.List.{drop-append-le, take-append-le, take_all, drop_all}
+use Rattle.std.proofs.lemmas.List.{drop-append-le, take-append-le, drop_all}
 use Rattle.far_types.specs.Edits.{changed_at}
 use Rattle.far_types.specs.Table.{Place, in_group}
 

@@ -1,5 +1,5 @@
 -- What is kept for an aggregate stays what the places give, under an edit of the places.
-use Rattle.std.proofs.Common.{All, ◌≡◌, ◌≢◌, ℕ, zero, suc, ◌+◌, ◌-◌, ◌*◌, ◌/◌, ◌<◌, ◌≤◌, ◌^◌, Bool, true, false, cond, List, [], ◌∷◌, ◌++◌, length, map, take, drop, inl, inr, refl, sym, ap, ◌∙◌, subst, arith, zero-add, Option, None, Some, slice_get, slice_set, slice_index_or}
+use Rattle.std.proofs.Common.{All, ◌≡◌, ◌≢◌, ℕ, zero, suc, ◌/◌, ◌<◌, ◌≤◌, ◌^◌, Bool, true, false, cond, List, [], ◌∷◌, ◌++◌, length, map, inl, inr, refl, sym, ap, ◌∙◌, subst, arith, zero-add, Option, None, Some, slice_get, slice_set, slice_index_or}
 use Rattle.std.specs.Prelude.{◌⊎◌, option_map}
 use Rattle.std.specs.List.{AllByRecursion, cons_option, filter_map}
 use Rattle.std.specs.FinMap as fin
@@ -7,22 +7,22 @@ use Rattle.std.proofs.lemmas.List.Elements.{recursion_from_All}
 use Rattle.std.proofs.lemmas.List.{get_or-set_same, get_or-set_other, length-map}
 use Rattle.far_types.specs.declared.cell.Kind.{Kind}
 use Rattle.far_types.specs.declared.spec.Spec.{Spec}
-use Rattle.far_types.specs.Answers.{Totals, Extrema, totals, extrema}
+use Rattle.far_types.specs.Answers.{Extrema, totals, extrema}
 use Rattle.far_types.specs.Cells.{RowFits}
 use Rattle.far_types.specs.Edits.{changed_at, removed}
 use Rattle.far_types.specs.Pairs.{Pair, PairsFit}
-use Rattle.far_types.specs.Table.{Place, place_pair, is_unbuilt, left, in_group}
+use Rattle.far_types.specs.Table.{Place, place_pair, is_unbuilt, in_group}
 use Rattle.far_groups.specs.Live as groups
 use Rattle.far_extrema.specs.Live as spans
 use Rattle.far_frame.specs.declared.aggregate.Aggregate.{Aggregate}
 use Rattle.far_frame.specs.declared.aggregate.Kept.{Kept}
 use Rattle.far_frame.specs.declared.aggregate.Kept.TheVariants as kept
-use Rattle.far_frame.specs.Rows.{TableRows, IsRow, AreRows}
-use Rattle.far_frame.specs.Kept.{Slot, Change, pair_if, built_pair, built_pairs, group_pairs, built_group, group_at, fold_of, IsKept, KeepsSlot, Keeps, registered_in}
+use Rattle.far_frame.specs.Rows.{IsRow}
+use Rattle.far_frame.specs.Kept.{Slot, Change, built_pair, built_pairs, group_pairs, built_group, KeepsSlot, Keeps, registered_in}
 use Rattle.far_frame.specs.Deltas.{change_of, added, taken, with_change, without_change, MayTake, Folds, EachFolds, EachMayTake, fresh_of, refreshed, HasRoom, HaveRoom}
 use Rattle.far_frame.specs.Until.{zip_all, zip_until}
 use Rattle.far_frame.proofs.BuiltLaws.{totals-more, totals-swap, others, built-apart, built-changed, built-appended, PlacesFit, built_pair-fits, cons-fits, built-fits, others-fits, length-built}
-use Rattle.far_frame.proofs.GroupLaws.{length-changed, get-changed, in_group-changed, in_group-appended}
+use Rattle.far_frame.proofs.GroupLaws.{get-changed, in_group-changed, in_group-appended}
 use Rattle.far_frame.proofs.ListLaws.{all-get, all-zip_all, map-zip_all, length-zip_all}
 use Rattle.far_frame.proofs.PairLaws.{find}
 use Rattle.far_frame.proofs.UntilLaws.{zip_until-all}

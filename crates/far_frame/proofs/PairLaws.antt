@@ -1,6 +1,6 @@
 -- The pairs of a row group, place by place.
-use Rattle.std.proofs.Common.{inl, inr, ◌≡◌, ◌≢◌, ℕ, zero, suc, ◌+◌, ◌-◌, ◌*◌, ◌<◌, ◌≤◌, Bool, true, false, cond, List, [], ◌∷◌, ◌++◌, length, take, drop, min, refl, sym, ap, ◌∙◌, subst, arith, Option, None, Some, slice_get, length-drop}
-use Rattle.std.specs.Prelude.{ℤ, option_map, ◌⊎◌, Result, Ok, Err, IfOk}
+use Rattle.std.proofs.Common.{inl, inr, ◌≡◌, ℕ, zero, suc, ◌+◌, ◌-◌, ◌*◌, ◌<◌, ◌≤◌, List, [], ◌∷◌, ◌++◌, length, take, drop, min, refl, sym, ap, ◌∙◌, arith, Option, None, Some, slice_get, length-drop}
+use Rattle.std.specs.Prelude.{option_map, ◌⊎◌, Result, Ok, Err, IfOk}
 use Rattle.std.specs.List.{filter_map, cons_option}
 use Rattle.std.proofs.Math.Seq.{drop-nil}
 use Rattle.std.proofs.lemmas.List.{append-nil, take_all, length-take}
@@ -9,12 +9,12 @@ use Rattle.far_types.specs.declared.spec.Spec.{Spec}
 use Rattle.far_types.specs.Answers.{totals, extrema}
 use Rattle.far_types.specs.Changes.{with_pair, with_seen}
 use Rattle.far_types.specs.Pairs.{Pair}
-use Rattle.far_types.specs.Table.{Place, place_pair, in_group}
-use Rattle.far_types.specs.Edits.{changed_at, removed}
+use Rattle.far_types.specs.Table.{Place, place_pair}
+use Rattle.far_types.specs.Edits.{removed}
 use Rattle.far_types.proofs.TotalLaws.{totals-cons, totals-among, extrema-cons, extrema-among}
 use Rattle.far_frame.specs.Kept.{Change, pair_if, group_pairs}
 use Rattle.far_frame.specs.Deltas.{with_change, with_seen_change, without}
-use Rattle.far_frame.proofs.GroupLaws.{length-changed, get-changed, get-changed_other}
+use Rattle.far_frame.proofs.GroupLaws.{length-changed, get-changed}
 
 pub each_ok : {A E : Type 0} (P Q : A → Type 0) (r : Result A E) → ((a : A) → P a → Q a) → IfOk r P → IfOk r Q
 each_ok P Q (Ok a) f h = f a h

@@ -1,39 +1,35 @@
 -- What the readers of a table tell.
-use Rattle.std.proofs.Common.{◌≡◌, ℕ, zero, suc, Bool, true, false, cond, List, [], ◌∷◌, map, refl, sym, ap, ◌∙◌, subst, arith, Option, None, Some, slice_get}
+use Rattle.std.proofs.Common.{◌≡◌, ℕ, Bool, true, false, cond, List, [], ◌∷◌, map, refl, sym, ap, ◌∙◌, subst, Option, None, Some, slice_get}
 use Rattle.std.specs.Prelude.{ℤ, pos, unwrap_or, is_none, IfNone, ◌&&◌, ◌==◌}
 use Rattle.std.specs.List.{filter_map, cons_option}
 use Rattle.std.specs.Option.{option_map_or}
 use Rattle.std.specs.FinMap as fin
-use Rattle.far_types.specs.declared.cell.Cell.{Cell}
-use Rattle.far_types.specs.declared.key.Key.{Key}
 use Rattle.far_types.specs.declared.spec.Spec.{Spec}
 use Rattle.far_types.specs.declared.spec.Fold.{Fold}
 use Rattle.far_types.specs.declared.spec.Fold.TheVariants as fold
 use Rattle.far_types.specs.Answers.{is_under, values_of, tally, totals}
 use Rattle.far_types.specs.Cells.{cells_of, number_in}
 use Rattle.far_types.specs.Filters.{keeps}
-use Rattle.far_types.specs.Pairs.{Pair, key_under, paired, pair_in, pair_of, pairs_of}
-use Rattle.far_types.specs.Table.{Place, Registered, rows_of, place_pair, is_unbuilt, left}
+use Rattle.far_types.specs.Pairs.{Pair, key_under, paired, pair_in, pair_of}
+use Rattle.far_types.specs.Table.{Place, Registered, place_pair, is_unbuilt, left}
 use Rattle.far_types.proofs.Grouping.{own_key, if_any, get-grouped, values_of-cons}
 use Rattle.far_types.proofs.PlaceLaws.{pairs_of-rows}
 use Rattle.far_groups.specs.Live as groups
 use Rattle.far_frame.specs.declared.aggregate.Aggregate.{Aggregate}
-use Rattle.far_frame.specs.declared.aggregate.Kept.{Kept}
 use Rattle.far_frame.specs.declared.aggregate.Kept.TheVariants as kept
-use Rattle.far_frame.specs.Kept.{Slot, Change, registered_in, registered_of, built_pairs, fold_of, left_in, IsKept, KeepsSlot}
+use Rattle.far_frame.specs.Kept.{Slot, Change, registered_in, registered_of, fold_of, IsKept, KeepsSlot}
 use Rattle.far_frame.specs.Readings.{is_totals, all_values, plain_in}
 use Rattle.far_frame.specs.Scans.{has_unbuilt}
 use Rattle.far_frame.specs.Steps.{joined}
-use Rattle.far_frame.proofs.AnswerLaws.{left-now}
-use Rattle.far_frame.proofs.AskLaws.{seen, at_number, none_at_number}
+use Rattle.far_frame.proofs.AskLaws.{at_number, none_at_number}
 use Rattle.far_frame.proofs.BuiltLaws.{built-all}
 
 -- what is left of a slot is what the table shows
 pub left_there : (slots : List Slot) (a g : ℕ) → option_map_or (λ (r : Registered). is_unbuilt r.unbuilt g) (joined (slice_get (registered_of slots) a)) false ≡ has_unbuilt g (joined (slice_get slots a))
 left_there slots a g = elim (joined (slice_get slots a)) as (λ o. joined (slice_get slots a) ≡ o → option_map_or (λ (r : Registered). is_unbuilt r.unbuilt g) (joined (slice_get (registered_of slots) a)) false ≡ has_unbuilt g o) [
-    | None ↦ λ h. ap (λ o. option_map_or (λ (r : Registered). is_unbuilt r.unbuilt g) o false) (none_at_number slots a h)
-    | Some w ↦ λ h. ap (λ o. option_map_or (λ (r : Registered). is_unbuilt r.unbuilt g) o false) (at_number slots a w h)
-  ] refl
+  | None ↦ λ h. ap (λ o. option_map_or (λ (r : Registered). is_unbuilt r.unbuilt g) o false) (none_at_number slots a h)
+  | Some w ↦ λ h. ap (λ o. option_map_or (λ (r : Registered). is_unbuilt r.unbuilt g) o false) (at_number slots a w h)
+] refl
 
 -- without key column each pair stands under the one key "none"
 

@@ -1,6 +1,6 @@
 -- Aggregates under their numbers, as the table shows them.
-use Rattle.std.proofs.Common.{inl, inr, take, drop, ◌≡◌, ℕ, zero, suc, ◌+◌, ◌-◌, ◌*◌, ◌/◌, ◌<◌, ◌≤◌, Bool, true, false, cond, List, [], ◌∷◌, ◌++◌, length, map, refl, sym, ap, ◌∙◌, subst, arith, Option, None, Some, slice_get, slice_set, slice_index_or, replicate}
-use Rattle.std.specs.Prelude.{count_by, ◌⊎◌}
+use Rattle.std.proofs.Common.{inl, inr, take, ◌≡◌, ℕ, zero, suc, ◌+◌, ◌-◌, ◌*◌, ◌/◌, ◌<◌, ◌≤◌, Bool, true, false, cond, List, [], ◌∷◌, ◌++◌, length, map, refl, sym, ap, ◌∙◌, subst, arith, Option, None, Some, slice_set, slice_index_or, replicate}
+use Rattle.std.specs.Prelude.{◌⊎◌}
 use Rattle.std.specs.List.{AllByRecursion, filter_map}
 use Rattle.std.specs.FinMap as fin
 use Rattle.std.proofs.Math.Nat.{div-mul-le_self, lt-div-mul-add, mul-le-mul_right}
@@ -8,13 +8,11 @@ use Rattle.std.proofs.lemmas.List.{get_or-replicate, length-map, length-set, dro
 use Rattle.std.proofs.lemmas.List.Sums.{sum_by-cons}
 use Rattle.std.proofs.lemmas.Nat.{le-div}
 use Rattle.far_types.specs.declared.spec.Spec.{Spec}
-use Rattle.far_types.specs.declared.spec.Fold.{Fold}
-use Rattle.far_types.specs.declared.spec.Fold.TheVariants as fold
 use Rattle.far_types.specs.Answers.{totals, extrema}
 use Rattle.far_types.specs.Table.{Place, Registered, groups, all_unbuilt, is_unbuilt, left, in_group, place_pair}
 use Rattle.far_frame.specs.declared.aggregate.Kept.{Kept}
 use Rattle.far_frame.specs.declared.aggregate.Kept.TheVariants as kept
-use Rattle.far_frame.specs.Kept.{Slot, registered_in, registered_of, built_pairs, group_pairs, built_group, fold_of, KeepsNothing, KeepsSlot, Keeps}
+use Rattle.far_frame.specs.Kept.{Slot, registered_in, registered_of, group_pairs, built_group, fold_of, KeepsNothing, KeepsSlot}
 use Rattle.far_frame.proofs.BuiltLaws.{built-none}
 
 set-before : {X : Type 0} (xs ys : List X) (a : ℕ) (y : X) → a < length xs → slice_set (xs ++ ys) a y ≡ slice_set xs a y ++ ys

@@ -1,5 +1,5 @@
 -- Room for a row group changes nothing that is kept.
-use Rattle.std.proofs.Common.{◌≡◌, ℕ, ◌+◌, ◌-◌, ◌<◌, ◌≤◌, List, ◌++◌, length, refl, sym, ap, ◌∙◌, subst, arith, Option, None, Some, replicate, length-append}
+use Rattle.std.proofs.Common.{◌≡◌, ℕ, ◌+◌, ◌-◌, List, length, refl, ◌∙◌, arith, None, Some, replicate, length-append}
 use Rattle.std.specs.FinMap as fin
 use Rattle.std.proofs.lemmas.List.{length-replicate}
 use Rattle.far_types.specs.Answers.{Extrema}
@@ -7,7 +7,7 @@ use Rattle.far_types.specs.Table.{Place}
 use Rattle.far_frame.specs.declared.aggregate.Aggregate.{Aggregate}
 use Rattle.far_frame.specs.declared.aggregate.Kept.{Kept}
 use Rattle.far_frame.specs.declared.aggregate.Kept.TheVariants as kept
-use Rattle.far_frame.specs.Kept.{Slot, registered_in, group_at, fold_of, IsKept, KeepsSlot}
+use Rattle.far_frame.specs.Kept.{Slot, registered_in, fold_of, IsKept, KeepsSlot}
 use Rattle.far_frame.specs.Deltas.{kept_room, roomy, KeptHasRoom, HasRoom}
 use Rattle.far_frame.proofs.ListLaws.{index-replicate}
 

@@ -1,15 +1,14 @@
 -- What a row group that is built in adds to what is kept.
-use Rattle.std.proofs.Common.{inl, inr, ◌≡◌, ◌≢◌, ℕ, zero, suc, ◌+◌, ◌-◌, ◌*◌, ◌/◌, ◌<◌, ◌≤◌, Bool, true, false, cond, ◌==◌, List, [], ◌∷◌, ◌++◌, length, map, take, drop, refl, sym, ap, ◌∙◌, subst, arith, zero-add, Option, None, Some, slice_get, slice_set, slice_index_or, replicate, length-append, length-drop, ◌^◌}
-use Rattle.std.specs.Prelude.{◌⊎◌, count_by, nat_eq}
-use Rattle.std.specs.List.{AllByRecursion, filter_map, cons_option}
+use Rattle.std.proofs.Common.{inl, inr, ◌≡◌, ◌≢◌, ℕ, zero, suc, ◌+◌, ◌-◌, ◌*◌, ◌/◌, ◌<◌, ◌≤◌, Bool, true, false, cond, List, [], ◌∷◌, ◌++◌, length, take, drop, refl, sym, ap, ◌∙◌, subst, arith, None, Some, slice_get, slice_set, slice_index_or, replicate, length-append, length-drop, ◌^◌}
+use Rattle.std.specs.Prelude.{nat_eq}
+use Rattle.std.specs.List.{filter_map, cons_option}
 use Rattle.std.specs.FinMap as fin
 use Rattle.std.proofs.lemmas.Bool.Decides.{nat_tests}
-use Rattle.std.proofs.lemmas.List.{get_or-set_same, get_or-set_other, append-nil, append_assoc, take_all, length-replicate, length-take}
+use Rattle.std.proofs.lemmas.List.{get_or-set_same, get_or-set_other, take_all, length-replicate, length-take}
 use Rattle.std.proofs.lemmas.List.Sums.{sum_by-cons}
-use Rattle.std.proofs.lemmas.List.Elements.{filter_map-append}
-use Rattle.std.proofs.Math.Nat.{div-mul-le_self, lt-div-mul-add, mul-le-mul_right, div-eq_of_lt-le}
+use Rattle.std.proofs.Math.Nat.{div-mul-le_self, lt-div-mul-add, div-eq_of_lt-le}
 use Rattle.far_types.specs.declared.spec.Spec.{Spec}
-use Rattle.far_types.specs.Answers.{Totals, Extrema, totals, extrema}
+use Rattle.far_types.specs.Answers.{Extrema, totals, extrema}
 use Rattle.far_types.specs.Changes.{joined_totals}
 use Rattle.far_types.specs.Pairs.{Pair}
 use Rattle.far_types.specs.Table.{Place, place_pair, is_unbuilt, left, in_group}
@@ -20,12 +19,12 @@ use Rattle.far_groups.proofs.PairLaws.{can_join}
 use Rattle.far_frame.specs.declared.aggregate.Aggregate.{Aggregate}
 use Rattle.far_frame.specs.declared.aggregate.Kept.{Kept}
 use Rattle.far_frame.specs.declared.aggregate.Kept.TheVariants as kept
-use Rattle.far_frame.specs.Kept.{Slot, Change, built_pair, built_pairs, group_pairs, built_group, fold_of, IsKept, KeepsSlot}
+use Rattle.far_frame.specs.Kept.{Slot, Change, built_pairs, group_pairs, built_group, fold_of, IsKept, KeepsSlot}
 use Rattle.far_frame.proofs.RoomLaws.{same-kept}
 use Rattle.far_frame.specs.Scans.{has_unbuilt, kept_scanned, KeptMayScan}
 use Rattle.far_frame.specs.Steps.{joined}
 use Rattle.far_frame.specs.Deltas.{with_change}
-use Rattle.far_frame.proofs.BuiltLaws.{totals-more, length-built}
+use Rattle.far_frame.proofs.BuiltLaws.{length-built}
 use Rattle.far_frame.proofs.ListLaws.{index-replicate}
 use Rattle.far_frame.proofs.PairLaws.{pairs-few}
 use Rattle.far_frame.proofs.KeepLaws.{same_or_not}

@@ -1,5 +1,5 @@
 -- How an edit changes what is kept: pairs that totals get and give back, and the row group that extrema look at anew.
-use Rattle.std.specs.Prelude.{◌≡◌, ℕ, ◌<◌, ◌≤◌, ◌^◌, ◌/◌, cond, List, [], ◌∷◌, length, Option, None, Some, slice_get, slice_set}
+use Rattle.std.specs.Prelude.{◌≡◌, ℕ, ◌<◌, ◌≤◌, ◌^◌, ◌/◌, cond, List, length, Option, None, Some, slice_get, slice_set}
 use Rattle.std.specs.List.{AllByRecursion}
 use Rattle.std.specs.FinMap as fin
 use Rattle.far_types.specs.Answers.{Totals, Extrema, totals, extrema}

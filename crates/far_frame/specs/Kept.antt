@@ -1,5 +1,5 @@
 -- What is kept for each aggregate, and how an edit changes it.
-use Rattle.std.specs.Prelude.{◌≡◌, ℕ, ◌+◌, ◌-◌, ◌<◌, ◌≤◌, ◌^◌, ◌/◌, Bool, cond, List, [], ◌∷◌, ◌++◌, length, map, replicate, Option, None, Some, slice_get, slice_index_or}
+use Rattle.std.specs.Prelude.{◌≡◌, ℕ, ◌+◌, ◌-◌, ◌≤◌, ◌^◌, ◌/◌, Bool, cond, List, [], ◌∷◌, ◌++◌, length, map, replicate, Option, None, Some, slice_index_or}
 use Rattle.std.specs.List.{AllByRecursion, filter_map, cons_option}
 use Rattle.std.specs.FinMap as fin
 use Rattle.far_types.specs.declared.cell.Kind.{Kind}
@@ -11,10 +11,8 @@ use Rattle.far_types.specs.declared.answer.Answer.{Answer}
 use Rattle.far_types.specs.declared.answer.Answer.TheVariants as answer
 use Rattle.far_types.specs.Answers.{Extrema, totals, extrema, or_zero, total_lines, extrema_lines}
 use Rattle.far_types.specs.Bounds.{AreLimits}
-use Rattle.far_types.specs.Changes.{count_in, with_pair, without_pair}
-use Rattle.far_types.specs.Pairs.{Pair, PairsFit}
+use Rattle.far_types.specs.Pairs.{Pair}
 use Rattle.far_types.specs.Table.{Place, Registered, place_pair, in_group, is_unbuilt, left}
-use Rattle.far_groups.specs.Live.{CanTake}
 use Rattle.far_extrema.specs.Live.{Live, all_groups}
 use Rattle.far_frame.specs.declared.aggregate.Aggregate.{Aggregate}
 use Rattle.far_frame.specs.declared.aggregate.Kept.{Kept}

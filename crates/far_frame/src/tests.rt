@@ -83,33 +83,45 @@ fn test(alloc: Global, column: u32, op: &str, word: &str) -> Result<Test, Refusa
     }
 }
 
-/// A specification, as a script writes it: `FOLD C [by C] [if C OP W]..`.
-fn spec(alloc: Global, line: &str) -> Result<Spec, Refusal> {
+/// A test, as a script writes it: `C OP W`.
+fn test_of(alloc: Global, line: &str) -> Result<Test, Refusal> {
+    let mut words = line.split(' ');
+    let column = number(words.next());
+    let op = words.next().unwrap_or("");
+    test(alloc, column, op, words.next().unwrap_or(""))
+}
+
+/// An aggregate without tests, as a script writes it: `FOLD C [by C]`.
+fn plain_spec(alloc: Global, line: &str) -> Spec {
     let mut words = line.split(' ');
     let fold = match words.next() {
         Some("extrema") => Fold::Extrema,
         _ => Fold::Totals,
     };
     let value = number(words.next());
-    let mut key = None;
-    let mut tests = Vec::new(alloc);
-    for _ in 0..6u32 {
-        match words.next() {
-            Some("by") => key = Some(number(words.next())),
-            Some(_) => {
-                let column = number(words.next());
-                let op = words.next().unwrap_or("");
-                let word = words.next().unwrap_or("");
-                tests.push(test(alloc, column, op, word)?)?;
-            }
-            None => break,
-        }
-    }
-    Ok(Spec {
+    let key = match words.next() {
+        Some(_) => Some(number(words.next())),
+        None => None,
+    };
+    Spec {
         fold,
         value,
         key,
+        filter: Filter::new(Vec::new(alloc)),
+    }
+}
+
+/// A specification, as a script writes it: `FOLD C [by C] [if C OP W]..`.
+fn spec(alloc: Global, line: &str) -> Result<Spec, Refusal> {
+    let mut parts = line.split(" if ");
+    let plain = plain_spec(alloc, parts.next().unwrap_or(""));
+    let mut tests = Vec::new(alloc);
+    for part in parts {
+        tests.push(test_of(alloc, part)?)?;
+    }
+    Ok(Spec {
         filter: Filter::new(tests),
+        ..plain
     })
 }
 

@@ -1,9 +1,9 @@
-use Rattle.std.proofs.Common.{◌≡◌, sym, ap, ◌∙◌, subst, arith, slice_get, slice_set, Some, refl, ◌<◌}
+use Rattle.std.proofs.Common.{sym, ap, ◌∙◌, subst, arith, slice_get, slice_set, refl}
 use Rattle.std.proofs.lemmas.Option.{slice_get_read}
-use Rattle.far_frame.specs.Deltas.{added, taken, MayAdd, MayTake, EachMayTake}
-use Rattle.far_frame.specs.Until.{zip_until, zip_all}
-use Rattle.far_frame.proofs.UntilLaws.{zip_until-here, zip_until-next, length-zip_until, zip_until-below, zip_until-undo, zip_until-all}
-use Rattle.far_frame.proofs.SlotLaws.{fold-room, fold-may_take, fold-undo, set_same, until-may_take}
+use Rattle.far_frame.specs.Deltas.{added, taken, MayAdd, EachMayTake}
+use Rattle.far_frame.specs.Until.{zip_until}
+use Rattle.far_frame.proofs.UntilLaws.{zip_until-here, zip_until-next, zip_until-undo, zip_until-all}
+use Rattle.far_frame.proofs.SlotLaws.{fold-room, fold-undo, set_same, until-may_take}
 use Rattle.far_frame.proofs.deltas.add_all.Goals as goal
 
 pub add_one-requires : goal.add_one-requires

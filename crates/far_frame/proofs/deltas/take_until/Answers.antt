@@ -1,8 +1,8 @@
-use Rattle.std.proofs.Common.{◌≡◌, sym, ap, ◌∙◌, subst, arith, slice_get, slice_set, Some, refl}
+use Rattle.std.proofs.Common.{sym, ap, ◌∙◌, subst, arith, slice_get, slice_set, refl}
 use Rattle.std.proofs.lemmas.Option.{slice_get_read}
 use Rattle.far_frame.specs.Deltas.{taken, MayTake}
 use Rattle.far_frame.specs.Until.{zip_until}
-use Rattle.far_frame.proofs.UntilLaws.{zip_until-here, zip_until-next, length-zip_until}
+use Rattle.far_frame.proofs.UntilLaws.{zip_until-here, zip_until-next}
 use Rattle.far_frame.proofs.deltas.take_until.Goals as goal
 
 pub take_one-requires : goal.take_one-requires

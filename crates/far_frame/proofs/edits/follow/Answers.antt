@@ -1,4 +1,4 @@
-use Rattle.std.proofs.Common.{◌≡◌, ◌/◌, sym, subst}
+use Rattle.std.proofs.Common.{◌/◌, sym, subst}
 use Rattle.far_frame.specs.Deltas.{HaveRoom}
 use Rattle.far_frame.proofs.KeepLaws.{all-added_room, until-taken_room}
 use Rattle.far_frame.proofs.edits.follow.Goals as goal

@@ -1,7 +1,6 @@
-use Rattle.std.proofs.Common.{◌≡◌, ◌/◌, sym, ap, ◌∙◌, subst, arith, length, map, true}
+use Rattle.std.proofs.Common.{sym, ap, ◌∙◌, subst, arith, map, true}
 use Rattle.far_types.specs.Table.{Place}
 use Rattle.far_frame.specs.Kept.{Keeps, registered_in}
-use Rattle.far_frame.specs.Deltas.{added, change_of, EachFolds, HaveRoom}
 use Rattle.far_frame.proofs.KeepLaws.{rows-fit, each-folds, after_insert, all-added_registered, all-refreshed_registered}
 use Rattle.far_frame.proofs.edits.insert_row.Goals as goal
 

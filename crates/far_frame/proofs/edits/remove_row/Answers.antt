@@ -1,7 +1,7 @@
-use Rattle.std.proofs.Common.{◌≡◌, ◌/◌, ◌≤◌, ◌<◌, sym, ap, ◌∙◌, subst, arith, length, map, slice_get}
+use Rattle.std.proofs.Common.{◌≡◌, ◌/◌, sym, ap, ◌∙◌, subst, arith, length, map}
 use Rattle.far_types.specs.Edits.{changed_at, removed}
-use Rattle.far_frame.specs.Kept.{Keeps, registered_in}
-use Rattle.far_frame.specs.Deltas.{taken, change_of, fresh_of, refreshed, HaveRoom}
+use Rattle.far_frame.specs.Kept.{registered_in}
+use Rattle.far_frame.specs.Deltas.{taken, fresh_of, refreshed, HaveRoom}
 use Rattle.far_frame.specs.Until.{zip_all, zip_until}
 use Rattle.far_frame.proofs.GroupLaws.{length-changed}
 use Rattle.far_frame.proofs.KeepLaws.{rows-fit, remove_may_take, after_remove, until-taken_room, until-taken_registered, all-refreshed_registered}

@@ -1,7 +1,6 @@
-use Rattle.std.proofs.Common.{◌≡◌, ◌/◌, ◌≤◌, ◌<◌, sym, ap, ◌∙◌, subst, arith, length, map, slice_get}
+use Rattle.std.proofs.Common.{sym, ap, ◌∙◌, subst, arith, length, map}
 use Rattle.far_types.specs.Edits.{with_cell}
 use Rattle.far_frame.specs.Kept.{Keeps, registered_in}
-use Rattle.far_frame.specs.Deltas.{change_of}
 use Rattle.far_frame.proofs.GroupLaws.{length-changed}
 use Rattle.far_frame.proofs.KeepLaws.{rows-fit, each-folds, set_may_take, after_set, all-added_registered, until-taken_registered, all-refreshed_registered}
 use Rattle.far_frame.proofs.edits.set_cell.Goals as goal

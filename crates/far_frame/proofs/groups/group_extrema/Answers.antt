@@ -1,7 +1,7 @@
-use Rattle.std.proofs.Common.{◌≡◌, sym, ap, ◌∙◌, subst, arith, length, min, ◌+◌, ◌*◌}
+use Rattle.std.proofs.Common.{ap, ◌∙◌, arith, ◌*◌}
 use Rattle.far_types.specs.Answers.{extrema}
 use Rattle.far_frame.specs.Deltas.{with_seen_change, without}
-use Rattle.far_frame.proofs.PairLaws.{extrema-next, pairs_between, pairs_between-all, length-without}
+use Rattle.far_frame.proofs.PairLaws.{extrema-next, pairs_between-all, length-without}
 use Rattle.far_frame.proofs.groups.group_extrema.Goals as goal
 
 pub loop-place-preserved : goal.loop-place-preserved

@@ -1,4 +1,4 @@
-use Rattle.std.proofs.Common.{◌≡◌, sym, ap, ◌∙◌, subst, arith, length, min, ◌+◌, ◌*◌}
+use Rattle.std.proofs.Common.{ap, ◌∙◌, arith, ◌*◌}
 use Rattle.std.specs.FinMap as fin
 use Rattle.far_types.specs.Answers.{totals}
 use Rattle.far_types.specs.Changes.{count_in}

@@ -1,8 +1,7 @@
-use Rattle.std.proofs.Common.{◌≡◌, ◌≢◌, sym, ap, ◌∙◌, subst, Some, None, slice_get, arith, option_map}
-use Rattle.std.specs.Prelude.{IfOk}
+use Rattle.std.proofs.Common.{◌≡◌, sym, ap, ◌∙◌, Some, slice_get, option_map}
 use Rattle.far_types.specs.Edits.{removed}
 use Rattle.far_types.specs.Table.{place_pair}
-use Rattle.far_frame.specs.Kept.{Change, pair_if}
+use Rattle.far_frame.specs.Kept.{pair_if}
 use Rattle.far_frame.specs.Deltas.{without}
 use Rattle.far_frame.proofs.PairLaws.{each_ok, pair_is, pair-left_out}
 use Rattle.far_frame.proofs.GroupLaws.{get-changed_other}

@@ -1,4 +1,4 @@
-use Rattle.std.proofs.Common.{refl, ◌≡◌, Some, true, false, sym, ap, ◌∙◌, Option, None, ℕ}
+use Rattle.std.proofs.Common.{refl, ◌≡◌, Some, true, sym, ap, ◌∙◌, Option, None, ℕ}
 use Rattle.std.specs.Prelude.{Bool, is_none, is_some, not}
 use Rattle.far_frame.proofs.ReadLaws.{plain-now}
 use Rattle.far_frame.proofs.readings.plain.Goals as goal

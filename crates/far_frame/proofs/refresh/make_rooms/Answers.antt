@@ -1,10 +1,9 @@
-use Rattle.std.proofs.Common.{◌≡◌, sym, ap, ◌∙◌, subst, arith, refl, slice_get, slice_set}
+use Rattle.std.proofs.Common.{sym, ap, ◌∙◌, subst, arith, refl}
 use Rattle.std.proofs.lemmas.Option.{slice_get_read}
 use Rattle.far_frame.specs.Kept.{registered_in, KeepsSlot}
 use Rattle.far_frame.specs.Deltas.{roomy, HasRoom}
 use Rattle.far_frame.proofs.ListLaws.{all-set, all-get, all-take_set, map-set_like}
 use Rattle.far_frame.proofs.RoomLaws.{roomy-registered, roomy-has, roomy-keeps}
-use Rattle.far_frame.proofs.SlotLaws.{set_same}
 use Rattle.far_frame.proofs.refresh.make_rooms.Goals as goal
 
 pub returns-in_err-make_room-clause-kept : goal.returns-in_err-make_room-clause-kept

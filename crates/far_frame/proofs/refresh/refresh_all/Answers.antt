@@ -1,6 +1,5 @@
-use Rattle.std.proofs.Common.{◌≡◌, ◌+◌, sym, ap, ◌∙◌, subst, arith, refl, slice_get, slice_set, length, length-append, ◌∷◌, []}
+use Rattle.std.proofs.Common.{sym, ap, ◌∙◌, subst, arith, refl, slice_get, slice_set, length, length-append, ◌∷◌, []}
 use Rattle.std.proofs.lemmas.Option.{slice_get_read}
-use Rattle.std.specs.List.{AllByRecursion}
 use Rattle.far_frame.specs.Deltas.{refreshed, HasRoom}
 use Rattle.far_frame.specs.Until.{zip_all}
 use Rattle.far_frame.proofs.ListLaws.{all-get, zip_all-none, zip_all-here, zip_all-next}

@@ -1,6 +1,6 @@
-use Rattle.std.proofs.Common.{◌≡◌, ◌+◌, length, map, take}
+use Rattle.std.proofs.Common.{◌≡◌, ◌+◌, length}
 use Rattle.std.specs.Vec.Iter.{into_iter_items}
-use Rattle.far_frame.specs.Deltas.{HaveRoom, refreshed}
+use Rattle.far_frame.specs.Deltas.{refreshed}
 use Rattle.far_frame.specs.Until.{zip_all}
 use Rattle.far_frame.proofs.refresh.refresh_all.Given as goal
 

@@ -1,5 +1,5 @@
-use Rattle.std.proofs.Common.{◌≡◌, ◌<◌, Some, sym, ap, ◌∙◌, subst, arith, length, slice_set}
-use Rattle.far_frame.specs.Kept.{registered_in, registered_of, KeepsSlot}
+use Rattle.std.proofs.Common.{◌≡◌, Some, ap, ◌∙◌, arith, length, slice_set}
+use Rattle.far_frame.specs.Kept.{registered_in, registered_of}
 use Rattle.far_frame.proofs.RegisterLaws.{registered-set, registered-push}
 use Rattle.far_frame.proofs.registrations.put.Goals as goal
 

@@ -1,4 +1,4 @@
-use Rattle.std.proofs.Common.{◌≡◌, ◌<◌, Some, sym, ap, ◌∙◌, subst, arith, refl, length, slice_get, slice_set}
+use Rattle.std.proofs.Common.{◌<◌, sym, ap, ◌∙◌, refl, length, slice_set}
 use Rattle.std.proofs.lemmas.Option.{slice_get_read}
 use Rattle.far_frame.specs.Kept.{registered_in, registered_of}
 use Rattle.far_frame.specs.Scans.{built_slot}

@@ -1,4 +1,4 @@
-use Rattle.std.proofs.Common.{◌≡◌, Some, true, sym, ap, ◌∙◌, subst}
+use Rattle.std.proofs.Common.{◌≡◌, true, sym, ap, ◌∙◌, subst}
 use Rattle.far_types.specs.Table.{is_unbuilt}
 use Rattle.far_frame.specs.Kept.{KeepsSlot}
 use Rattle.far_frame.specs.Scans.{has_unbuilt}

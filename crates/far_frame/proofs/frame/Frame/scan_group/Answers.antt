@@ -1,9 +1,7 @@
-use Rattle.std.proofs.Common.{rules, ◌≡◌, ◌<◌, ◌≤◌, Some, None, true, false, sym, ap, ◌∙◌, subst, refl, arith, length, slice_get}
+use Rattle.std.proofs.Common.{rules, ◌≡◌, Some, false, sym, ap, ◌∙◌, refl, arith, slice_get}
 use Rattle.far_types.specs.Table.{groups, is_unbuilt}
-use Rattle.far_frame.specs.Kept.{registered_of, registered_in}
-use Rattle.far_frame.specs.Scans.{built_slot}
-use Rattle.far_frame.specs.Steps.{State, joined, aggregate_at, group_count, scan_refusal, scanned_at, built_in, with_aggregate, MayRefuse}
-use Rattle.far_frame.proofs.AskLaws.{seen, at_number, scan-out, scan-stale, scan-accepted, due, for_memory}
+use Rattle.far_frame.specs.Steps.{joined, aggregate_at, group_count, scan_refusal}
+use Rattle.far_frame.proofs.AskLaws.{seen, at_number, scan-out, scan-stale, due}
 use Rattle.far_frame.proofs.frame.Frame.scan_group.Goals as goal
 
 pub returns-then-group-group_count-clause-err : goal.returns-then-group-group_count-clause-err

@@ -1,5 +1,4 @@
 use Rattle.std.proofs.Common.{◌≡◌, ℕ, false, sym, ap, ◌∙◌, slice_get}
-use Rattle.std.specs.Prelude.{IfNone, Option, Some, None}
 use Rattle.far_frame.specs.Readings.{has_left}
 use Rattle.far_frame.specs.Scans.{has_unbuilt}
 use Rattle.far_frame.specs.Steps.{joined}
