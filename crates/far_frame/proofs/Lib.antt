@@ -9,6 +9,7 @@ pub mod ListLaws
 pub mod OverfillLaws
 pub mod PairLaws
 pub mod PlaceLaws
+pub mod ReadLaws
 pub mod RegisterLaws
 pub mod RoomLaws
 pub mod RowsLaws

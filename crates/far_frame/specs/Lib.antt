@@ -1,7 +1,9 @@
 pub mod Columns
 pub mod Deltas
 pub mod Kept
+pub mod Readings
 pub mod Rows
+pub mod Runs
 pub mod Scans
 pub mod Steps
 pub mod Until

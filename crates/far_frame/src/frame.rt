@@ -1,14 +1,19 @@
 // A table and what it answers.
-ghost use Rattle.std.specs.Prelude.{◌≡◌, ◌⊎◌, IfOk, IfErr, OnOk};
+ghost use Rattle.std.specs.Prelude.{◌≡◌, ◌⊎◌, ℕ, true, false, length, slice_get, option_map, IfOk, IfErr, IfSome, IfNone, OnOk};
+ghost use Rattle.std.specs.Option.{option_copied, option_and_then};
+ghost use Rattle.far_frame.specs.Columns.{lent_cell};
+ghost use Rattle.far_frame.specs.Readings.{has_left, plain_in};
 ghost use Rattle.far_types.specs.declared.edit.Edit.TheVariants as edit;
 ghost use Rattle.far_types.specs.Bounds.{AreLimits};
-ghost use Rattle.far_frame.specs.Steps.{Accepts, Refuses, empty_state};
+ghost use Rattle.far_frame.specs.Steps.{Accepts, Refuses, aggregate_at, empty_state};
 ghost use Rattle.far_frame.specs.declared.step.Step.TheVariants as step;
 ghost use Rattle.far_frame.specs.declared.step.Reply.TheVariants as reply;
 
 use super::aggregate::Aggregate;
 use super::answers::answer;
+use super::cell_ref::CellRef;
 use super::edits::{insert_row, remove_row, set_cell};
+use super::readings::{first_unbuilt, plain};
 use super::refusals::{insert_refusal, remove_refusal, set_refusal};
 use super::registrations::{aggregate_at, forget, free_number, group_count, register};
 use super::rows::Rows;
@@ -241,5 +246,55 @@ impl Frame {
         ensures { result.now ≡ self.now.table.schema }
     {
         &self.schema
+    }
+
+    /// How many places there are, dead ones too.
+    pub fn places(&self) -> u32
+        ensures { result ≡ length self.now.table.places }
+    {
+        self.rows.len() as u32
+    }
+
+    /// Whether a place is alive, or `None` where there is no such place.
+    pub fn is_alive(&self, place: u32) -> Option<bool>
+        ensures { result ≡ option_map (λ p. p.alive) (slice_get self.now.table.places place) }
+    {
+        self.rows.is_alive(place as usize)
+    }
+
+    /// A cell, lent where it lies, or `None` where there is no such place or column. A dead place has its cells still.
+    pub fn cell(&self, place: u32, column: u32) -> Option<CellRef<'_>>
+        ensures { option_map lent_cell result ≡ option_and_then (λ p. slice_get p.cells column) (slice_get self.now.table.places place) }
+    {
+        self.rows.cell(place as usize, column as usize)
+    }
+
+    /// The specification of the aggregate of a number, or `None` where there is none.
+    pub fn spec(&self, a: u32) -> Option<&Spec>
+        ensures { option_copied result ≡ option_map (λ aggregate. aggregate.spec) (aggregate_at self.now.table a) }
+    {
+        match aggregate_at(self.aggregates.as_slice(), a) {
+            None => None,
+            Some(aggregate) => Some(&aggregate.spec),
+        }
+    }
+
+    /// An aggregate and a row group that is still to be built into it, or `None` where there is none.
+    pub fn unbuilt(&self) -> Option<(u32, u32)>
+        ensures some { IfSome result (λ at. has_left self.now.table at.0 at.1 ≡ true) }
+        ensures none { IfNone result ((a : ℕ) → (g : ℕ) → has_left self.now.table a g ≡ false) }
+    {
+        first_unbuilt(self.aggregates.as_slice())
+    }
+
+    /// How many rows an aggregate of totals without key column folds, and the sum of their values: `None` where there is
+    /// no such aggregate, and where row groups are still to be built in.
+    pub fn plain(&self, a: u32) -> Option<(u64, i128)>
+        ensures { result ≡ plain_in self.now.table.places (aggregate_at self.now.table a) }
+    {
+        match aggregate_at(self.aggregates.as_slice(), a) {
+            None => None,
+            Some(aggregate) => plain(aggregate),
+        }
     }
 }

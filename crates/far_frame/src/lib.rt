@@ -10,6 +10,8 @@ mod deltas;
 mod edits;
 pub mod frame;
 mod groups;
+pub mod laws;
+mod readings;
 mod refresh;
 mod refusals;
 mod registrations;

@@ -1,0 +1,5 @@
+use Rattle.far_frame.proofs.RunLaws.{runs-join}
+use Rattle.far_frame.proofs.laws.runs_join.Goals as goal
+
+pub returns : goal.returns
+returns c = runs-join
