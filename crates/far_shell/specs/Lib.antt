@@ -8,3 +8,4 @@ pub mod Openings
 pub mod Printing
 pub mod Scripts
 pub mod Faults
+pub mod Listings

@@ -1,5 +1,7 @@
 // The rows of a table as text.
-ghost use Rattle.std.specs.Prelude.{◌≡◌, OnOk, IfErr};
+ghost use Rattle.std.specs.Prelude.{◌≡◌, ◌++◌, OnOk, IfErr};
+ghost use Rattle.far_frame.specs.Columns.{lent_cell};
+ghost use Rattle.far_shell.specs.Listings.{cell_text, field_in_record};
 
 use super::fault::ShellFault;
 use super::output::Output;
@@ -11,7 +13,10 @@ use itoa::Buffer;
 use std::io::Write;
 
 /// A field of a record of one field, or of several.
-fn field(page: &mut Page, is_lone: bool, text: &[u8]) -> Result<(), Refusal> {
+fn field(page: &mut Page, is_lone: bool, text: &[u8]) -> Result<(), Refusal>
+    ensures ok { OnOk result (page.new ≡ page.old ++ field_in_record is_lone text.now) }
+    ensures memory { IfErr result (λ e. e ≡ Refusal.NoMemory) }
+{
     if is_lone {
         page.lone_field(text)
     } else {
@@ -20,7 +25,10 @@ fn field(page: &mut Page, is_lone: bool, text: &[u8]) -> Result<(), Refusal> {
 }
 
 /// A cell as a field.
-fn cell(page: &mut Page, is_lone: bool, cell: CellRef) -> Result<(), Refusal> {
+fn cell(page: &mut Page, is_lone: bool, cell: CellRef) -> Result<(), Refusal>
+    ensures ok { OnOk result (page.new ≡ page.old ++ field_in_record is_lone (cell_text (lent_cell cell.entry))) }
+    ensures memory { IfErr result (λ e. e ≡ Refusal.NoMemory) }
+{
     match cell {
         CellRef::Int(number) => {
             let mut digits = Buffer::new();
