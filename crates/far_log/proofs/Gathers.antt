@@ -1,13 +1,13 @@
 -- Parts that are gathered in an order: how long they are together, and where they lie.
 use Rattle.std.proofs.Common.{◌≡◌, ◌≢◌, ℕ, zero, suc, ◌+◌, ◌-◌, ◌<◌, ◌≤◌, List, [], ◌∷◌, ◌++◌, length, get_or, take, map, Some, IsSome, cond, eqb, refl, sym, ap, ◌∙◌, inl, inr, arith}
-use Rattle.std.specs.Prelude.{filter, not, sum_by, AllPairs}
+use Rattle.std.specs.Prelude.{unwrap_or, filter, not, sum_by, AllPairs}
 use Rattle.std.proofs.lemmas.Bool.{eq-eqb, ne_eqb, cases_eq}
 use Rattle.std.proofs.lemmas.Option.{same_Some}
 use Rattle.std.proofs.lemmas.List.{map_more}
 use Rattle.std.proofs.lemmas.List.Sums.{sum_by-cons, sum_by_more_le}
 use Rattle.far_log.specs.Room.{Part, SegmentRoom, end_of, fill_from, AreLaid, IsLaid, list_at}
 use Rattle.far_log.specs.Changes.{laid_from, list_or_none, gathered, IsOrder}
-use Rattle.far_log.proofs.Laid.{fill-le-size}
+use Rattle.far_log.proofs.Laid.{fill-le-size, list-others}
 
 -- no number of a list is this one
 abbrev Lacks : ℕ → List ℕ → Type 0
@@ -81,12 +81,7 @@ module _ {X : Type 0} where
       ]
 
   list-of-others : (offset q : ℕ) (ps : List (Part X)) → q ≢ offset → list_or_none (others offset ps) q ≡ list_or_none ps q
-  list-of-others offset q [] ne = refl
-  list-of-others offset q (p ∷ ps) ne =
-      elim (cases_eq p.offset offset) [
-        | inl same ↦ rw (eq-eqb p.offset offset same, ne_eqb p.offset q (λ e. ne (sym e ∙ same))) (list-of-others offset q ps ne)
-        | inr other ↦ rw (ne_eqb p.offset offset other) (ap (cond (eqb p.offset q) p.list) (list-of-others offset q ps ne))
-      ]
+  list-of-others offset q ps ne = ap (λ o. unwrap_or o []) (list-others ps offset q ne)
 
   -- parts that are listed once are no longer together than all parts
   abbrev pub lens : List (Part X) → List ℕ → ℕ

@@ -90,7 +90,7 @@ module _ {X : Type 0} where
         | inr other ↦ let no = ne_eqb p.offset q.offset other in rw no (list-push-same ps q (rw no at none))
       ]
 
-  list-others : (ps : List (Part X)) (offset q : ℕ) → q ≢ offset → list_at (filter (λ p. not (eqb p.offset offset)) ps) q ≡ list_at ps q
+  pub list-others : (ps : List (Part X)) (offset q : ℕ) → q ≢ offset → list_at (filter (λ p. not (eqb p.offset offset)) ps) q ≡ list_at ps q
   list-others [] offset q ne = refl
   list-others (p ∷ ps) offset q ne =
       elim (cases_eq p.offset offset) [

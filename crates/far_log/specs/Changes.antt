@@ -1,5 +1,5 @@
 -- How a local region changes.
-use Rattle.std.specs.Prelude.{◌≡◌, ◌≢◌, ℕ, ◌+◌, ◌-◌, ◌<◌, ◌==◌, not, if◌then◌else◌, List, [], ◌∷◌, ◌++◌, length, take, drop, map, filter, Option, Some, IsSome, slice_set, slice_index, Contains, All, AllPairs}
+use Rattle.std.specs.Prelude.{◌≡◌, ◌≢◌, ℕ, ◌+◌, ◌-◌, ◌<◌, ◌==◌, not, if◌then◌else◌, List, [], ◌∷◌, ◌++◌, length, take, drop, map, filter, unwrap_or, Option, Some, IsSome, slice_set, slice_index, Contains, All, AllPairs}
 use Rattle.far_pointer.specs.declared.pointer.At.{At}
 use Rattle.far_log.specs.Room.{Part, SegmentRoom, Room, fill_of, list_at, segment_of, part_of, target_of}
 
@@ -64,8 +64,7 @@ module _ {X : Type 0} where
 
   -- the list that begins at an offset, and the empty one where none does
   abbrev pub list_or_none : List (Part X) → ℕ → List X
-  list_or_none [] offset = []
-  list_or_none (p ∷ ps) offset = if p.offset == offset then p.list else list_or_none ps offset
+  list_or_none parts offset = unwrap_or (list_at parts offset) []
 
   -- the parts that begin at these offsets, laid in this order from the segment's beginning on
   abbrev pub gathered : List (Part X) → List ℕ → List (Part X)
