@@ -1,11 +1,11 @@
 -- The length of a form in which one text changes.
-use Rattle.std.proofs.Common.{◌≡◌, ℕ, zero, suc, ◌+◌, ◌-◌, ◌*◌, ◌/◌, ◌<◌, ◌≤◌, Bool, true, false, cond, List, [], ◌∷◌, ◌++◌, length, get_or, map, set, take, drop, Option, None, Some, refl, sym, ap, ◌∙◌, arith}
+use Rattle.std.proofs.Common.{◌≡◌, ℕ, zero, suc, ◌+◌, ◌*◌, ◌/◌, ◌<◌, ◌≤◌, Bool, true, false, cond, List, [], ◌∷◌, ◌++◌, length, get_or, map, set, take, Option, None, Some, refl, sym, ap, ◌∙◌, arith}
 use Rattle.std.specs.Prelude.{is_none, is_some, not, ◌||◌, slice_get, option_and_then}
 use Rattle.std.specs.List.{list_any, flat_map}
 use Rattle.std.specs.Option.{option_map_or}
-use Rattle.std.proofs.lemmas.List.{length-map, length-append}
+use Rattle.std.proofs.lemmas.List.{length-append}
 use Rattle.std.proofs.lemmas.List.Sums.{sum_by-set, sum_by-append, sum_by-cons}
-use Rattle.far_types.specs.FormLengths.{mask_length, text_bytes, texts_length}
+use Rattle.far_types.specs.FormLengths.{text_bytes, texts_length}
 use Rattle.far_codec.specs.FarForm.{some_missing}
 use Rattle.std.proofs.lemmas.Option.{slice_get-get_or}
 use Rattle.far_codec.specs.Reading.{flags_of}

@@ -1,8 +1,8 @@
 -- Laws that callers may cite: how long a far form is, and that there is one for each list.
-use Rattle.std.proofs.Common.{◌≡◌, ℕ, ◌+◌, ◌*◌, ◌/◌, cond, List, length, map, ◌++◌, Option, sym, ap, ◌∙◌, arith}
+use Rattle.std.proofs.Common.{◌≡◌, ◌+◌, ◌/◌, cond, List, length, map, ◌++◌, Option, sym, ap, ◌∙◌, arith}
 use Rattle.std.specs.Prelude.{ℤ, is_none}
 use Rattle.std.specs.Int.{w32, to_le_bytes}
-use Rattle.std.specs.List.{list_any, flat_map}
+use Rattle.std.specs.List.{flat_map}
 use Rattle.std.proofs.lemmas.List.{length-map, length-append}
 use Rattle.far_types.specs.FormLengths.{mask_length, ints_length, texts_length}
 use Rattle.far_codec.specs.FarForm.{mask_of, some_missing, head, ints_form}

@@ -94,7 +94,8 @@ pub fn encode_ints(alloc: Global, numbers: &[Option<i64>]) -> Result<Vec<u8>, Re
     ensures length { IfOk result (λ form. length form.items ≡ ints_length numbers.now) }
     ensures memory { IfErr result (λ e. e ≡ Refusal.NoMemory) }
 {
-    let mut form = Vec::with_capacity(alloc, ints_length(numbers))?;
+    let room = 6 + numbers.len().div_ceil(8) + 8 * numbers.len();
+    let mut form = Vec::with_capacity(alloc, room)?;
     push_head(&mut form, 0, numbers)?;
     push_words(&mut form, numbers)?;
     Ok(form)

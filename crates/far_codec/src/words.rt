@@ -38,10 +38,11 @@ impl Word for Option<i64> {
 
     #[tactic(auto, unfolding(crate::specs::FarForm::number_bytes))]
     fn word(&self) -> [u8; 8] {
-        match self {
-            Some(number) => number.to_le_bytes(),
-            None => [0; 8],
-        }
+        let number = match self {
+            Some(number) => *number,
+            None => 0,
+        };
+        number.to_le_bytes()
     }
 }
 

@@ -1,12 +1,12 @@
-use Rattle.std.proofs.Common.{◌≡◌, ◌+◌, ◌<◌, ◌≤◌, ◌++◌, ◌∷◌, [], ℕ, Bool, false, List, length, get_or, map, set, Option, None, sym, ap, ◌∙◌, arith}
+use Rattle.std.proofs.Common.{◌≡◌, ◌+◌, ◌++◌, ◌∷◌, [], false, length, map, sym, ap, ◌∙◌, arith}
 use Rattle.std.specs.Prelude.{is_none, ◌||◌}
 use Rattle.std.specs.List.{list_any}
-use Rattle.std.proofs.lemmas.List.{length-append, length-map}
+use Rattle.std.proofs.lemmas.List.{length-append}
 use Rattle.far_types.specs.FormLengths.{text_bytes}
 use Rattle.far_codec.specs.FarForm.{some_missing}
 use Rattle.far_codec.specs.Reading.{flags_of}
-use Rattle.far_codec.specs.TextForm.{bytes_of, texts_of, ends_in, texts_meaning}
-use Rattle.far_codec.proofs.ChangedLengths.{Tells, tells, missing_next, bytes_next, length_is, none_is, set_past}
+use Rattle.far_codec.specs.TextForm.{texts_meaning}
+use Rattle.far_codec.proofs.ChangedLengths.{tells, missing_next, bytes_next, length_is, none_is, set_past}
 use Rattle.far_codec.proofs.Masks.{length-flags_of}
 use Rattle.far_codec.proofs.lengths.length_with_next.Goals as goal
 
