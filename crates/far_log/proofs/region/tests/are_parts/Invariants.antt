@@ -1,4 +1,4 @@
-use Rattle.std.proofs.Common.{ℕ, ◌<◌, IsSome, get_or, take}
+use Rattle.std.proofs.Common.{IsSome, take}
 use Rattle.std.specs.Prelude.{All}
 use Rattle.far_log.specs.Room.{segment_of, list_at}
 use Rattle.far_log.proofs.region.tests.are_parts.Given as goal
