@@ -20,10 +20,12 @@ lent_cell (lent.Int number) = cell.Int number
 lent_cell (lent.Text text) = cell.Text text.now
 lent_cell lent.Missing = cell.Missing
 
+-- a number that may be missing, as a cell
 abbrev pub int_cell : Option ℤ → Cell
 int_cell (Some number) = cell.Int number
 int_cell None = cell.Missing
 
+-- likewise a text
 abbrev pub text_cell : Option (List ℕ) → Cell
 text_cell (Some text) = cell.Text text
 text_cell None = cell.Missing

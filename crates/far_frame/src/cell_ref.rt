@@ -1,10 +1,12 @@
 // Cells lent in place.
-ghost use Rattle.std.specs.Prelude.{◌≡◌, IfOk, IfErr};
 
-/// A cell that is lent where it lies, or no value.
+/// A cell that is lent where it lies. `specs/Columns.antt` has the cell that it stands for (`lent_cell`).
 #[derive(Clone, Copy, Debug)]
 pub enum CellRef<'a> {
+    /// A number.
     Int(i64),
+    /// The bytes of a text, valid UTF-8.
     Text(&'a str),
+    /// No value.
     Missing,
 }

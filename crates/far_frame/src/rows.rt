@@ -62,14 +62,14 @@ impl Rows {
         self.alive.len()
     }
 
-    /// Whether a place is alive, or `None` where there is no such place.
+    /// Whether a place is alive, or `None` where there is no such place. Takes no memory.
     pub fn is_alive(&self, place: usize) -> Option<bool>
         ensures { result ≡ option_map (λ p. p.alive) (slice_get self.now.places place) }
     {
         self.alive.get(place).copied()
     }
 
-    /// A cell, lent where it lies, or `None` where there is no such place or column.
+    /// A cell, lent where it lies, or `None` where there is no such place or column. Takes no memory.
     pub fn cell(&self, place: usize, column: usize) -> Option<CellRef<'_>>
         ensures { option_map lent_cell result ≡ option_and_then (λ p. slice_get p.cells column) (slice_get self.now.places place) }
     {
@@ -96,7 +96,8 @@ impl Rows {
         Ok(())
     }
 
-    /// Takes back the last push. Takes no memory.
+    /// Takes back the last push: the last place goes, and the others stay. Without places nothing happens. Takes no
+    /// memory.
     pub fn pop(&mut self)
         ensures kinds { self.new.kinds ≡ self.old.kinds }
         ensures places { (before : List Place) → (last : Place) → self.old.places ≡ before ++ last ∷ [] → self.new.places ≡ before }
@@ -150,7 +151,8 @@ impl Rows {
         )
     }
 
-    /// Whether the row's insert would make a text object longer than a text segment. Takes no memory.
+    /// Whether the row's insert would make a text object longer than a text segment. Each text column is looked at,
+    /// and a row that is too short has no value there. One pass over the texts of the last row group; takes no memory.
     pub fn overfills_insert(&self, limits: &Limits, row: &Row) -> bool
         requires { 1 ≤ limits.now.group }
         ensures { result ≡ overfills self.now.kinds limits.now (Insert row.now) self.now.places }
@@ -158,7 +160,8 @@ impl Rows {
         overfills_any(self.columns.as_slice(), limits, self.len(), row)
     }
 
-    /// Whether the cell's set would make its text object longer than a text segment. Takes no memory.
+    /// Whether the cell's set would make its text object longer than a text segment; false where there is no such
+    /// column. One pass over the texts of the place's row group; takes no memory.
     pub fn overfills_set(&self, limits: &Limits, place: usize, column: usize, cell: &Cell) -> bool
         requires group_low { 1 ≤ limits.now.group }
         requires place { place < length self.now.places }
