@@ -1,5 +1,5 @@
 // The extrema of the rows of one row group.
-ghost use Rattle.std.specs.Prelude.{◌≡◌, Ok, OnOk, OnErr, IfErr, IfOk};
+ghost use Rattle.std.specs.Prelude.{◌≡◌, None, OnOk, OnErr, IfErr, IfOk};
 
 use super::spans::{Spans, into_lines, join, lines, see, see_under};
 use far_types::{Answer, ExtremaLines, Key, Refusal};
@@ -43,10 +43,11 @@ impl GroupExtrema {
     }
 
     /// One folded row more. Where its key is there already, the key that is given is dropped and no memory is taken.
-    /// Refused with `NoMemory` (1) alone, and then nothing is changed.
+    /// Refused with `NoMemory` (1) alone, where the key is new, and then nothing is changed.
     pub fn see(&mut self, key: Option<Key>, value: i64) -> Result<(), Refusal>
         ensures ok { OnOk result (self.new ≡ with_seen self.old (key, value)) }
         ensures err { OnErr result (self.new ≡ self.old) }
+        ensures only_new { OnErr result (fin.get self.old key ≡ None) }
         ensures memory { IfErr result (λ e. e ≡ Refusal.NoMemory) }
     {
         see(&mut self.spans, key, (value, value))
@@ -56,14 +57,26 @@ impl GroupExtrema {
     pub fn see_under(&mut self, key: &Option<Key>, value: i64) -> Result<(), Refusal>
         ensures ok { OnOk result (self.new ≡ with_seen self.old (key.now, value)) }
         ensures err { OnErr result (self.new ≡ self.old) }
+        ensures only_new { OnErr result (fin.get self.old key.now ≡ None) }
         ensures memory { IfErr result (λ e. e ≡ Refusal.NoMemory) }
     {
         see_under(&mut self.spans, key, (value, value))
     }
 
+    /// Some folded rows more, at least one, all under one key: the least and the greatest of their values, which the
+    /// caller folded by itself. Refused as `see`, and then nothing is changed.
+    pub fn see_rows(&mut self, key: Option<Key>, least: i64, greatest: i64) -> Result<(), Refusal>
+        ensures ok { OnOk result (self.new ≡ joined_extrema self.old (fin.insert fin.empty key (least, greatest))) }
+        ensures err { OnErr result (self.new ≡ self.old) }
+        ensures only_new { OnErr result (fin.get self.old key ≡ None) }
+        ensures memory { IfErr result (λ e. e ≡ Refusal.NoMemory) }
+    {
+        see(&mut self.spans, key, (least, greatest))
+    }
+
     /// The keys that occur, ascending, each with its least and its greatest value. Refused with `NoMemory` (1) alone.
     pub fn answer(&self, alloc: Global) -> Result<Answer, Refusal>
-        ensures ok { OnOk result (result ≡ Ok (Answer.Extrema (extrema_lines self.now))) }
+        ensures ok { IfOk result (λ answer. answer ≡ Answer.Extrema (extrema_lines self.now)) }
         ensures memory { IfErr result (λ e. e ≡ Refusal.NoMemory) }
     {
         Ok(Answer::Extrema(ExtremaLines::new(lines(alloc, &self.spans)?)))

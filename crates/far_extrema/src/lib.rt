@@ -9,3 +9,6 @@ mod spans;
 
 pub use group_extrema::GroupExtrema;
 pub use live_extrema::LiveExtrema;
+
+#[cfg(test)]
+mod tests;

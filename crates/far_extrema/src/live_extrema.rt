@@ -1,6 +1,6 @@
 // Extrema that are kept up to date, row group by row group.
+ghost use Rattle.std.specs.Prelude.{◌≡◌, ◌≢◌, ◌-◌, ◌<◌, [], Err, OnOk, OnErr, IfOk, IfErr, length, slice_set};
 ghost use Rattle.far_extrema.specs.Live.{all_groups};
-ghost use Rattle.std.specs.Prelude.{◌≡◌, ◌≢◌, ◌-◌, ◌<◌, [], Ok, Err, OnOk, OnErr, IfOk, IfErr, length, slice_set};
 
 use super::group_extrema::GroupExtrema;
 use far_types::{Answer, ExtremaLines, Refusal};
@@ -90,7 +90,7 @@ impl LiveExtrema {
     /// each key of each row group. Refused with `Building` (15) and how many row groups are left exactly where that is
     /// not 0, else with `NoMemory` (1) alone.
     pub fn answer(&self, alloc: Global) -> Result<Answer, Refusal>
-        ensures ok { OnOk result (result ≡ Ok (Answer.Extrema (extrema_lines (all_groups self.now.groups)))) }
+        ensures ok { IfOk result (λ answer. answer ≡ Answer.Extrema (extrema_lines (all_groups self.now.groups))) }
         ensures built { OnOk result (self.now.left ≡ 0) }
         ensures building { self.now.left ≢ 0 → result ≡ Err (Refusal.Building self.now.left) }
         ensures memory { self.now.left ≡ 0 → IfErr result (λ e. e ≡ Refusal.NoMemory) }

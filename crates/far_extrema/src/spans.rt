@@ -1,5 +1,5 @@
 // The least and the greatest value by key, in a tree map.
-ghost use Rattle.std.specs.Prelude.{◌≡◌, false, IsTrue, is_some, IfOk, IfErr, OnOk, OnErr, map, ℤ, Option};
+ghost use Rattle.std.specs.Prelude.{◌≡◌, None, false, IsTrue, is_some, IfOk, IfErr, OnOk, OnErr, map, ℤ, Option};
 ghost use Rattle.std.specs.BTreeMap.{IsOrdered};
 ghost use Rattle.std.specs.FinMap as fin;
 ghost use Rattle.far_types.specs.declared.key.Key.{Key};
@@ -43,6 +43,7 @@ fn widen(spans: &mut Spans, key: &Option<Key>, more: Span) -> bool
 pub fn see(spans: &mut Spans, key: Option<Key>, more: Span) -> Result<(), Refusal>
     ensures ok { OnOk result (extrema_of spans.new.entries ≡ with_span (extrema_of spans.old.entries) key more) }
     ensures err { OnErr result (spans.new.entries ≡ spans.old.entries) }
+    ensures only_new { OnErr result (fin.get (extrema_of spans.old.entries) key ≡ None) }
     ensures memory { IfErr result (λ e. e ≡ Refusal.NoMemory) }
 {
     if !widen(spans, &key, more) {
@@ -55,6 +56,7 @@ pub fn see(spans: &mut Spans, key: Option<Key>, more: Span) -> Result<(), Refusa
 pub fn see_under(spans: &mut Spans, key: &Option<Key>, more: Span) -> Result<(), Refusal>
     ensures ok { OnOk result (extrema_of spans.new.entries ≡ with_span (extrema_of spans.old.entries) key.now more) }
     ensures err { OnErr result (spans.new.entries ≡ spans.old.entries) }
+    ensures only_new { OnErr result (fin.get (extrema_of spans.old.entries) key.now ≡ None) }
     ensures memory { IfErr result (λ e. e ≡ Refusal.NoMemory) }
 {
     if !widen(spans, key, more) {

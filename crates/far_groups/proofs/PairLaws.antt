@@ -2,6 +2,7 @@
 use Rattle.std.proofs.Common.{◌≡◌, ℕ, suc, ◌+◌, ◌^◌, ◌≤◌, Bool, true, false, cond, List, [], ◌∷◌, length, sym, ap, ◌∙◌, subst, Option, None, Some, arith}
 use Rattle.std.specs.Prelude.{ℤ, IfSome, FitsSigned}
 use Rattle.std.specs.Int.{w64}
+use Rattle.std.specs.List.{AllByRecursion}
 use Rattle.std.specs.Ordering.{eq_by_cmp}
 use Rattle.std.proofs.lemmas.Int.{ints}
 use Rattle.std.specs.FinMap as fin
@@ -9,11 +10,12 @@ use Rattle.far_types.specs.declared.key.Key.{Key}
 use Rattle.far_types.specs.Keys.{line_cmp}
 use Rattle.far_types.specs.KeyOrder.{line_total}
 use Rattle.far_types.specs.Pairs.{Pair, PairsFit}
-use Rattle.far_types.specs.Answers.{Totals, totals}
+use Rattle.far_types.specs.Answers.{Totals, totals, tally}
 use Rattle.far_types.specs.Changes.{raised, with_pair, count_in}
 use Rattle.far_types.proofs.TotalLaws.{totals-cons}
 use Rattle.far_types.proofs.ByKeyMaps.{get_inserted}
-use Rattle.far_groups.specs.Tallies.{IsSumOf}
+use Rattle.far_types.proofs.LineLaws.{int_sum-low, int_sum-high}
+use Rattle.far_groups.specs.Tallies.{IsSumOf, IsTally}
 use Rattle.far_groups.specs.Live.{CanTake, CanJoin}
 
 get-with_pair : (p : Pair) (ps : List Pair) (k : Option Key) → fin.get (totals (p ∷ ps)) k ≡ cond (eq_by_cmp line_cmp k p.0) (Some (raised p.1 (fin.get (totals ps) p.0))) (fin.get (totals ps) k)
@@ -70,3 +72,7 @@ can_take p ps h =
 -- those of at most 2^26 pairs can be joined
 pub can_join : (ps qs : List Pair) → length ps + length qs ≤ 2 ^ 26 → CanJoin (totals ps) (totals qs)
 can_join ps qs few k = let one = counted ps k in let other = counted qs k in omega arith
+
+-- what at most 2^26 numbers come to is a count and a sum that rows can have
+pub folded : (v : ℤ) (vs : List ℤ) → AllByRecursion (FitsSigned w64) (v ∷ vs) → length (v ∷ vs) ≤ 2 ^ 26 → IsTally (tally (v ∷ vs))
+folded v vs fits few = (omega arith, few, (int_sum-low (v ∷ vs) fits, int_sum-high (v ∷ vs) fits))

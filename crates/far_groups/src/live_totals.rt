@@ -1,5 +1,5 @@
 // Totals that are kept up to date.
-ghost use Rattle.std.specs.Prelude.{◌≡◌, ◌≢◌, ◌+◌, ◌-◌, ◌^◌, ◌<◌, pos, None, Some, Ok, Err, unwrap_or, OnOk, OnErr, IfErr};
+ghost use Rattle.std.specs.Prelude.{◌≡◌, ◌≢◌, ◌+◌, ◌-◌, ◌^◌, ◌<◌, ◌≤◌, pos, None, Some, Err, unwrap_or, OnOk, OnErr, IfOk, IfErr};
 
 use super::tallies::{Tallies, add, add_under, join, lines, take, tally_of};
 use far_types::{Answer, Key, Refusal, TotalLines};
@@ -37,6 +37,7 @@ impl LiveTotals {
     ghost use Rattle.far_types.specs.Answers.{total_lines};
     ghost use Rattle.far_types.specs.Changes.{count_in, with_pair, without_pair, joined_totals};
     ghost use Rattle.far_groups.specs.Live.{CanTake, CanJoin};
+    ghost use Rattle.far_groups.specs.Tallies.{IsTally};
 
     /// No row is in, and as many row groups are still to be built in. Takes no memory.
     pub fn new(alloc: Global, left: u32) -> LiveTotals
@@ -57,11 +58,12 @@ impl LiveTotals {
     }
 
     /// One folded row more. Where its key is there already, the key that is given is dropped and no memory is taken.
-    /// Refused with `NoMemory` (1) alone, and then nothing is changed.
+    /// Refused with `NoMemory` (1) alone, where the key is new, and then nothing is changed.
     pub fn add(&mut self, key: Option<Key>, value: i64) -> Result<(), Refusal>
         requires { count_in (fin.get self.old.totals key) < 2 ^ 26 }
         ensures ok { OnOk result (self.new ≡ record self.old { totals = with_pair self.old.totals (key, value) }) }
         ensures err { OnErr result (self.new ≡ self.old) }
+        ensures only_new { OnErr result (fin.get self.old.totals key ≡ None) }
         ensures memory { IfErr result (λ e. e ≡ Refusal.NoMemory) }
     {
         add(&mut self.tallies, key, tally_of(value))
@@ -72,9 +74,23 @@ impl LiveTotals {
         requires { count_in (fin.get self.old.totals key.now) < 2 ^ 26 }
         ensures ok { OnOk result (self.new ≡ record self.old { totals = with_pair self.old.totals (key.now, value) }) }
         ensures err { OnErr result (self.new ≡ self.old) }
+        ensures only_new { OnErr result (fin.get self.old.totals key.now ≡ None) }
         ensures memory { IfErr result (λ e. e ≡ Refusal.NoMemory) }
     {
         add_under(&mut self.tallies, key, tally_of(value))
+    }
+
+    /// Some folded rows more, at least one, all under one key: how many they are, and the sum of their values, which the
+    /// caller folded by itself. Refused as `add`, and then nothing is changed.
+    pub fn add_rows(&mut self, key: Option<Key>, count: u64, sum: i128) -> Result<(), Refusal>
+        requires tallied { IsTally (count, sum) }
+        requires room { count_in (fin.get self.old.totals key) + count ≤ 2 ^ 26 }
+        ensures ok { OnOk result (self.new ≡ record self.old { totals = joined_totals self.old.totals (fin.insert fin.empty key (count, sum)) }) }
+        ensures err { OnErr result (self.new ≡ self.old) }
+        ensures only_new { OnErr result (fin.get self.old.totals key ≡ None) }
+        ensures memory { IfErr result (λ e. e ≡ Refusal.NoMemory) }
+    {
+        add(&mut self.tallies, key, (count, sum))
     }
 
     /// One folded row less, of those that are in. A key without rows is kept no more. Takes no memory.
@@ -103,7 +119,7 @@ impl LiveTotals {
     /// no line. Refused with `Building` (15) and how many row groups are left exactly where that is not 0, else with
     /// `NoMemory` (1) alone.
     pub fn answer(&self, alloc: Global) -> Result<Answer, Refusal>
-        ensures ok { OnOk result (result ≡ Ok (Answer.Totals (total_lines self.now.totals))) }
+        ensures ok { IfOk result (λ answer. answer ≡ Answer.Totals (total_lines self.now.totals)) }
         ensures built { OnOk result (self.now.left ≡ 0) }
         ensures building { self.now.left ≢ 0 → result ≡ Err (Refusal.Building self.now.left) }
         ensures memory { self.now.left ≡ 0 → IfErr result (λ e. e ≡ Refusal.NoMemory) }

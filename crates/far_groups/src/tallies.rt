@@ -1,5 +1,5 @@
 // Counts and sums by key, in a tree map.
-ghost use Rattle.std.specs.Prelude.{◌≡◌, ◌+◌, ◌-◌, ◌-ℤ◌, Some, ◌^◌, ◌≤◌, false, IsTrue, is_some, IfOk, IfErr, OnOk, OnErr, map, take, ℕ, ℤ, Option};
+ghost use Rattle.std.specs.Prelude.{◌≡◌, ◌+◌, ◌-◌, ◌-ℤ◌, None, Some, ◌^◌, ◌≤◌, false, IsTrue, is_some, IfOk, IfErr, OnOk, OnErr, map, take, ℕ, ℤ, Option};
 ghost use Rattle.std.specs.BTreeMap.{IsOrdered};
 ghost use Rattle.std.specs.FinMap as fin;
 ghost use Rattle.far_types.specs.declared.key.Key.{Key};
@@ -73,6 +73,7 @@ pub fn add(tallies: &mut Tallies, key: Option<Key>, more: Tally) -> Result<(), R
     ensures tallied { AreTallies (totals_of tallies.new.entries) }
     ensures ok { OnOk result (totals_of tallies.new.entries ≡ with_tally (totals_of tallies.old.entries) key more) }
     ensures err { OnErr result (tallies.new.entries ≡ tallies.old.entries) }
+    ensures only_new { OnErr result (fin.get (totals_of tallies.old.entries) key ≡ None) }
     ensures memory { IfErr result (λ e. e ≡ Refusal.NoMemory) }
 {
     if !raise(tallies, &key, more) {
@@ -89,6 +90,7 @@ pub fn add_under(tallies: &mut Tallies, key: &Option<Key>, more: Tally) -> Resul
     ensures tallied { AreTallies (totals_of tallies.new.entries) }
     ensures ok { OnOk result (totals_of tallies.new.entries ≡ with_tally (totals_of tallies.old.entries) key.now more) }
     ensures err { OnErr result (tallies.new.entries ≡ tallies.old.entries) }
+    ensures only_new { OnErr result (fin.get (totals_of tallies.old.entries) key.now ≡ None) }
     ensures memory { IfErr result (λ e. e ≡ Refusal.NoMemory) }
 {
     if !raise(tallies, key, more) {

@@ -145,3 +145,12 @@ fn a_refused_merge_keeps_nothing_and_is_accepted_again(rt: HostRuntime) -> Resul
     assert!(rt; has_lines(&live.answer(alloc)?, &lines));
     Ok(())
 }
+
+#[test]
+fn rows_that_the_caller_folded_come_in_at_once(rt: HostRuntime) -> Result<(), Fail> {
+    let alloc = rt.alloc();
+    let mut live = live_of(alloc, 0, Vec::from_array(alloc, [(None, 5)])?)?;
+    live.add_rows(None, 3, -6)?;
+    assert_eq!(rt; live.plain(), (4, -1));
+    Ok(())
+}

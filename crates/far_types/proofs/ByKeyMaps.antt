@@ -1,6 +1,6 @@
 -- A tree map from keys, as the finite map that its entries make.
-use Rattle.std.proofs.Common.{◌≡◌, ℕ, zero, suc, take, drop, Bool, true, false, cond, ◌&&◌, List, [], ◌∷◌, ◌++◌, map, refl, sym, ap, ◌∙◌, Option, None, Some}
-use Rattle.std.specs.Prelude.{T, is_some}
+use Rattle.std.proofs.Common.{◌≡◌, ℕ, zero, suc, take, Bool, true, false, cond, ◌&&◌, List, [], ◌∷◌, ◌++◌, map, refl, sym, ap, ◌∙◌, Option, None, Some}
+use Rattle.std.specs.Prelude.{ℤ, T, is_some}
 use Rattle.std.specs.Option.{option_map_or}
 use Rattle.std.specs.List.{AllByRecursion}
 use Rattle.std.specs.List.Sorted.{IsStrictlySortedBy}
@@ -14,9 +14,9 @@ use Rattle.std.specs.FinMap as fin
 use Rattle.far_types.specs.declared.key.Key.{Key}
 use Rattle.far_types.specs.Keys.{line_cmp}
 use Rattle.far_types.specs.KeyOrder.{line_total}
-use Rattle.far_types.specs.Answers.{ByKey}
+use Rattle.far_types.specs.Answers.{ByKey, grouped, values_of}
 use Rattle.far_types.specs.Changes.{together, joined}
-use Rattle.far_types.proofs.Grouping.{same, same_key, own_key, get-joined}
+use Rattle.far_types.proofs.Grouping.{same, same_key, own_key, get-joined, if_any, get-grouped, values_of-cons}
 
 abbrev pub Entries : Type 0 → Type 0
 Entries V = List (Option Key × V)
@@ -202,3 +202,23 @@ absent es k none = get_at es k ∙ none
 pub with_all-joined : {V : Type 0} (join : V → V → V) (m : ByKey V) (es : Entries V) → AreApart es → with_all join m es ≡ joined join m (by_key es)
 with_all-joined join m [] h = sym (joined-empty join m)
 with_all-joined join m (e ∷ es) h = with_all-joined join (with_value join m e.0 e.1) es h.1 ∙ moved join m (by_key es) e.0 e.1 (absent es e.0 h.0)
+
+-- one more under a key is a map of that key alone joined
+pub joined-one : {V : Type 0} (join : V → V → V) (m : ByKey V) (k : Option Key) (x : V) → with_value join m k x ≡ joined join m (fin.insert fin.empty k x)
+joined-one join m k x =
+    ap (λ n. with_value join n k x) (sym (joined-empty join m)) ∙ sym (moved_out join m fin.empty k x (fin.get-empty line_cmp k))
+
+-- where some pairs stand under one key alone, that key has what their values come to
+pub grouped-one : {V : Type 0} (fold : List ℤ → V) (k : Option Key) (v : ℤ) (vs : List ℤ) → grouped fold (map (λ (value : ℤ). (k, value)) (v ∷ vs)) ≡ fin.insert fin.empty k (fold (v ∷ vs))
+grouped-one fold k v vs = same _ _ (λ q.
+    get-grouped fold (map (λ (value : ℤ). (k, value)) (v ∷ vs)) q
+    ∙ ap (λ ws. if_any ws (fold ws)) (under q (v ∷ vs))
+    ∙ elim (eq_by_cmp line_cmp q k) as (λ b. if_any (cond b (v ∷ vs) []) (fold (cond b (v ∷ vs) [])) ≡ cond b (Some (fold (v ∷ vs))) None) [ true ↦ refl | false ↦ refl ]
+    ∙ ap (cond (eq_by_cmp line_cmp q k) (Some (fold (v ∷ vs)))) (sym (fin.get-empty line_cmp q))
+    ∙ sym (fin.get-insert line_total fin.empty k (fold (v ∷ vs)) q)) where
+  under : (q : Option Key) (ws : List ℤ) → values_of q (map (λ (value : ℤ). (k, value)) ws) ≡ cond (eq_by_cmp line_cmp q k) ws []
+  under q [] = let nil : List ℤ = [] in elim (eq_by_cmp line_cmp q k) as (λ b. nil ≡ cond b nil nil) [ true ↦ refl | false ↦ refl ]
+  under q (w ∷ ws) =
+      values_of-cons q (k, w) (map (λ (value : ℤ). (k, value)) ws)
+      ∙ ap (λ rest. cond (eq_by_cmp line_cmp q k) (w ∷ rest) rest) (under q ws)
+      ∙ elim (eq_by_cmp line_cmp q k) as (λ b. cond b (w ∷ cond b ws []) (cond b ws []) ≡ cond b (w ∷ ws) []) [ true ↦ refl | false ↦ refl ]

@@ -1,5 +1,5 @@
 -- The pairs of the rows are what the places give.
-use Rattle.std.proofs.Common.{◌≡◌, Bool, true, false, cond, List, [], ◌∷◌, map, filter, refl, ap, ◌∙◌, None}
+use Rattle.std.proofs.Common.{◌≡◌, true, false, cond, List, [], ◌∷◌, map, filter, refl, ap, ◌∙◌, None}
 use Rattle.std.specs.List.{filter_map, cons_option}
 use Rattle.far_types.specs.declared.cell.Cell.{Cell}
 use Rattle.far_types.specs.declared.spec.Spec.{Spec}

@@ -1,5 +1,5 @@
 -- Totals and extrema with one pair more, with one less, in another order, and joined.
-use Rattle.std.proofs.Common.{◌≡◌, ℕ, suc, ◌+◌, ◌-◌, Bool, true, false, cond, List, [], ◌∷◌, ◌++◌, length, refl, sym, ap, ◌∙◌, arith, Option, None, Some, ◌==◌}
+use Rattle.std.proofs.Common.{◌≡◌, ℕ, suc, ◌+◌, ◌-◌, true, false, cond, List, [], ◌∷◌, ◌++◌, length, refl, sym, ap, ◌∙◌, arith, Option, None, Some, ◌==◌}
 use Rattle.std.specs.Prelude.{ℤ, ◌+ℤ◌, ◌-ℤ◌}
 use Rattle.std.specs.Ordering.{eq_by_cmp}
 use Rattle.std.proofs.lemmas.Int.{ints}
@@ -9,7 +9,7 @@ use Rattle.far_types.specs.declared.key.Key.{Key}
 use Rattle.far_types.specs.Keys.{line_cmp}
 use Rattle.far_types.specs.KeyOrder.{line_total}
 use Rattle.far_types.specs.Pairs.{Pair}
-use Rattle.far_types.specs.Answers.{ByKey, values_of, tally, span, int_sum, totals, extrema}
+use Rattle.far_types.specs.Answers.{ByKey, values_of, tally, span, totals, extrema}
 use Rattle.far_types.specs.Changes.{raised, lowered, widened, with_pair, without_pair, without_value, with_seen, add_tallies, join_spans, joined_totals, joined_extrema}
 use Rattle.far_types.proofs.Grouping.{same, same_key, own_key, if_any, get-grouped, grouped-cons, grouped-among, grouped-append}
 use Rattle.far_types.proofs.Values.{tally-cons, tally-among, tally-append, span-cons, span-among, span-append}

@@ -13,6 +13,7 @@ use Rattle.far_types.specs.declared.answer.Answer.TheVariants as answer
 use Rattle.far_types.specs.Keys.{line_cmp}
 use Rattle.far_types.specs.Pairs.{Pair, pairs_of}
 
+-- whether a pair has this key
 abbrev pub is_under : Option Key → Pair → Bool
 is_under key pair = eq_by_cmp line_cmp key pair.0
 
@@ -20,19 +21,22 @@ is_under key pair = eq_by_cmp line_cmp key pair.0
 abbrev pub values_of : Option Key → List Pair → List ℤ
 values_of key pairs = map (λ pair. pair.1) (filter (λ pair. is_under key pair) pairs)
 
+-- the sum, which has no bound here
 abbrev pub int_sum : List ℤ → ℤ
 int_sum [] = pos 0
 int_sum (value ∷ values) = value +ℤ int_sum values
 
--- what is picked of some values, two by two; of none it is no value
+-- what is left of some values where of each two one is picked. Of none it is 0, which no answer shows: a key has a value
 abbrev pub picked : (ℤ → ℤ → ℤ) → List ℤ → ℤ
 picked pick [] = pos 0
 picked pick (value ∷ []) = value
 picked pick (value ∷ next ∷ values) = pick value (picked pick (next ∷ values))
 
+-- the least of some values, of which there is one at least
 abbrev pub least : List ℤ → ℤ
 least values = picked int_min values
 
+-- the greatest of them
 abbrev pub greatest : List ℤ → ℤ
 greatest values = picked int_max values
 
@@ -52,29 +56,35 @@ tally values = (length values, int_sum values)
 abbrev pub span : List ℤ → ℤ × ℤ
 span values = (least values, greatest values)
 
+-- by key, how many values there are and their sum
 abbrev pub Totals : Type 0
 Totals = ByKey (ℕ × ℤ)
 
+-- the totals of some pairs
 abbrev pub totals : List Pair → Totals
 totals pairs = grouped tally pairs
 
+-- by key, the least value and the greatest
 abbrev pub Extrema : Type 0
 Extrema = ByKey (ℤ × ℤ)
 
+-- the extrema of some pairs
 abbrev pub extrema : List Pair → Extrema
 extrema pairs = grouped span pairs
 
--- the lines of an answer: a key, a count and a sum
+-- a line of totals: a key, a count and a sum
 abbrev pub TotalLines : Type 0
 TotalLines = List (Option Key × ℕ × ℤ)
 
+-- the lines of totals, in the order of their keys
 abbrev pub total_lines : Totals → TotalLines
 total_lines totals = map (λ (entry : Option Key × (ℕ × ℤ)). (entry.0, entry.1.0, entry.1.1)) (fin.entries totals)
 
--- a key, a minimum and a maximum
+-- a line of extrema: a key, a minimum and a maximum
 abbrev pub ExtremaLines : Type 0
 ExtremaLines = List (Option Key × ℤ × ℤ)
 
+-- the lines of extrema, in the order of their keys
 abbrev pub extrema_lines : Extrema → ExtremaLines
 extrema_lines extrema = map (λ (entry : Option Key × (ℤ × ℤ)). (entry.0, entry.1.0, entry.1.1)) (fin.entries extrema)
 

@@ -45,11 +45,13 @@ has_long_constant (test.Int column op value) = false
 has_long_constant (test.TextIs column constant) = nat_lt 4096 (length constant)
 has_long_constant (test.TextBegins column constant) = nat_lt 4096 (length constant)
 
+-- whether there is such a column, and it is of numbers
 abbrev pub is_int : Option Kind → Bool
 is_int (Some kind.Int) = true
 is_int (Some kind.Text) = false
 is_int None = false
 
+-- whether there is such a column, and it is of texts
 abbrev pub is_text : Option Kind → Bool
 is_text (Some kind.Int) = false
 is_text (Some kind.Text) = true

@@ -48,6 +48,7 @@ key_in None = None
 abbrev pub Cells : Type 0
 Cells = ℕ → Option Cell
 
+-- a whole row so seen
 abbrev pub cells_of : List Cell → Cells
 cells_of row = slice_get row
 
@@ -61,5 +62,6 @@ CellFits (cell.Int number) = FitsSigned w64 number
 CellFits (cell.Text text) = Unit {0}
 CellFits cell.Missing = Unit {0}
 
+-- and so are those of a row
 abbrev pub RowFits : List Cell → Type 0
 RowFits row = AllByRecursion CellFits row

@@ -7,6 +7,7 @@ use Rattle.far_types.specs.declared.key.Key.{Key}
 use Rattle.far_types.specs.declared.key.Key.TheVariants as key
 use Rattle.far_types.specs.Answers.{Totals, Extrema}
 
+-- a key as a number or a text, and back
 abbrev pub of_key : Key → ℤ ⊎ List ℕ
 of_key (key.Int number) = inl number
 of_key (key.Text text) = inr text
@@ -19,6 +20,7 @@ pub back_to_key : (k : Key) → to_key (of_key k) ≡ k
 back_to_key (key.Int number) = refl
 back_to_key (key.Text text) = refl
 
+-- so keys have codes, and what stands by key has
 abbrev pub coded_key : Coded Key
 coded_key = code_by (ℤ ⊎ List ℕ) (coded⊎ coded_ℤ (coded_list coded_ℕ)) of_key to_key back_to_key
 

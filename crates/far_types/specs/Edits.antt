@@ -18,10 +18,12 @@ use Rattle.far_types.specs.Table.{Place, Table, column, in_group}
 abbrev pub kinds_fit : List Kind → List Cell → Bool
 kinds_fit schema row = list_all (λ (at : Kind × Cell). is_of_kind at.0 at.1) (zip schema row)
 
+-- whether a cell may not stand in a column. Where there is no such column, that is another refusal
 abbrev pub is_of_other_kind : Option Kind → Cell → Bool
 is_of_other_kind None cell = false
 is_of_other_kind (Some kind) cell = not (is_of_kind kind cell)
 
+-- whether a place is there and dead
 abbrev pub is_dead : Option Place → Bool
 is_dead None = false
 is_dead (Some place) = not place.alive
@@ -34,18 +36,21 @@ text_object_length limits c g places = texts_length (map text_in (in_group limit
 abbrev pub is_over : Limits → ℕ → ℕ → List Place → Bool
 is_over limits c g places = nat_lt limits.text_size (text_object_length limits c g places)
 
--- what an edit makes of the places
+-- a place with another cell in one column
 abbrev pub with_cell : ℕ → Cell → Place → Place
 with_cell c cell place = record place { cells = slice_set place.cells c cell }
 
+-- a removed place keeps its cells
 abbrev pub removed : Place → Place
 removed place = record place { alive = false }
 
+-- one place is changed, and the others stay
 abbrev pub changed_at : (Place → Place) → ℕ → List Place → List Place
 changed_at change p [] = []
 changed_at change zero (place ∷ places) = change place ∷ places
 changed_at change (suc p) (place ∷ places) = place ∷ changed_at change p places
 
+-- the places after an accepted edit
 abbrev pub places_after : Edit → List Place → List Place
 places_after (edit.Insert row) places = places ++ record { cells = row; alive = true } ∷ []
 places_after (edit.Set p c cell) places = changed_at (with_cell c cell) p places
@@ -63,7 +68,8 @@ overfills schema limits (edit.Set p c cell) places =
     is_text (slice_get schema c) && is_over limits c (p / limits.group) (places_after (edit.Set p c cell) places)
 overfills schema limits (edit.Remove p) places = false
 
--- what is wrong with the edit itself, whichever objects are local
+-- what is wrong with the edit itself, whichever objects are local: refusals 4 to 10. Between them and the others, a
+-- table whose objects move looks whether they are local
 abbrev pub faults_of : List Kind → Limits → List Place → Edit → List (Bool × Refusal)
 faults_of schema limits places (edit.Insert row) =
     (not (kinds_fit schema row), refusal.WrongKind)
@@ -83,7 +89,7 @@ faults_of schema limits places (edit.Remove p) =
     ∷ (is_dead (slice_get places p), refusal.RemovedRow)
     ∷ []
 
--- the plain refusal of an edit: the first that applies
+-- why the plain table, of which nothing is ever away, refuses an edit: the first that applies
 abbrev pub edit_refusal : Table → Edit → Option Refusal
 edit_refusal table e = first_of (faults_of table.schema table.limits table.places e
     ++ (overfills table.schema table.limits e table.places, refusal.ChunkFull)

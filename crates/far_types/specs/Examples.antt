@@ -1,32 +1,28 @@
 -- Worked examples: what the definitions say of a few small tables. Each is computed, so a wrong definition fails.
-use Rattle.std.specs.Prelude.{◌≡◌, ℕ, ℤ, pos, negsuc, Bool, true, false, List, [], ◌∷◌, Option, None, Some, codes, replicate}
+use Rattle.std.specs.Prelude.{◌≡◌, ℕ, ℤ, pos, negsuc, List, [], ◌∷◌, Option, None, Some, codes, replicate}
 use Rattle.far_types.specs.declared.cell.Cell.{Cell}
 use Rattle.far_types.specs.declared.cell.Cell.TheVariants as cell
-use Rattle.far_types.specs.declared.cell.Kind.{Kind}
 use Rattle.far_types.specs.declared.cell.Kind.TheVariants as kind
-use Rattle.far_types.specs.declared.key.Key.{Key}
 use Rattle.far_types.specs.declared.key.Key.TheVariants as key
 use Rattle.far_types.specs.declared.filter.Op.TheVariants as op
 use Rattle.far_types.specs.declared.filter.Test.{Test}
 use Rattle.far_types.specs.declared.filter.Test.TheVariants as test
-use Rattle.far_types.specs.declared.limits.Limits.{Limits}
 use Rattle.far_types.specs.declared.spec.Fold.{Fold}
 use Rattle.far_types.specs.declared.spec.Fold.TheVariants as fold
 use Rattle.far_types.specs.declared.spec.Spec.{Spec}
-use Rattle.far_types.specs.declared.answer.Answer.{Answer}
 use Rattle.far_types.specs.declared.answer.Answer.TheVariants as answer
 use Rattle.far_types.specs.declared.edit.Edit.{Edit}
 use Rattle.far_types.specs.declared.edit.Edit.TheVariants as edit
-use Rattle.far_types.specs.declared.refusal.Refusal.{Refusal}
 use Rattle.far_types.specs.declared.refusal.Refusal.TheVariants as refusal
 use Rattle.far_types.specs.Answers.{answer_over}
-use Rattle.far_types.specs.Table.{Place, Table, empty_table, rows_of}
+use Rattle.far_types.specs.Table.{Table, empty_table, rows_of}
 use Rattle.far_types.specs.Edits.{edited, edit_refusal}
 
 -- an aggregate of column 0, with or without the key column 1
 abbrev pub of_column : Fold → Option ℕ → List Test → Spec
 of_column f k tests = record { fold = f; value = 0; key = k; filter = tests }
 
+-- a row of a number and a text
 abbrev pub row : ℤ → List ℕ → List Cell
 row number text = cell.Int number ∷ cell.Text text ∷ []
 
@@ -84,9 +80,11 @@ WithMissing =
 abbrev pub small : Table
 small = empty_table (kind.Int ∷ []) (record { group = 4; places = 2; edits = 3; int_segments = 1; int_size = 4; text_segments = 1; text_size = 64 })
 
+-- an insert of a number
 abbrev pub number : ℤ → Edit
 number n = edit.Insert (cell.Int n ∷ [])
 
+-- the places are used, and one edit is left
 abbrev pub full : Table
 full = edited (number (pos 2)) (edited (number (pos 1)) small)
 
@@ -111,6 +109,7 @@ FirstRefusal =
 abbrev pub texts : Table
 texts = empty_table (kind.Text ∷ []) (record { group = 4; places = 100; edits = 100; int_segments = 4; int_size = 4; text_segments = 2; text_size = 64 })
 
+-- an insert of as many letters
 abbrev pub text_of : ℕ → Edit
 text_of n = edit.Insert (cell.Text (replicate n 97) ∷ [])
 

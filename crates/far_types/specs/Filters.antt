@@ -1,8 +1,7 @@
 -- Which rows a filter keeps.
-use Rattle.std.specs.Prelude.{ℕ, ℤ, Bool, false, not, List, Option, None, Some, ◌==◌}
+use Rattle.std.specs.Prelude.{ℕ, ℤ, Bool, false, not, List, Option, None, Some, ◌==◌, int_lt, int_le}
 use Rattle.std.specs.List.{list_all, starts_with}
 use Rattle.std.specs.Ordering.{int_eq}
-use lib.Signed.{lt_z, le_z}
 use Rattle.std.specs.Cmp.Lexicographic.{pointwise}
 use Rattle.far_types.specs.declared.cell.Cell.{Cell}
 use Rattle.far_types.specs.declared.cell.Cell.TheVariants as cell
@@ -16,10 +15,10 @@ use Rattle.far_types.specs.Cells.{Cells}
 abbrev pub compares : Op → ℤ → ℤ → Bool
 compares op.Eq number constant = int_eq number constant
 compares op.Ne number constant = not (int_eq number constant)
-compares op.Lt number constant = lt_z number constant
-compares op.Le number constant = le_z number constant
-compares op.Gt number constant = lt_z constant number
-compares op.Ge number constant = le_z constant number
+compares op.Lt number constant = int_lt number constant
+compares op.Le number constant = int_le number constant
+compares op.Gt number constant = int_lt constant number
+compares op.Ge number constant = int_le constant number
 
 -- a test of numbers holds of no other cell, and of no missing one, `!=` too
 abbrev pub number_passes : (ℤ → Bool) → Option Cell → Bool

@@ -3,8 +3,10 @@ pub mod Bounds
 pub mod Cells
 pub mod Changes
 pub mod Codes
+pub mod EditExamples
 pub mod Edits
 pub mod Examples
+pub mod FilterExamples
 pub mod Filters
 pub mod FirstOf
 pub mod FormLengths

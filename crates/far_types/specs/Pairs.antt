@@ -17,6 +17,7 @@ abbrev pub key_under : Option ℕ → Cells → Option (Option Key)
 key_under None cells = Some None
 key_under (Some column) cells = option_map Some (key_in (cells column))
 
+-- a pair where there are both a key and a value
 abbrev pub paired : Option (Option Key) → Option ℤ → Option Pair
 paired (Some key) (Some value) = Some (key, value)
 paired (Some key) None = None

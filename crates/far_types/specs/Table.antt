@@ -1,5 +1,5 @@
 -- The plain table, which the code never forms: a list of rows, and every answer computed anew from all of them.
-use Rattle.std.specs.Prelude.{ℕ, ◌+◌, ◌-◌, ◌*◌, ◌/◌, Bool, true, false, cond, List, [], ◌∷◌, map, filter, length, replicate, take, drop, slice_range, slice_index_or, count_by, Option, None, Some}
+use Rattle.std.specs.Prelude.{ℕ, ◌+◌, ◌-◌, ◌*◌, ◌/◌, Bool, true, false, cond, List, [], map, filter, length, replicate, take, drop, slice_range, slice_index_or, count_by, Option, None}
 use Rattle.far_types.specs.declared.cell.Cell.{Cell}
 use Rattle.far_types.specs.declared.cell.Kind.{Kind}
 use Rattle.far_types.specs.declared.limits.Limits.{Limits}
@@ -30,6 +30,7 @@ pub record Table : Type 0 where
   pub registrations : ℕ
   pub aggregates : List (Option Registered)
 
+-- a table as it is opened
 abbrev pub empty_table : List Kind → Limits → Table
 empty_table schema limits = record { schema = schema; limits = limits; places = []; edits = 0; registrations = 0; aggregates = replicate 32 None }
 
@@ -57,10 +58,12 @@ in_group size g places = take size (drop (g * size) places)
 abbrev pub groups : ℕ → ℕ → ℕ
 groups size places = (places + size - 1) / size
 
--- all row groups that hold a place are still to be built into an aggregate that is registered now. One made later never is
+-- all row groups that hold a place are still to be built into an aggregate that is registered now. A row group that
+-- gets its first place later never is, and one that gets a place more stays as it is
 abbrev pub all_unbuilt : ℕ → List Place → List Bool
 all_unbuilt size places = replicate (groups size (length places)) true
 
+-- whether a row group is still to be built in
 abbrev pub is_unbuilt : List Bool → ℕ → Bool
 is_unbuilt unbuilt g = slice_index_or unbuilt g false
 

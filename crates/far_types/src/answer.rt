@@ -1,5 +1,5 @@
 // What an aggregate answers.
-ghost use Rattle.std.specs.Prelude.{◌≡◌, IfOk, IfErr};
+ghost use Rattle.std.specs.Prelude.{◌≡◌, IfOk, IfErr, OnErr, [], None};
 
 use super::key::Key;
 use super::refusal::Refusal;
@@ -45,10 +45,11 @@ impl TotalLines {
     }
 
     /// The same lines, or the line of count 0 and sum 0 where there is none and the aggregate has no key column.
-    /// Refused with `NoMemory` (1) alone.
+    /// Refused with `NoMemory` (1) alone, and only where that line is added.
     pub fn or_zero(self, key: Option<u32>) -> Result<TotalLines, Refusal>
         ensures lines { IfOk result (λ lines. lines ≡ or_zero key self) }
         ensures memory { IfErr result (λ e. e ≡ Refusal.NoMemory) }
+        ensures growth { OnErr result ((key ≡ None) × (self ≡ [])) }
     {
         let mut lines = self.lines;
         if key.is_none() && lines.is_empty() {

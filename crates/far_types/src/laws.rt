@@ -1,13 +1,23 @@
 // Laws of the answers, over the definitions alone.
 ghost use Rattle.std.specs.Prelude.{◌≡◌, ◌≤◌, ◌^◌, ℕ, ℤ, pos, neg_ℤ, ◌≤ℤ◌, List, ◌∷◌, ◌++◌, length, map, All, Option};
-ghost use Rattle.std.specs.List.{list_any};
+ghost use Rattle.std.specs.List.{list_any, filter_map};
 ghost use Rattle.std.specs.List.Sorted.{IsStrictlySortedBy};
 ghost use Rattle.std.specs.Ordering.{eq_by_cmp};
 ghost use Rattle.far_types.specs.declared.key.Key.{Key};
 ghost use Rattle.far_types.specs.Keys.{line_cmp};
-ghost use Rattle.far_types.specs.Pairs.{Pair, PairsFit};
+ghost use Rattle.far_types.specs.declared.spec.Spec.{Spec};
+ghost use Rattle.far_types.specs.Pairs.{Pair, PairsFit, pairs_of};
+ghost use Rattle.far_types.specs.Table.{Place, rows_of, place_pair};
 ghost use Rattle.far_types.specs.Answers.{totals, extrema, total_lines, extrema_lines, values_of, is_under, int_sum, least, greatest};
 ghost use Rattle.far_types.specs.Changes.{with_pair, without_pair, with_seen, joined_totals, joined_extrema};
+ghost use Rattle.far_types.specs.Examples.{OverNoRows, TotalsByKey, ExactSum, LeastAndGreatest, Filtered, WithMissing, UsedUp, FirstRefusal, OverLength};
+ghost use Rattle.far_types.specs.FilterExamples.{Comparisons, TestsOfTexts, AllowedAggregates};
+ghost use Rattle.far_types.specs.EditExamples.{WhatEditsDo, RoomForTexts, OrderOfRefusals, RowGroups};
+
+/// What the rows of a table give to an aggregate is what its places give, in order.
+pub fn pairs_follow_the_places()
+    ensures { (spec : Spec) → (places : List Place) → pairs_of spec (rows_of places) ≡ filter_map (place_pair spec) places }
+{}
 
 /// How totals change with the folded rows: by one pair more, by one less, not by the order, and when two lists are
 /// joined.
@@ -47,8 +57,6 @@ pub fn extrema_lines_are_by_key()
     ensures maxima { (pairs : List Pair) → All (λ line. line.2 ≡ greatest (values_of line.0 pairs)) (extrema_lines (extrema pairs)) }
 {}
 
-ghost use Rattle.far_types.specs.Examples.{OverNoRows, TotalsByKey, ExactSum, LeastAndGreatest, Filtered, WithMissing, UsedUp, FirstRefusal, OverLength};
-
 /// Small tables and what the definitions say of them: a wrong definition fails here.
 pub fn worked_examples()
     ensures over_no_rows { OverNoRows }
@@ -60,4 +68,11 @@ pub fn worked_examples()
     ensures used_up { UsedUp }
     ensures first_refusal { FirstRefusal }
     ensures over_length { OverLength }
+    ensures comparisons { Comparisons }
+    ensures tests_of_texts { TestsOfTexts }
+    ensures allowed_aggregates { AllowedAggregates }
+    ensures what_edits_do { WhatEditsDo }
+    ensures room_for_texts { RoomForTexts }
+    ensures order_of_refusals { OrderOfRefusals }
+    ensures row_groups { RowGroups }
 {}

@@ -8,7 +8,9 @@ use thiserror::Error;
 /// Why a call was refused. A refused call leaves rows, columns and answers as they were.
 ///
 /// Where several refusals apply, a call answers the first in the order of their numbers, but that 20 stands
-/// directly before 16, 11 directly after 16, and 1 last. There is no number 23.
+/// directly before 16, 11 directly after 16, and 1 last. An edit, and the calls under it that place several text
+/// objects, may answer 1 before they look at 17 or 24; and an edit of a stripe answers 14 for the stripe before it
+/// looks at the edit. There is no number 23.
 #[derive(Debug, Drop, Clone, Copy, PartialEq, Eq, Error)]
 pub enum Refusal {
     /// 1: a growth was refused for want of memory.
@@ -53,13 +55,13 @@ pub enum Refusal {
     /// 14: a range, a group, a segment, a stripe, a count of workers or a set of sessions is not as asked.
     #[error("OutOfRange")]
     OutOfRange,
-    /// 15: as many row groups are still to be built into the aggregate.
+    /// 15: so many row groups are still to be built into the aggregate.
     #[error("Building {0}")]
     Building(u32),
     /// 16: the object of this column and row group is not local.
     #[error("Absent {column} {group}")]
     Absent { column: u32, group: u32 },
-    /// 17: what must be placed fits in no segment of the local region.
+    /// 17: what must be placed fits in no segment of the local region; of a compaction, no other segment is empty.
     #[error("RegionFull")]
     RegionFull,
     /// 18: the object has no pin.
@@ -68,7 +70,7 @@ pub enum Refusal {
     /// 19: the object has a pin.
     #[error("Pinned")]
     Pinned,
-    /// 20: what the job or the scan rests on does not hold any more.
+    /// 20: what the job or the scan rests on does not hold.
     #[error("StaleJob")]
     StaleJob,
     /// 21: the far store failed in this call.

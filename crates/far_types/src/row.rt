@@ -1,5 +1,5 @@
 // Rows of cells.
-ghost use Rattle.std.specs.Prelude.{◌≡◌, IfOk, IfErr, length, slice_get, take};
+ghost use Rattle.std.specs.Prelude.{◌≡◌, ◌↔◌, IsTrue, [], IfOk, IfErr, length, slice_get, take};
 ghost use Rattle.std.specs.Option.{option_copied};
 ghost use Rattle.far_types.specs.Cells.{RowFits, CellFits};
 
@@ -64,6 +64,13 @@ impl Row {
         ensures { result ≡ length self.now }
     {
         self.cells.len()
+    }
+
+    /// Whether the row has no cell.
+    pub fn is_empty(&self) -> bool
+        ensures { IsTrue result ↔ (self.now ≡ []) }
+    {
+        self.cells.is_empty()
     }
 
     /// The cell of a column, or `None` where the row has no such column.

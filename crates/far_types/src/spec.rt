@@ -1,6 +1,7 @@
 // What an aggregate computes.
-ghost use Rattle.std.specs.Prelude.{◌≡◌, ◌==◌, IfOk, IfErr, OnOk, slice_get, Some, None};
+ghost use Rattle.std.specs.Prelude.{◌≡◌, ◌==◌, IfOk, IfErr, OnOk, nat_lt, length, slice_get, Some, None};
 ghost use Rattle.std.specs.List.{list_any, list_all};
+ghost use Rattle.far_types.specs.Bounds.{has_its_kind, has_long_constant, column_of};
 
 use super::cell::Kind;
 use super::filter::{Filter, Test};
@@ -39,38 +40,40 @@ fn has_its_kind(schema: &Schema, test: &Test) -> bool
     }
 }
 
+/// Whether each test is of its column's kind.
 fn have_their_kinds(schema: &Schema, tests: &[Test]) -> bool
     ensures { result ≡ list_all (has_its_kind schema.now) tests.now }
 {
     tests.iter().all(|test| has_its_kind(schema, test))
 }
 
+/// Whether there are more than 4 tests.
 fn are_too_many(tests: &[Test]) -> bool
     ensures { result ≡ nat_lt 4 (length tests.now) }
 {
     tests.len() > 4
 }
 
+/// Whether the constant of some test is too long.
 fn is_one_too_long(tests: &[Test]) -> bool
     ensures { result ≡ list_any has_long_constant tests.now }
 {
     tests.iter().any(|test| test.is_too_long())
 }
 
-fn look_at(tests: &[Test], column: u32) -> bool
+/// Whether some test looks at a column.
+fn one_looks_at(tests: &[Test], column: u32) -> bool
     ensures { result ≡ list_any (λ test. column_of test == column) tests.now }
 {
     tests.iter().any(|test| test.column() == column)
 }
 
+/// Whether all tests look at the first `columns` columns alone.
 fn are_within(tests: &[Test], columns: usize) -> bool
     ensures { result ≡ list_all (λ test. nat_lt (column_of test) columns) tests.now }
 {
     tests.iter().all(|test| (test.column() as usize) < columns)
 }
-
-ghost use Rattle.far_types.specs.Bounds.{has_its_kind, has_long_constant, column_of};
-ghost use Rattle.std.specs.Prelude.{nat_lt, length};
 
 impl Spec {
     ghost use Rattle.far_types.specs.Bounds.{needs, is_within, spec_refusal};
@@ -79,7 +82,7 @@ impl Spec {
     pub fn needs(&self, column: u32) -> bool
         ensures { result ≡ needs self.now column }
     {
-        if look_at(self.filter.as_slice(), column) {
+        if one_looks_at(self.filter.as_slice(), column) {
             return true;
         }
         match self.key {

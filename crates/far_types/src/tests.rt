@@ -76,6 +76,10 @@ fn each_refusal_has_its_number_and_name(rt: HostRuntime) -> Result<(), Fail> {
     for (refusal, number, name) in table {
         assert!(rt; refusal.number() == number, "refusal {number}");
         assert!(rt; refusal.name() == name, "refusal {number}");
+        let printed = format!(in rt.alloc(); "{refusal}")?;
+        assert!(rt; printed.as_str().starts_with(name), "refusal {number}");
+        let carries = number == 15 || number == 16;
+        assert!(rt; carries || printed.as_str() == name, "refusal {number}");
     }
     Ok(())
 }

@@ -29,4 +29,11 @@ returns c = record {
   used_up = (refl, refl, refl, refl);
   first_refusal = (refl, refl, refl, refl, refl);
   over_length = (refl, refl, refl, refl, refl);
+  comparisons = (refl, refl);
+  tests_of_texts = (refl, refl, refl);
+  allowed_aggregates = (refl, refl, refl, refl, refl, refl, refl, refl, refl);
+  what_edits_do = (refl, refl, refl, refl);
+  room_for_texts = (refl, refl, refl, refl, refl, refl, refl, refl, refl, refl);
+  order_of_refusals = (refl, refl, refl, refl, refl, refl, refl, refl, refl, refl, refl, refl, refl, refl);
+  row_groups = (refl, refl, refl, refl, refl);
 }

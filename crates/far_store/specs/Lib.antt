@@ -1,0 +1,2 @@
+pub mod Agents
+pub mod Faults

@@ -1,0 +1,136 @@
+// The agent: a far store in this process.
+ghost use Rattle.std.specs.Prelude.{◌≡◌, ◌<◌, ◌≤◌, ◌↔◌, [], ◌∷◌, IfOk, IfErr, OnOk, OnErr, IsErr};
+ghost use Rattle.far_store.specs.Agents.{IsOf};
+ghost use Rattle.far_store.specs.Faults.{RefusedBy};
+
+use crate::Meter;
+use crate::store::{FarRead, FarStore};
+use boxcar::Pushed;
+use far_types::Refusal;
+use std::alloc::Global;
+use std::marker::Model;
+use std::sync::Wait;
+
+/// A far store in this process, over a vector that only grows and that threads share with no lock. It never
+/// fails. Contracts see its name and its capacity.
+///
+/// Reading never waits. A `put` may: where another thread is just making the room for the next contents, it waits
+/// until that room is there.
+#[derive(Drop)]
+pub struct AgentStore<R> {
+    rt: R,
+    contents: boxcar::Vec<Vec<u8>>,
+    capacity: u64,
+}
+
+impl<R> Model for AgentStore<R> {
+    ghost use Rattle.far_store.specs.Agents.{Agent, agent_coded, bucket_names};
+
+    ghost Value = { Agent };
+
+    ghost coded = { agent_coded };
+
+    ghost view = { λ s. record { name = bucket_names s.contents; capacity = s.capacity } };
+}
+
+impl<R: Drop> AgentStore<R> {
+    /// An empty store that gives out the numbers below `capacity`. It keeps `rt`, by which a put may wait. Refused
+    /// with `NoMemory` (1) alone.
+    pub fn new(rt: R, alloc: Global, capacity: u64) -> Result<AgentStore<R>, Refusal>
+        ensures capacity { IfOk result (λ s. s.capacity ≡ capacity) }
+        ensures memory { IfErr result (λ e. e ≡ Refusal.NoMemory) }
+    {
+        Ok(AgentStore {
+            rt,
+            contents: boxcar::Vec::new(alloc)?,
+            capacity,
+        })
+    }
+}
+
+impl<R: Sync + Drop> FarRead for AgentStore<R> {
+    type Ticket = Pushed<Vec<u8>>;
+
+    ghost content = { λ t. t.value.items };
+
+    ghost number_of = { λ t. t.index };
+
+    ghost name = { λ s. s.name };
+
+    ghost is_of = { IsOf };
+
+    ghost capacity_of = { λ s. s.capacity };
+
+    fn get(
+        &self,
+        _alloc: Global,
+        meter: &mut Meter,
+        ticket: &Pushed<Vec<u8>>,
+        buffer: &mut Vec<u8>,
+    ) -> Result<(), Refusal>
+        requires { IsOf ticket.now self.now.name }
+        ensures content { OnOk result (buffer.new.items ≡ ticket.now.value.items) }
+        ensures empty { OnErr result (buffer.new.items ≡ []) }
+        ensures faultless { meter.new ≡ meter.old }
+        ensures memory { IfErr result (λ e. e ≡ Refusal.NoMemory) }
+    {
+        buffer.clear();
+        buffer.extend_from_slice(self.contents.value(ticket))?;
+        Ok(())
+    }
+
+    fn again(&self, ticket: &Pushed<Vec<u8>>) -> Pushed<Vec<u8>> {
+        ticket.again()
+    }
+
+    fn number(&self, ticket: &Pushed<Vec<u8>>) -> u64 {
+        ticket.index() as u64
+    }
+
+    fn same(&self, a: &Pushed<Vec<u8>>, b: &Pushed<Vec<u8>>) -> bool {
+        if a.index() != b.index() {
+            return false;
+        }
+        // At run time nothing happens here: the vector tells the proof that one number has one content.
+        self.contents.agrees(a, b);
+        true
+    }
+}
+
+impl<R: Sync + Drop + Wait> FarStore for AgentStore<R> {
+    fn put(
+        &self,
+        alloc: Global,
+        meter: &mut Meter,
+        bytes: &[u8],
+    ) -> Result<Pushed<Vec<u8>>, Refusal>
+        ensures here { IfOk result (λ ticket. IsOf ticket self.now.name) }
+        ensures content { IfOk result (λ ticket. ticket.value.items ≡ bytes.now) }
+        ensures number { IfOk result (λ ticket. ticket.index < self.now.capacity) }
+        ensures faultless { meter.new ≡ meter.old }
+        ensures refused { RefusedBy (22 ∷ 1 ∷ []) result }
+    {
+        // A vector that is full takes nothing more, so a put that is refused again and again takes no memory.
+        if self.contents.count() as u64 >= self.capacity {
+            return Err(Refusal::FarFull);
+        }
+        let copy = Vec::from_slice(alloc, bytes)?;
+        let Ok(ticket) = self.contents.push_shown(&self.rt, copy) else {
+            return Err(Refusal::NoMemory);
+        };
+        below(self.capacity, ticket)
+    }
+}
+
+// The ticket, if its number is below the capacity. Another thread may have drawn a number since the count was read,
+// so the number that was drawn decides.
+fn below(capacity: u64, ticket: Pushed<Vec<u8>>) -> Result<Pushed<Vec<u8>>, Refusal>
+    ensures kept { IfOk result (λ kept. kept ≡ ticket) }
+    ensures full { IsErr result ↔ (capacity ≤ ticket.index) }
+    ensures refused { IfErr result (λ e. e ≡ Refusal.FarFull) }
+{
+    if ticket.index() as u64 >= capacity {
+        return Err(Refusal::FarFull);
+    }
+    Ok(ticket)
+}

@@ -1,0 +1,135 @@
+// A far store that fails where it is told to.
+ghost use Rattle.std.specs.Prelude.{◌≡◌, ◌<◌, IsTrue};
+
+use crate::Meter;
+use crate::store::{FarRead, FarStore};
+use far_types::Refusal;
+use std::alloc::Global;
+use std::marker::Model;
+use std::sync::atomic::{AtomicBool, AtomicU64, Ordering};
+
+/// A far store that fails one `put` and one `get`, each once, and otherwise does what the store under it does.
+/// Contracts see the store under it.
+///
+/// It is there to try what a caller does about a fault: the call answers `FarFault` (21) without asking the store
+/// under it, and the same call made again is served.
+#[derive(Drop)]
+pub struct FaultyStore<S> {
+    store: S,
+    puts: PlannedFault,
+    gets: PlannedFault,
+}
+
+impl<S> Model for FaultyStore<S> {
+    ghost Value = { S };
+
+    ghost view = { λ f. f.store };
+}
+
+impl<S> FaultyStore<S> {
+    /// A store over `store` whose put number `failing_put` and whose get number `failing_get` are answered with
+    /// `FarFault` (21). Calls are counted from 1, and 0 stands for none. A call that is refused for want of
+    /// memory is not counted. Takes no memory.
+    pub fn new(store: S, failing_put: u64, failing_get: u64) -> FaultyStore<S>
+        ensures { result ≡ store }
+    {
+        FaultyStore {
+            store,
+            puts: PlannedFault::at(failing_put),
+            gets: PlannedFault::at(failing_get),
+        }
+    }
+}
+
+impl<S: FarRead> FarRead for FaultyStore<S> {
+    type Ticket = S::Ticket;
+
+    ghost content = { S.content };
+
+    ghost number_of = { S.number_of };
+
+    ghost name = { S.name };
+
+    ghost is_of = { S.is_of };
+
+    ghost capacity_of = { S.capacity_of };
+
+    fn get(
+        &self,
+        alloc: Global,
+        meter: &mut Meter,
+        ticket: &S::Ticket,
+        buffer: &mut Vec<u8>,
+    ) -> Result<(), Refusal> {
+        if self.gets.is_due() {
+            buffer.clear();
+            meter.rise();
+            return Err(Refusal::FarFault);
+        }
+        let answer = self.store.get(alloc, meter, ticket, buffer);
+        if let Err(Refusal::NoMemory) = &answer {
+            self.gets.take_back();
+        }
+        answer
+    }
+
+    fn again(&self, ticket: &S::Ticket) -> S::Ticket {
+        self.store.again(ticket)
+    }
+
+    fn number(&self, ticket: &S::Ticket) -> u64 {
+        self.store.number(ticket)
+    }
+
+    fn same(&self, a: &S::Ticket, b: &S::Ticket) -> bool {
+        self.store.same(a, b)
+    }
+}
+
+impl<S: FarStore> FarStore for FaultyStore<S> {
+    fn put(&self, alloc: Global, meter: &mut Meter, bytes: &[u8]) -> Result<S::Ticket, Refusal> {
+        if self.puts.is_due() {
+            meter.rise();
+            return Err(Refusal::FarFault);
+        }
+        let answer = self.store.put(alloc, meter, bytes);
+        if let Err(Refusal::NoMemory) = &answer {
+            self.puts.take_back();
+        }
+        answer
+    }
+}
+
+// The fault that is planned for one kind of call, and the count of these calls.
+#[derive(Drop)]
+struct PlannedFault {
+    number: u64,
+    counted: AtomicU64,
+    met: AtomicBool,
+}
+
+impl PlannedFault {
+    fn at(number: u64) -> PlannedFault
+        ensures { result.number ≡ number }
+    {
+        PlannedFault {
+            number,
+            counted: AtomicU64::new(0),
+            met: AtomicBool::new(false),
+        }
+    }
+
+    // Counts a call as it begins, and says whether it is the one that fails. A call counts before it is served, so
+    // that threads draw different numbers; a number that was taken back is drawn again, and fails no second time.
+    fn is_due(&self) -> bool
+        ensures { IsTrue result → 0 < self.now.number }
+    {
+        let earlier = self.counted.fetch_add(1, Ordering::SeqCst);
+        self.number > 0 && earlier == self.number - 1 && !self.met.swap(true, Ordering::SeqCst)
+    }
+
+    // The call that was counted found no memory, so it does not count.
+    fn take_back(&self) {
+        self.counted.fetch_sub(1, Ordering::SeqCst);
+    }
+}

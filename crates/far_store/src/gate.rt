@@ -1,0 +1,154 @@
+// A far store that holds its first put.
+ghost use Rattle.std.specs.Prelude.{◌≡◌};
+
+use crate::Meter;
+use crate::store::{FarRead, FarStore};
+use far_types::Refusal;
+use std::alloc::Global;
+use std::marker::Model;
+use std::sync::atomic::{AtomicBool, AtomicU64, Ordering};
+use std::{hint, thread};
+
+// For how many turns a put is held at most.
+const TURNS: u32 = 10_000_000;
+
+// After how many turns a held put leaves the processor to others.
+const YIELDING: u32 = 10_000;
+
+/// A far store that holds its first `put` at a gate, and otherwise does what the store under it does. Contracts
+/// see the store under it.
+///
+/// It is there to see what else a table can do while a put is under way. The put is held for at most 10,000,000
+/// turns of a loop, and is then answered with `FarFault` (21), so no call waits for ever.
+#[derive(Drop)]
+pub struct GateStore<S> {
+    store: S,
+    opened_by: Opener,
+    begun: AtomicU64,
+    open: AtomicBool,
+}
+
+// What is to open a gate.
+#[derive(Clone, Copy, PartialEq, Eq)]
+enum Opener {
+    Release,
+    SecondPut,
+}
+
+impl<S> Model for GateStore<S> {
+    ghost Value = { S };
+
+    ghost view = { λ g. g.store };
+}
+
+impl<S> GateStore<S> {
+    /// A store over `store` that holds its first put until `release`. Takes no memory.
+    pub fn new(store: S) -> GateStore<S>
+        ensures { result ≡ store }
+    {
+        GateStore::shut(store, Opener::Release)
+    }
+
+    /// A store over `store` that holds its first put until a second put begins. Takes no memory.
+    pub fn two(store: S) -> GateStore<S>
+        ensures { result ≡ store }
+    {
+        GateStore::shut(store, Opener::SecondPut)
+    }
+
+    fn shut(store: S, opened_by: Opener) -> GateStore<S>
+        ensures { result ≡ store }
+    {
+        GateStore {
+            store,
+            opened_by,
+            begun: AtomicU64::new(0),
+            open: AtomicBool::new(false),
+        }
+    }
+
+    /// Opens the gate, for good. Takes no memory.
+    pub fn release(&self) {
+        self.open.store(true, Ordering::SeqCst);
+    }
+
+    /// Whether a put has come to the gate, now or earlier. Takes no memory.
+    pub fn held(&self) -> bool {
+        self.begun.load(Ordering::SeqCst) > 0
+    }
+
+    // Waits for the gate to open, and says whether it did.
+    fn waits(&self) -> bool {
+        for turn in 0..TURNS {
+            if self.open.load(Ordering::SeqCst) {
+                return true;
+            }
+            rest(turn);
+        }
+        false
+    }
+
+    // Counts a put as it begins, and says whether it may go on to the store.
+    fn admits(&self) -> bool {
+        let earlier = self.begun.fetch_add(1, Ordering::SeqCst);
+        if self.opened_by == Opener::SecondPut && earlier == 1 {
+            self.release();
+        }
+        earlier > 0 || self.waits()
+    }
+}
+
+// Mostly a short pause, so that the turns take a fraction of a second. The other thread may need this processor.
+fn rest(turn: u32) {
+    if turn % YIELDING == 0 {
+        thread::yield_now();
+    } else {
+        hint::spin_loop();
+    }
+}
+
+impl<S: FarRead> FarRead for GateStore<S> {
+    type Ticket = S::Ticket;
+
+    ghost content = { S.content };
+
+    ghost number_of = { S.number_of };
+
+    ghost name = { S.name };
+
+    ghost is_of = { S.is_of };
+
+    ghost capacity_of = { S.capacity_of };
+
+    fn get(
+        &self,
+        alloc: Global,
+        meter: &mut Meter,
+        ticket: &S::Ticket,
+        buffer: &mut Vec<u8>,
+    ) -> Result<(), Refusal> {
+        self.store.get(alloc, meter, ticket, buffer)
+    }
+
+    fn again(&self, ticket: &S::Ticket) -> S::Ticket {
+        self.store.again(ticket)
+    }
+
+    fn number(&self, ticket: &S::Ticket) -> u64 {
+        self.store.number(ticket)
+    }
+
+    fn same(&self, a: &S::Ticket, b: &S::Ticket) -> bool {
+        self.store.same(a, b)
+    }
+}
+
+impl<S: FarStore> FarStore for GateStore<S> {
+    fn put(&self, alloc: Global, meter: &mut Meter, bytes: &[u8]) -> Result<S::Ticket, Refusal> {
+        if !self.admits() {
+            meter.rise();
+            return Err(Refusal::FarFault);
+        }
+        self.store.put(alloc, meter, bytes)
+    }
+}

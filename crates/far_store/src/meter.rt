@@ -1,0 +1,54 @@
+// The count of faults that goes along with a caller.
+ghost use Rattle.std.specs.Prelude.{◌≡◌, ◌+◌, ◌<◌, ◌^◌};
+
+use std::marker::Model;
+
+/// How many faults a caller has met. Contracts see the number.
+///
+/// A far store is shared by threads, so the count stands with the caller and not with the store: each call that
+/// may fault takes the caller's meter, and raises it by one exactly where it answers `FarFault` (21). Nothing
+/// but a store of this crate raises a meter.
+#[derive(Drop, Debug)]
+pub struct Meter {
+    faults: u64,
+}
+
+impl Model for Meter {
+    ghost use Rattle.std.specs.Prelude.{ℕ};
+
+    ghost Value = { ℕ };
+
+    ghost view = { λ m. m.faults };
+}
+
+impl Meter {
+    /// A meter of a caller that has met no fault yet. Takes no memory.
+    pub fn new() -> Meter
+        ensures { result ≡ 0 }
+    {
+        Meter { faults: 0 }
+    }
+
+    /// How many faults were met. Takes no memory.
+    pub fn faults(&self) -> u64
+        ensures { result ≡ self.now }
+    {
+        self.faults
+    }
+
+    /// Adds the faults that another meter has counted, as that of a thread that has ended. Takes no memory.
+    pub fn join(&mut self, other: Meter)
+        requires { self.old + other < 2 ^ 64 }
+        ensures { self.new ≡ self.old + other }
+    {
+        self.faults += other.faults;
+    }
+
+    /// Counts one fault more. Only a store may, and only where it answers `FarFault`.
+    pub(crate) fn rise(&mut self)
+        requires { self.old < 2 ^ 63 }
+        ensures { self.new ≡ self.old + 1 }
+    {
+        self.faults += 1;
+    }
+}

@@ -1,0 +1,80 @@
+// The far side as the table sees it.
+ghost use Rattle.std.specs.Prelude.{◌≡◌, ℕ, ◌+◌, ◌<◌, ◌^◌, ◌↔◌, List, [], ◌∷◌, IfOk, OnOk, OnErr, IsTrue};
+ghost use Rattle.far_store.specs.Faults.{faults_in, RefusedBy};
+
+use crate::Meter;
+use far_types::Refusal;
+use std::alloc::Global;
+
+/// What can be read of a far store.
+///
+/// It is apart from [`FarStore`] since only putting may have to wait for other threads. A caller that only reads
+/// asks for `FarRead`, and is known to return. A far side behind a small interface is AIFM's remote device (OSDI
+/// 2020); tickets that name one content for good are this project's own.
+pub trait FarRead: Sync + Drop {
+    /// What stands for one content that was put. It is kept by value, outlives every borrow of the store, and goes
+    /// from thread to thread.
+    type Ticket: Send + Sync + Drop;
+
+    /// The bytes that were put for a ticket.
+    ghost content: { Self.Ticket → List ℕ };
+
+    /// A ticket's number.
+    ghost number_of: { Self.Ticket → ℕ };
+
+    /// A store's name, which ties its tickets to it. It is the same as long as the store lasts.
+    ghost name: { Self → List ℕ };
+
+    /// The ticket is of the store of this name.
+    ghost is_of: { Self.Ticket → List ℕ → Type 0 };
+
+    /// How many numbers a store may give out.
+    ghost capacity_of: { Self → ℕ };
+
+    /// Writes the ticket's content into the buffer, in place of what the buffer has. Refused with `FarFault` (21)
+    /// where the store fails in this call, and with `NoMemory` (1); the buffer is then empty.
+    fn get(
+        &self,
+        alloc: Global,
+        meter: &mut Meter,
+        ticket: &Self::Ticket,
+        buffer: &mut Vec<u8>,
+    ) -> Result<(), Refusal>
+        requires few { meter.old < 2 ^ 63 }
+        requires here { is_of ticket.now (name self.now) }
+        ensures content { OnOk result (buffer.new.items ≡ content ticket.now) }
+        ensures empty { OnErr result (buffer.new.items ≡ []) }
+        ensures faults { meter.new ≡ meter.old + faults_in result }
+        ensures refused { RefusedBy (21 ∷ 1 ∷ []) result };
+
+    /// The same ticket once more: its number, its content and its store are the same. Takes no memory.
+    fn again(&self, ticket: &Self::Ticket) -> Self::Ticket
+        requires { is_of ticket.now (name self.now) }
+        ensures { result ≡ ticket.now };
+
+    /// The ticket's number. Takes no memory.
+    fn number(&self, ticket: &Self::Ticket) -> u64
+        requires { is_of ticket.now (name self.now) }
+        ensures { result ≡ number_of ticket.now };
+
+    /// Whether two tickets have one number. They then have one content too. Takes no memory.
+    fn same(&self, a: &Self::Ticket, b: &Self::Ticket) -> bool
+        requires a_here { is_of a.now (name self.now) }
+        requires b_here { is_of b.now (name self.now) }
+        ensures number { IsTrue result ↔ (number_of a.now ≡ number_of b.now) }
+        ensures content { IsTrue result → content a.now ≡ content b.now };
+}
+
+/// A far store: contents are put into it, and read by the tickets that it gives for them.
+pub trait FarStore: FarRead {
+    /// Puts these bytes, and gives a ticket for them. Refused with `FarFault` (21) where the store fails in this
+    /// call, with `FarFull` (22) where the number drawn is not below the capacity, and with `NoMemory` (1). A
+    /// refused put may have used up a number.
+    fn put(&self, alloc: Global, meter: &mut Meter, bytes: &[u8]) -> Result<Self::Ticket, Refusal>
+        requires { meter.old < 2 ^ 63 }
+        ensures here { IfOk result (λ ticket. Self.is_of ticket (Self.name self.now)) }
+        ensures content { IfOk result (λ ticket. Self.content ticket ≡ bytes.now) }
+        ensures number { IfOk result (λ ticket. Self.number_of ticket < Self.capacity_of self.now) }
+        ensures faults { meter.new ≡ meter.old + faults_in result }
+        ensures refused { RefusedBy (21 ∷ 22 ∷ 1 ∷ []) result };
+}

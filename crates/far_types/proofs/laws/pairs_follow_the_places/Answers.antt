@@ -1,0 +1,5 @@
+use Rattle.far_types.proofs.PlaceLaws.{pairs_of-rows}
+use Rattle.far_types.proofs.laws.pairs_follow_the_places.Goals as goal
+
+pub returns : goal.returns
+returns c = λ spec places. pairs_of-rows spec places
