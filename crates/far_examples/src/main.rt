@@ -2,8 +2,7 @@
 //! Runs the scripts of the folder `examples`, and says whether each gives the replies that stand beside it.
 
 use far_shell::run_script;
-use std::fs;
-use std::io;
+use std::{fs, io};
 
 /// Whether the script in one file gives what stands in the other.
 fn agrees(rt: &HostRuntime, script: &str, replies: &str) -> io::Result<bool> {

@@ -56,11 +56,7 @@ fn answer_step(world: &mut World, step: Step, page: &mut Page) -> Result<(), Ref
 }
 
 /// Answers a command, but for the rows of a load or a dump, which follow.
-fn answer_command(
-    world: &mut World,
-    command: Command,
-    page: &mut Page,
-) -> Result<Next, Refusal>
+fn answer_command(world: &mut World, command: Command, page: &mut Page) -> Result<Next, Refusal>
     ensures ok { OnOk result (Answers world.old (step_of command) world.new page.old page.new) }
     ensures reached { Reaches world.old world.new }
     ensures memory { IfErr result (λ e. e ≡ Refusal.NoMemory) }

@@ -53,7 +53,10 @@ const SCRIPTS: [(&str, &str); 24] = [
         "ok\nloaded 2\nrows 2\n5,a\n7,b\n",
     ),
     // A line that is no command.
-    ("schema 4 int\njump\ninsert 1\n", "ok\nsyntax command 2\nplace 0\n"),
+    (
+        "schema 4 int\njump\ninsert 1\n",
+        "ok\nsyntax command 2\nplace 0\n",
+    ),
     // An edit under an aggregate that is still built leaves it so.
     (
         "schema 4 int\ninsert 5\nwatch totals 0\nask 0\nset 0 0 6\nask 0\n",
@@ -110,7 +113,10 @@ const SCRIPTS: [(&str, &str); 24] = [
         "ok\nloaded 2\nrefused 5 WrongKind\nrows 2\n1\n2\nloaded 0\n",
     ),
     // A second opening is no command.
-    ("schema 4 int\nschema 4 int\nthreads 1 1\n", "ok\nsyntax command 2\nsyntax command 3\n"),
+    (
+        "schema 4 int\nschema 4 int\nthreads 1 1\n",
+        "ok\nsyntax command 2\nsyntax command 3\n",
+    ),
     // Numbers of aggregates are used again.
     (
         "schema 4 int\nwatch totals 0\nwatch totals 0\nunwatch 0\nunwatch 0\nwatch extrema 0\nask 1\n",
@@ -130,7 +136,10 @@ const BAD_STARTS: [(&str, &str); 9] = [
     ("schema 4 int 1\n", "syntax command 1\n"),
     ("schema 4 int \n", "syntax command 1\n"),
     ("\u{feff}schema 4 int\n", "syntax command 1\n"),
-    ("schema 4 int,int,int,int,int,int,int,int,int,int,int,int,int,int,int,int,int\n", "refused 2 BadSchema\n"),
+    (
+        "schema 4 int,int,int,int,int,int,int,int,int,int,int,int,int,int,int,int,int\n",
+        "refused 2 BadSchema\n",
+    ),
 ];
 
 fn is_fault(outcome: &Result<(), ShellFault>, fault: ShellFault) -> bool {
@@ -181,7 +190,9 @@ fn texts_are_measured_by_their_far_form(rt: HostRuntime) -> Result<(), Fail> {
     let mut given = Vec::new(rt.alloc());
     let outcome = run_script(&rt, script.as_str().as_bytes(), &mut given);
     assert!(rt; outcome.is_ok());
-    assert!(rt; given.as_slice() == b"ok\nrefused 7 TextTooLong\nplace 0\nrefused 11 ChunkFull\n".as_slice());
+    assert!(rt;
+        given.as_slice() == b"ok\nrefused 7 TextTooLong\nplace 0\nrefused 11 ChunkFull\n".as_slice()
+    );
     Ok(())
 }
 
@@ -195,7 +206,9 @@ fn thirty_two_aggregates_are_registered(rt: HostRuntime) -> Result<(), Fail> {
     let mut given = Vec::new(rt.alloc());
     let outcome = run_script(&rt, script.as_str().as_bytes(), &mut given);
     assert!(rt; outcome.is_ok());
-    assert!(rt; given.as_slice().ends_with(b"aggregate 31\nrefused 13 TooManyAggregates\nok\naggregate 4\n"));
+    assert!(rt;
+        given.as_slice().ends_with(b"aggregate 31\nrefused 13 TooManyAggregates\nok\naggregate 4\n")
+    );
     Ok(())
 }
 
@@ -231,7 +244,11 @@ impl Source {
             return Some(*next);
         }
         self.more = self.more.checked_sub(1)?;
-        Some(if self.more % 1_000_000 == 0 { b'\n' } else { b'a' })
+        Some(if self.more % 1_000_000 == 0 {
+            b'\n'
+        } else {
+            b'a'
+        })
     }
 }
 
@@ -270,9 +287,18 @@ fn the_bounds_of_bytes_and_reads_are_kept(rt: HostRuntime) -> Result<(), Fail> {
         };
         let mut given = Vec::new(rt.alloc());
         let outcome = run_script(&rt, source, &mut given);
-        assert!(rt; outcome.is_ok() == is_within, "{more} {at_a_time} {fails_in}");
-        assert!(rt; is_within || is_fault(&outcome, ShellFault::Input), "{more} {at_a_time}");
-        assert!(rt; given.as_slice().starts_with(b"ok\nplace 0\n"), "{more} {at_a_time}");
+        assert!(rt;
+            outcome.is_ok() == is_within,
+            "{more} {at_a_time} {fails_in}"
+        );
+        assert!(rt;
+            is_within || is_fault(&outcome, ShellFault::Input),
+            "{more} {at_a_time}"
+        );
+        assert!(rt;
+            given.as_slice().starts_with(b"ok\nplace 0\n"),
+            "{more} {at_a_time}"
+        );
     }
     Ok(())
 }

@@ -112,9 +112,9 @@ insert_back m k x none = same _ _ (λ q.
     fin.get-remove line_total (fin.insert m k x) k q
     ∙ ap (cond (eq_by_cmp line_cmp q k) None) (fin.get-insert line_total m k x q)
     ∙ elim (eq_by_cmp line_cmp q k) as (λ b. eq_by_cmp line_cmp q k ≡ b → cond b None (cond b (Some x) (fin.get m q)) ≡ fin.get m q) [
-        | true ↦ λ h. sym (ap (fin.get m) (same_key q k h) ∙ none)
-        | false ↦ λ h. refl
-      ] refl)
+      | true ↦ λ h. sym (ap (fin.get m) (same_key q k h) ∙ none)
+      | false ↦ λ h. refl
+    ] refl)
 
 -- or, where there was something else, that put back
 pub insert_again : {V : Type 0} (m : ByKey V) (k : Option Key) (x y : V) → fin.get m k ≡ Some y → fin.insert (fin.insert m k x) k y ≡ m
@@ -122,9 +122,9 @@ insert_again m k x y some = same _ _ (λ q.
     fin.get-insert line_total (fin.insert m k x) k y q
     ∙ ap (cond (eq_by_cmp line_cmp q k) (Some y)) (fin.get-insert line_total m k x q)
     ∙ elim (eq_by_cmp line_cmp q k) as (λ b. eq_by_cmp line_cmp q k ≡ b → cond b (Some y) (cond b (Some x) (fin.get m q)) ≡ fin.get m q) [
-        | true ↦ λ h. sym (ap (fin.get m) (same_key q k h) ∙ some)
-        | false ↦ λ h. refl
-      ] refl)
+      | true ↦ λ h. sym (ap (fin.get m) (same_key q k h) ∙ some)
+      | false ↦ λ h. refl
+    ] refl)
 
 -- both together, where there was something, and else what comes
 abbrev pub with_more : {V : Type 0} → (V → V → V) → V → Option V → V
@@ -162,13 +162,13 @@ moved join m n k x none = same _ _ (λ q.
     get-joined join (with_value join m k x) n q
     ∙ ap (λ o. together join o (fin.get n q)) (fin.get-insert line_total m k (with_more join x (fin.get m k)) q)
     ∙ elim (eq_by_cmp line_cmp q k) as (λ b. eq_by_cmp line_cmp q k ≡ b → together join (cond b (Some (with_more join x (fin.get m k))) (fin.get m q)) (fin.get n q) ≡ together join (fin.get m q) (cond b (Some x) (fin.get n q))) [
-        | true ↦ λ h.
-            let key = same_key q k h in
-            ap (together join (Some (with_more join x (fin.get m k)))) (ap (fin.get n) key ∙ none)
-            ∙ sym (together_more join (fin.get m k) x)
-            ∙ ap (λ y. together join (fin.get m y) (Some x)) (sym key)
-        | false ↦ λ h. refl
-      ] refl
+      | true ↦ λ h.
+          let key = same_key q k h in
+          ap (together join (Some (with_more join x (fin.get m k)))) (ap (fin.get n) key ∙ none)
+          ∙ sym (together_more join (fin.get m k) x)
+          ∙ ap (λ y. together join (fin.get m y) (Some x)) (sym key)
+      | false ↦ λ h. refl
+    ] refl
     ∙ ap (together join (fin.get m q)) (sym (fin.get-insert line_total n k x q))
     ∙ sym (get-joined join m (fin.insert n k x) q))
 
@@ -178,12 +178,12 @@ moved_out join m n k x none = same _ _ (λ q.
     get-joined join m (fin.insert n k x) q
     ∙ ap (together join (fin.get m q)) (fin.get-insert line_total n k x q)
     ∙ elim (eq_by_cmp line_cmp q k) as (λ b. eq_by_cmp line_cmp q k ≡ b → together join (fin.get m q) (cond b (Some x) (fin.get n q)) ≡ cond b (Some (with_more join x (fin.get (joined join m n) k))) (fin.get (joined join m n) q)) [
-        | true ↦ λ h.
-            ap (λ y. together join (fin.get m y) (Some x)) (same_key q k h)
-            ∙ together_more join (fin.get m k) x
-            ∙ ap (λ o. Some (with_more join x o)) (sym (get-joined join m n k ∙ ap (together join (fin.get m k)) none ∙ together_none join (fin.get m k)))
-        | false ↦ λ h. sym (get-joined join m n q)
-      ] refl
+      | true ↦ λ h.
+          ap (λ y. together join (fin.get m y) (Some x)) (same_key q k h)
+          ∙ together_more join (fin.get m k) x
+          ∙ ap (λ o. Some (with_more join x o)) (sym (get-joined join m n k ∙ ap (together join (fin.get m k)) none ∙ together_none join (fin.get m k)))
+      | false ↦ λ h. sym (get-joined join m n q)
+    ] refl
     ∙ sym (fin.get-insert line_total (joined join m n) k _ q))
 
 -- the map with all entries more, one after another
@@ -216,9 +216,9 @@ grouped-one fold k v vs = same _ _ (λ q.
     ∙ elim (eq_by_cmp line_cmp q k) as (λ b. if_any (cond b (v ∷ vs) []) (fold (cond b (v ∷ vs) [])) ≡ cond b (Some (fold (v ∷ vs))) None) [ true ↦ refl | false ↦ refl ]
     ∙ ap (cond (eq_by_cmp line_cmp q k) (Some (fold (v ∷ vs)))) (sym (fin.get-empty line_cmp q))
     ∙ sym (fin.get-insert line_total fin.empty k (fold (v ∷ vs)) q)) where
-  under : (q : Option Key) (ws : List ℤ) → values_of q (map (λ (value : ℤ). (k, value)) ws) ≡ cond (eq_by_cmp line_cmp q k) ws []
-  under q [] = let nil : List ℤ = [] in elim (eq_by_cmp line_cmp q k) as (λ b. nil ≡ cond b nil nil) [ true ↦ refl | false ↦ refl ]
-  under q (w ∷ ws) =
-      values_of-cons q (k, w) (map (λ (value : ℤ). (k, value)) ws)
-      ∙ ap (λ rest. cond (eq_by_cmp line_cmp q k) (w ∷ rest) rest) (under q ws)
-      ∙ elim (eq_by_cmp line_cmp q k) as (λ b. cond b (w ∷ cond b ws []) (cond b ws []) ≡ cond b (w ∷ ws) []) [ true ↦ refl | false ↦ refl ]
+      under : (q : Option Key) (ws : List ℤ) → values_of q (map (λ (value : ℤ). (k, value)) ws) ≡ cond (eq_by_cmp line_cmp q k) ws []
+      under q [] = let nil : List ℤ = [] in elim (eq_by_cmp line_cmp q k) as (λ b. nil ≡ cond b nil nil) [ true ↦ refl | false ↦ refl ]
+      under q (w ∷ ws) =
+          values_of-cons q (k, w) (map (λ (value : ℤ). (k, value)) ws)
+          ∙ ap (λ rest. cond (eq_by_cmp line_cmp q k) (w ∷ rest) rest) (under q ws)
+          ∙ elim (eq_by_cmp line_cmp q k) as (λ b. cond b (w ∷ cond b ws []) (cond b ws []) ≡ cond b (w ∷ ws) []) [ true ↦ refl | false ↦ refl ]
