@@ -1,19 +1,10 @@
 use Rattle.std.proofs.Common.{◌≡◌, sym, ap, ◌∙◌}
-use Rattle.std.specs.Prelude.{Result, Ok}
-use Rattle.far_types.specs.declared.refusal.Refusal.{Refusal}
-use Rattle.far_types.specs.declared.answer.Answer.{Answer}
 use Rattle.far_types.specs.declared.answer.Answer.TheVariants as answer
 use Rattle.far_types.specs.Answers.{or_zero}
 use Rattle.far_types.specs.Table.{left}
 use Rattle.far_frame.specs.Kept.{kept_answer, left_in}
 use Rattle.far_frame.proofs.AnswerLaws.{answers-now, left-now}
 use Rattle.far_frame.proofs.answers.answer.Goals as goal
-
-abbrev ok_of : Answer → Result Answer Refusal
-ok_of x = Ok x
-
-ok_is : {x y : Answer} → ok_of x ≡ ok_of y → x ≡ y
-ok_is e = cc
 
 pub returns-in-Ok-or_zero-clause-ok : goal.returns-in-Ok-or_zero-clause-ok
 returns-in-Ok-or_zero-clause-ok c size places pos h =
@@ -28,5 +19,5 @@ returns-in-Ok-answer-clause-ok c size places pos h =
     let a = c.args.aggregate.now in
     let z : left a.unbuilt ≡ 0 = sym (left-now size places a h) ∙ ap left_in c.in-Extrema.is ∙ c.in-Ok-answer.ensures.built in (
       z,
-      ok_is c.in-Ok-answer.ensures.ok ∙ ap (kept_answer a.spec.key) (sym c.in-Extrema.is) ∙ answers-now size places a pos h z,
+      c.in-Ok-answer.ensures.ok ∙ ap (kept_answer a.spec.key) (sym c.in-Extrema.is) ∙ answers-now size places a pos h z,
     )
