@@ -19,14 +19,17 @@ pub fn slot_at(slots: &[Slot], offset: u32) -> usize
     ensures { (k : ℕ) (s : Slot) → slice_get slots.now k ≡ Some s → s.offset ≡ offset → result ≡ k }
 {
     let mut low = 0;
-    let mut high = slots.len();
-    while high - low > 1 {
-        let middle = low + (high - low) / 2;
-        if slots[middle].offset <= offset {
-            low = middle;
+    let mut size = slots.len();
+    while size > 1 {
+        let half = size / 2;
+        let middle = low + half;
+        // One choice and no second bound, so that it compiles to a move and not to a branch.
+        low = if slots[middle].offset <= offset {
+            middle
         } else {
-            high = middle;
-        }
+            low
+        };
+        size -= half;
     }
     low
 }
