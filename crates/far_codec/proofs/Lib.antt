@@ -1,0 +1,9 @@
+pub mod Chunks
+pub mod Compared
+pub mod Heads
+pub mod IntForms
+pub mod MaskWriting
+pub mod Masks
+pub mod Meaning
+pub mod PlainWords
+pub mod TextForms

@@ -1,0 +1,11 @@
+pub mod BytesLaws
+pub mod FarForm
+pub mod Forms
+pub mod MaskLaws
+pub mod PlainLaws
+pub mod PlainNumbers
+pub mod Reading
+pub mod ReadingLaws
+pub mod Spelling
+pub mod TextForm
+pub mod TextLaws

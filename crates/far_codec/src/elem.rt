@@ -1,0 +1,48 @@
+// What an object holds, and how a list of it is spelled in bytes.
+ghost use Rattle.std.specs.Prelude.{◌≡◌, ◌↔◌, ℕ, List, All, IfOk, IfErr, IfSome, IsTrue, Some, option_map};
+ghost use Rattle.far_codec.specs.Spelling.{IsSpelled};
+
+use far_types::Refusal;
+use std::alloc::Global;
+
+/// What an object holds: numbers, numbers that may be missing, or the bytes of a far form of texts.
+///
+/// A list of elements that has a spelling has exactly one, and it reads back.
+pub trait Elem: Copy + Drop + Send + Sync {
+    /// The element is a value of its type: holds of each element that runs, and no proof above knows it otherwise.
+    ghost in_range: { Self → Type 0 };
+
+    /// The list has a spelling.
+    ghost has_spelling: { List Self → Type 0 };
+
+    /// The spelling of a list that has one.
+    ghost spelling: { List Self → List ℕ };
+
+    /// The list that bytes spell, where they spell one.
+    ghost meaning: { List ℕ → List Self };
+
+    /// The one spelling of the list. Refused with `NoMemory` (1) alone.
+    fn spell(alloc: Global, view: &[Self]) -> Result<Vec<u8>, Refusal>
+        requires { has_spelling view.now }
+        ensures spelled { IfOk result (λ bytes. IsSpelled in_range has_spelling spelling view.now bytes.items) }
+        ensures memory { IfErr result (λ e. e ≡ Refusal.NoMemory) };
+
+    /// The list that the bytes spell, and `None` where they spell none. Refused with `NoMemory` (1) alone.
+    fn unspell(alloc: Global, bytes: &[u8]) -> Result<Option<Vec<Self>>, Refusal>
+        // What is read is spelled so.
+        ensures found { IfOk result (λ read. IfSome read (λ list. IsSpelled in_range has_spelling spelling list.items bytes.now)) }
+        // What is spelled so is read.
+        ensures only { (list : List Self) → IsSpelled in_range has_spelling spelling list bytes.now → IfOk result (λ read. option_map (λ found. found.items) read ≡ Some list) }
+        ensures memory { IfErr result (λ e. e ≡ Refusal.NoMemory) };
+
+    /// Whether the bytes are the spelling of the list. Takes no memory, and stops at the first difference.
+    fn spells(bytes: &[u8], view: &[Self]) -> bool
+        ensures exact { IsTrue result ↔ (bytes.now ≡ spelling view.now) }
+        ensures range { IsTrue result → All in_range view.now };
+
+    /// A spelling reads back.
+    ghost reads_back: { (list : List Self) → All in_range list → has_spelling list → meaning (spelling list) ≡ list };
+
+    /// No other list is spelled as a list that has a spelling.
+    ghost one_list: { (one other : List Self) → All in_range one → All in_range other → has_spelling one → spelling one ≡ spelling other → one ≡ other };
+}

@@ -1,0 +1,20 @@
+#![tactic(auto)]
+//! Far forms: how the values of one column and row group lie in the far store, and the elements of objects.
+
+mod bytes;
+mod elem;
+mod head;
+mod ints;
+mod lists;
+mod mask;
+mod numbers;
+mod text_forms;
+mod texts;
+mod values;
+mod words;
+
+pub use elem::Elem;
+pub use ints::{encode_ints, ints_length};
+pub use lists::{IntList, TextList};
+pub use text_forms::{count_texts, encode_texts, text_at, text_of, texts_length};
+pub use values::{Values, decode, kind_of};

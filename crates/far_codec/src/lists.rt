@@ -1,0 +1,79 @@
+// Lists of values, which contracts see as lists.
+ghost use Rattle.std.specs.Prelude.{◌≡◌, length};
+
+use far_types::Text;
+use std::marker::Model;
+
+/// Numbers in their order, each of which may be missing. Contracts see the list.
+#[derive(Drop, Debug)]
+pub struct IntList {
+    numbers: Vec<Option<i64>>,
+}
+
+impl Model for IntList {
+    ghost use Rattle.std.specs.Prelude.{ℤ, List, Option};
+
+    ghost Value = { List (Option ℤ) };
+
+    ghost view = { λ list. list.numbers.items };
+}
+
+impl IntList {
+    /// The list of these numbers. Takes no memory.
+    pub fn new(numbers: Vec<Option<i64>>) -> IntList
+        ensures { result ≡ numbers.items }
+    {
+        IntList { numbers }
+    }
+
+    /// The numbers, lent in place.
+    pub fn as_slice(&self) -> &[Option<i64>]
+        ensures { result.now ≡ self.now }
+    {
+        self.numbers.as_slice()
+    }
+
+    /// The numbers. Takes no memory.
+    pub fn into_vec(self) -> Vec<Option<i64>>
+        ensures { result.items ≡ self }
+    {
+        self.numbers
+    }
+}
+
+/// Texts in their order, each of which may be missing. Contracts see the list of the lists of their bytes.
+#[derive(Drop, Debug)]
+pub struct TextList {
+    texts: Vec<Option<Text>>,
+}
+
+impl Model for TextList {
+    ghost use Rattle.std.specs.Prelude.{ℕ, List, Option};
+
+    ghost Value = { List (Option (List ℕ)) };
+
+    ghost view = { λ list. list.texts.items };
+}
+
+impl TextList {
+    /// The list of these texts. Takes no memory.
+    pub fn new(texts: Vec<Option<Text>>) -> TextList
+        ensures { result ≡ texts.items }
+    {
+        TextList { texts }
+    }
+
+    /// The texts, lent in place.
+    pub fn as_slice(&self) -> &[Option<Text>]
+        ensures { result.now ≡ self.now }
+    {
+        self.texts.as_slice()
+    }
+
+    /// The texts. Takes no memory.
+    pub fn into_vec(self) -> Vec<Option<Text>>
+        ensures { result.items ≡ self }
+    {
+        self.texts
+    }
+}

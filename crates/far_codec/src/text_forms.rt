@@ -1,0 +1,132 @@
+// Far forms of texts: how they are written, and how a text of one is lent.
+ghost use Rattle.std.specs.Prelude.{◌≡◌, ◌++◌, ◌∷◌, ◌+◌, ◌/◌, ◌==◌, ◌<◌, ◌^◌, [], cond, ℕ, List, Option, Some, length, map, slice_get, option_and_then, OnOk, IfOk, IfErr, IfSome, All};
+ghost use Rattle.std.specs.Option.{option_copied};
+ghost use Rattle.std.specs.List.{flat_map};
+ghost use Rattle.std.specs.Int.{w32, to_le_bytes};
+ghost use Rattle.std.specs.Str.{IsUtf8};
+ghost use Rattle.far_types.specs.FormLengths.{text_bytes, texts_length};
+ghost use Rattle.far_codec.specs.TextForm.{bytes_of, ends_of, texts_form, texts_of, ends_in, texts_meaning, AreTexts, AreTextParts, IsTextsForm};
+
+use crate::mask::{mask_length, push_head};
+use crate::texts::{TextParts, split_texts, text_in};
+use far_types::{Refusal, Text};
+use std::alloc::{AllocError, Global};
+
+/// The bytes of a text, lent in place; none where it is missing.
+fn bytes_in(text: &Option<Text>) -> &[u8]
+    ensures bytes { result.now ≡ bytes_of text.now }
+    ensures utf8 { IfSome text.now IsUtf8 }
+{
+    match text {
+        Some(text) => text.as_str().as_bytes(),
+        None => &[],
+    }
+}
+
+/// How many bytes the texts have.
+fn count_bytes(texts: &[Option<Text>]) -> usize
+    requires { text_bytes texts.now < 2 ^ 62 }
+    ensures { result ≡ text_bytes texts.now }
+{
+    let mut total = 0;
+    for text in texts {
+        total += bytes_in(text).len();
+    }
+    total
+}
+
+/// How many bytes the far form of texts has.
+pub fn texts_length(texts: &[Option<Text>]) -> usize
+    requires count { length texts.now < 2 ^ 32 }
+    requires bytes { text_bytes texts.now < 2 ^ 62 }
+    ensures { result ≡ texts_length texts.now }
+{
+    6 + mask_length(texts) + 4 * texts.len() + count_bytes(texts)
+}
+
+/// Appends the end of each text.
+fn push_ends(form: &mut Vec<u8>, texts: &[Option<Text>]) -> Result<(), AllocError>
+    requires { text_bytes texts.now < 2 ^ 32 }
+    ensures { OnOk result (form.new.items ≡ form.old.items ++ flat_map (to_le_bytes w32) (ends_of texts.now)) }
+{
+    let mut end = 0;
+    for text in texts {
+        end += bytes_in(text).len();
+        form.extend_from_slice(&(end as u32).to_le_bytes())?;
+    }
+    Ok(())
+}
+
+/// Appends the bytes of each text.
+fn push_texts(form: &mut Vec<u8>, texts: &[Option<Text>]) -> Result<(), AllocError>
+    ensures written { OnOk result (form.new.items ≡ form.old.items ++ flat_map bytes_of texts.now) }
+    ensures utf8 { OnOk result (All (λ text. IfSome text IsUtf8) texts.now) }
+{
+    for text in texts {
+        form.extend_from_slice(bytes_in(text))?;
+    }
+    Ok(())
+}
+
+/// The one far form of texts. Refused with `NoMemory` (1) alone.
+pub fn encode_texts(alloc: Global, texts: &[Option<Text>]) -> Result<Vec<u8>, Refusal>
+    requires count { length texts.now < 2 ^ 32 }
+    requires bytes { text_bytes texts.now < 2 ^ 32 }
+    ensures spelled { IfOk result (λ form. (form.items ≡ texts_form texts.now) × AreTexts texts.now) }
+    ensures memory { IfErr result (λ e. e ≡ Refusal.NoMemory) }
+{
+    let mut form = Vec::with_capacity(alloc, texts_length(texts))?;
+    push_head(&mut form, 1, texts)?;
+    push_ends(&mut form, texts)?;
+    push_texts(&mut form, texts)?;
+    Ok(form)
+}
+
+/// Text `i` of the texts that the bytes are the far form of, lent in place; `None` where the bytes are none, past
+/// the end, and where text `i` is missing. Takes no memory.
+pub fn text_at(bytes: &[u8], i: usize) -> Option<&str>
+    ensures found { IfSome result (λ text. IsTextsForm bytes.now × (slice_get (texts_meaning bytes.now) i ≡ Some (Some text.now))) }
+    ensures only { IsTextsForm bytes.now → option_copied result ≡ option_and_then (λ text. text) (slice_get (texts_meaning bytes.now) i) }
+{
+    let parts = split_texts(bytes)?;
+    text_in(parts, i)
+}
+
+/// How many bytes the mask of so many values has, by the first byte of a form.
+fn mask_size(version: u8, count: usize) -> usize
+    requires { count < 2 ^ 32 }
+    ensures { result ≡ cond (version == 2) ((count + 7) / 8) 0 }
+{
+    if version == 2 { (count + 7) / 8 } else { 0 }
+}
+
+/// The parts of bytes that are known to be a far form of texts.
+fn known_parts(form: &[u8]) -> TextParts<'_>
+    requires { IsTextsForm form.now }
+    ensures parts { AreTextParts result.mask.now (ends_in result.ends.now) result.body.now }
+    ensures same { texts_of result.mask.now (ends_in result.ends.now) result.body.now ≡ texts_meaning form.now }
+{
+    let count = u32::from_le_bytes([form[2], form[3], form[4], form[5]]) as usize;
+    let (_, rest) = form.split_at(6);
+    let (mask, fields) = rest.split_at(mask_size(form[0], count));
+    let (front, body) = fields.split_at(4 * count);
+    let (ends, _) = front.as_chunks::<4>();
+    TextParts { mask, ends, body }
+}
+
+/// How many texts a far form of texts has. Takes no memory, and looks at the head alone.
+pub fn count_texts(form: &[u8]) -> usize
+    requires { IsTextsForm form.now }
+    ensures { result ≡ length (texts_meaning form.now) }
+{
+    known_parts(form).ends.len()
+}
+
+/// Text `i` of a far form of texts, lent in place; `None` past the end, and where it is missing. Takes no memory,
+/// and looks at the head, one bit of the mask and two ends alone.
+pub fn text_of(form: &[u8], i: usize) -> Option<&str>
+    requires { IsTextsForm form.now }
+    ensures { option_copied result ≡ option_and_then (λ text. text) (slice_get (texts_meaning form.now) i) }
+{
+    text_in(known_parts(form), i)
+}
