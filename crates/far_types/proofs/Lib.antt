@@ -1,3 +1,4 @@
+pub mod ByKeyMaps
 pub mod Computed
 pub mod Grouping
 pub mod LineLaws

@@ -1,0 +1,14 @@
+#![tactic(auto)]
+//! Extrema by key that are kept up to date: the least and the greatest value of the rows folded under each key, row
+//! group by row group, so that a row group that lost a row is looked at again by itself.
+
+pub mod group_extrema;
+pub mod laws;
+pub mod live_extrema;
+mod spans;
+
+pub use group_extrema::GroupExtrema;
+pub use live_extrema::LiveExtrema;
+
+#[cfg(test)]
+mod tests;

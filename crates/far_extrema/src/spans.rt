@@ -1,0 +1,101 @@
+// The least and the greatest value by key, in a tree map.
+ghost use Rattle.std.specs.Prelude.{◌≡◌, false, IsTrue, is_some, IfOk, IfErr, OnOk, OnErr, map, ℤ, Option};
+ghost use Rattle.std.specs.BTreeMap.{IsOrdered};
+ghost use Rattle.std.specs.FinMap as fin;
+ghost use Rattle.far_types.specs.declared.key.Key.{Key};
+ghost use Rattle.far_types.specs.Keys.{line_cmp};
+ghost use Rattle.far_types.specs.Changes.{join_spans, joined_extrema};
+ghost use Rattle.far_extrema.specs.Spans.{extrema_of, with_span};
+
+use far_types::{Key, Refusal, clone_key};
+use std::alloc::Global;
+use std::collections::BTreeMap;
+
+/// The least and the greatest of the values that stand under a key.
+pub type Span = (i64, i64);
+
+/// What stands by key.
+pub type Spans = BTreeMap<Option<Key>, Span>;
+
+/// The least and the greatest of two spans together.
+fn together(span: Span, more: Span) -> Span
+    ensures { result ≡ join_spans span more }
+{
+    (span.0.min(more.0), span.1.max(more.1))
+}
+
+/// A span more under a key that is there. Says whether it is. Takes no memory.
+fn widen(spans: &mut Spans, key: &Option<Key>, more: Span) -> bool
+    ensures there { result ≡ is_some (fin.get (extrema_of spans.old.entries) key.now) }
+    ensures widened { IsTrue result → extrema_of spans.new.entries ≡ with_span (extrema_of spans.old.entries) key.now more }
+    ensures absent { result ≡ false → spans.new.entries ≡ spans.old.entries }
+{
+    match spans.get_mut(key) {
+        Some(span) => {
+            *span = together(*span, more);
+            true
+        }
+        None => false,
+    }
+}
+
+/// A span more under a key, which is dropped where it is there already.
+pub fn see(spans: &mut Spans, key: Option<Key>, more: Span) -> Result<(), Refusal>
+    ensures ok { OnOk result (extrema_of spans.new.entries ≡ with_span (extrema_of spans.old.entries) key more) }
+    ensures err { OnErr result (spans.new.entries ≡ spans.old.entries) }
+    ensures memory { IfErr result (λ e. e ≡ Refusal.NoMemory) }
+{
+    if !widen(spans, &key, more) {
+        spans.insert(key, more)?;
+    }
+    Ok(())
+}
+
+/// A span more under a key, of which a clone is made where it is new.
+pub fn see_under(spans: &mut Spans, key: &Option<Key>, more: Span) -> Result<(), Refusal>
+    ensures ok { OnOk result (extrema_of spans.new.entries ≡ with_span (extrema_of spans.old.entries) key.now more) }
+    ensures err { OnErr result (spans.new.entries ≡ spans.old.entries) }
+    ensures memory { IfErr result (λ e. e ≡ Refusal.NoMemory) }
+{
+    if !widen(spans, key, more) {
+        spans.insert(clone_key(key)?, more)?;
+    }
+    Ok(())
+}
+
+/// Joins the spans of another map to these. A refusal may leave some of them joined.
+pub fn join(spans: &mut Spans, other: &Spans) -> Result<(), Refusal>
+    ensures ok { OnOk result (extrema_of spans.new.entries ≡ joined_extrema (extrema_of spans.old.entries) (extrema_of other.now.entries)) }
+    ensures memory { IfErr result (λ e. e ≡ Refusal.NoMemory) }
+{
+    for (key, span) in other {
+        see_under(spans, key, *span)?;
+    }
+    Ok(())
+}
+
+/// The lines of the spans, by their keys, of which clones are made.
+pub fn lines(alloc: Global, spans: &Spans) -> Result<Vec<(Option<Key>, i64, i64)>, Refusal>
+    ensures ok { IfOk result (λ lines. lines.items ≡ map (λ (entry : Option Key × (ℤ × ℤ)). (entry.0, entry.1.0, entry.1.1)) spans.now.entries) }
+    ensures ordered { IsOrdered line_cmp spans.now }
+    ensures memory { IfErr result (λ e. e ≡ Refusal.NoMemory) }
+{
+    let mut lines = Vec::with_capacity(alloc, spans.len())?;
+    for (key, span) in spans {
+        lines.push((clone_key(key)?, span.0, span.1))?;
+    }
+    Ok(lines)
+}
+
+/// The lines of the spans, by their keys, which are moved.
+pub fn into_lines(alloc: Global, spans: Spans) -> Result<Vec<(Option<Key>, i64, i64)>, Refusal>
+    ensures ok { IfOk result (λ lines. lines.items ≡ map (λ (entry : Option Key × (ℤ × ℤ)). (entry.0, entry.1.0, entry.1.1)) spans.entries) }
+    ensures ordered { IsOrdered line_cmp spans }
+    ensures memory { IfErr result (λ e. e ≡ Refusal.NoMemory) }
+{
+    let mut lines = Vec::with_capacity(alloc, spans.len())?;
+    for (key, span) in spans {
+        lines.push((key, span.0, span.1))?;
+    }
+    Ok(lines)
+}

@@ -1,0 +1,25 @@
+-- Live totals: how many row groups are still to be built in, and the totals of the pairs that are in.
+use Rattle.std.specs.Prelude.{ℕ, ◌+◌, ◌-◌, ◌^◌, ◌≤◌, ℤ, ◌-ℤ◌, Option, None, Some, refl}
+use Rattle.std.specs.Coded.{Coded, code_by, coded×, coded_ℕ}
+use Rattle.std.specs.FinMap as fin
+use Rattle.far_types.specs.declared.key.Key.{Key}
+use Rattle.far_types.specs.Codes.{coded_totals}
+use Rattle.far_types.specs.Answers.{Totals}
+use Rattle.far_types.specs.Changes.{count_in}
+use Rattle.far_groups.specs.Tallies.{IsSumOf}
+
+pub record Live : Type 0 where
+  pub left : ℕ
+  pub totals : Totals
+
+abbrev pub coded_live : Coded Live
+coded_live = code_by (ℕ × Totals) (coded× coded_ℕ coded_totals) (λ live. (live.left, live.totals)) (λ p. record { left = p.0; totals = p.1 }) (λ _. refl)
+
+-- a value can be taken from a count and a sum where the sum that is left is one that the pairs that are left can have
+abbrev pub CanTake : ℤ → Option (ℕ × ℤ) → Type 0
+CanTake value None = ⊥
+CanTake value (Some tally) = (1 ≤ tally.0) × IsSumOf (tally.0 - 1) (tally.1 -ℤ value)
+
+-- two totals can be joined where at most 2^26 pairs come to stand under each key
+abbrev pub CanJoin : Totals → Totals → Type 0
+CanJoin one other = (key : Option Key) → count_in (fin.get one key) + count_in (fin.get other key) ≤ 2 ^ 26

@@ -1,0 +1,11 @@
+#![tactic(auto)]
+//! Totals by key that are kept up to date: how many rows are folded under each key, and the sum of their values.
+
+pub mod laws;
+pub mod live_totals;
+mod tallies;
+
+pub use live_totals::LiveTotals;
+
+#[cfg(test)]
+mod tests;
