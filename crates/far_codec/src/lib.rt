@@ -5,6 +5,7 @@ mod bytes;
 mod elem;
 mod head;
 mod ints;
+mod lent;
 mod lists;
 mod mask;
 mod numbers;
@@ -15,6 +16,7 @@ mod words;
 
 pub use elem::Elem;
 pub use ints::{encode_ints, ints_length};
+pub use lent::{LentInts, LentTexts, LentValues, lend_values};
 pub use lists::{IntList, TextList};
 pub use text_forms::{count_texts, encode_texts, text_at, text_of, texts_length};
 pub use values::{Values, decode, kind_of};

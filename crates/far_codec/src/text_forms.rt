@@ -93,7 +93,7 @@ pub fn text_at(bytes: &[u8], i: usize) -> Option<&str>
 }
 
 /// How many bytes the mask of so many values has, by the first byte of a form.
-fn mask_size(version: u8, count: usize) -> usize
+pub(crate) fn mask_size(version: u8, count: usize) -> usize
     requires { count < 2 ^ 32 }
     ensures { result ≡ cond (version == 2) ((count + 7) / 8) 0 }
 {
@@ -101,7 +101,7 @@ fn mask_size(version: u8, count: usize) -> usize
 }
 
 /// The parts of bytes that are known to be a far form of texts.
-fn known_parts(form: &[u8]) -> TextParts<'_>
+pub(crate) fn known_parts(form: &[u8]) -> TextParts<'_>
     requires { IsTextsForm form.now }
     ensures parts { AreTextParts result.mask.now (ends_in result.ends.now) result.body.now }
     ensures same { texts_of result.mask.now (ends_in result.ends.now) result.body.now ≡ texts_meaning form.now }
