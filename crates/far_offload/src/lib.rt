@@ -1,0 +1,11 @@
+#![tactic(auto)]
+//! Aggregates of a row group whose columns lie in the far store: the agent reads the contents under the tickets and
+//! folds them where they lie, so nothing enters the local region.
+
+mod cell_ref;
+mod column;
+mod kept;
+mod keys;
+mod partial;
+
+pub use partial::PartialDone;
