@@ -7,6 +7,12 @@ use Rattle.far_types.specs.declared.refusal.Refusal.{Refusal}
 use Rattle.far_codec.specs.Lent.{IsForm}
 use Rattle.far_offload.specs.Columns.{Columns, cells_meant}
 
+-- what a job is to compute, over which columns and places: a flag for each place
+pub record Job (K : Type 0) : Type 0 where
+  pub spec : Spec
+  pub tickets : List (ℕ × K)
+  pub alive : List Bool
+
 -- the columns of the contents under some tickets
 abbrev pub columns_under : {K : Type 0} → (K → List ℕ) → List (ℕ × K) → Columns
 columns_under content tickets = map (λ ticket. (ticket.0, cells_meant (content ticket.1))) tickets

@@ -1,5 +1,6 @@
 -- What the live places of a row group come to.
-use Rattle.std.specs.Prelude.{ℕ, ◌^◌, ◌<◌, ℤ, Bool, cond, List, Option, None, Some}
+use Rattle.std.specs.Prelude.{ℕ, ◌^◌, ◌<◌, ℤ, Bool, cond, List, [], ◌∷◌, Option, None, Some, IfSome, FitsSigned}
+use Rattle.std.specs.Int.{w64}
 use Rattle.std.specs.List.{filter_map, enumerate_from}
 use Rattle.std.specs.FinMap as fin
 use Rattle.far_types.specs.declared.key.Key.{Key}
@@ -9,7 +10,7 @@ use Rattle.far_types.specs.declared.spec.Fold.TheVariants as fold
 use Rattle.far_types.specs.Cells.{number_in}
 use Rattle.far_types.specs.Filters.{keeps}
 use Rattle.far_types.specs.Pairs.{Pair, pair_of}
-use Rattle.far_types.specs.Answers.{totals, extrema}
+use Rattle.far_types.specs.Answers.{span, totals, extrema}
 use Rattle.far_types.specs.Changes.{with_pair, with_seen, count_in}
 use Rattle.far_offload.specs.declared.partial.PartialDone.{PartialDone}
 use Rattle.far_offload.specs.declared.partial.PartialDone.TheVariants.{Totals, Extrema}
@@ -30,6 +31,15 @@ value_at spec columns place = cond place.1 (cond (keeps spec.filter (cells_at co
 -- the values of the first places that are alive and kept, in order
 abbrev pub values_over : Spec → Columns → List Bool → List ℤ
 values_over spec columns flags = filter_map (value_at spec columns) (enumerate_from 0 flags)
+
+-- the least and the greatest of some values, where there is one
+abbrev pub span_in : List ℤ → Option (ℤ × ℤ)
+span_in [] = None
+span_in (value ∷ values) = Some (span (value ∷ values))
+
+-- they are numbers of 64 bits
+abbrev pub SpanFits : Option (ℤ × ℤ) → Type 0
+SpanFits span = IfSome span (λ s. FitsSigned w64 s.0 × FitsSigned w64 s.1)
 
 -- what pairs come to; no row group is left to a partial
 abbrev pub partial_of : Fold → List Pair → PartialDone

@@ -1,10 +1,11 @@
 // Which places a filter keeps, and the values that they have.
-ghost use Rattle.std.specs.Prelude.{◌≡◌, cond, None, IfSome, FitsSigned, option_map};
+ghost use Rattle.std.specs.Prelude.{◌≡◌, IfSome, FitsSigned, option_map};
 ghost use Rattle.std.specs.Int.{w64};
 ghost use Rattle.std.specs.Option.{option_copied};
 ghost use Rattle.far_types.specs.Cells.{number_in};
 ghost use Rattle.far_types.specs.Filters.{passes, keeps};
 ghost use Rattle.far_offload.specs.Columns.{column_of, cell_of, cells_at};
+ghost use Rattle.far_offload.specs.Partials.{value_at};
 
 use crate::cell_ref::CellRef;
 use crate::column::{Column, find};
@@ -45,17 +46,22 @@ fn number_in(column: Option<&Column<'_>>, place: usize) -> Option<i64>
     }
 }
 
-/// The value of a place, where it is kept and has one. The column of the values is found once for all places.
-pub(crate) fn kept_value(
+/// The value of a place that is alive or not: there is one where it is alive, kept and has a value. The column of the
+/// values is found once for all places.
+pub(crate) fn value_at(
     spec: &Spec,
     columns: &[Column<'_>],
     values: Option<&Column<'_>>,
     place: usize,
+    alive: bool,
 ) -> Option<i64>
     requires { option_copied values ≡ column_of columns.now spec.now.value }
-    ensures value { result ≡ cond (keeps spec.now.filter (cells_at columns.now place)) (number_in (cells_at columns.now place spec.now.value)) None }
+    ensures value { result ≡ value_at spec.now columns.now (place, alive) }
     ensures fits { IfSome result (FitsSigned w64) }
 {
+    if !alive {
+        return None;
+    }
     if !keeps(columns, spec.filter.as_slice(), place) {
         return None;
     }

@@ -4,8 +4,13 @@
 
 mod cell_ref;
 mod column;
+mod content;
+mod fold;
+mod job;
 mod kept;
 mod keys;
 mod partial;
+mod plain;
 
+pub use job::OffloadJob;
 pub use partial::PartialDone;
