@@ -83,10 +83,7 @@ pub(crate) fn contents_under<S: FarRead>(
 }
 
 /// The columns of some contents, read where they lie.
-pub(crate) fn lend_all(
-    alloc: Global,
-    contents: &[Content],
-) -> Result<Vec<Column<'_>>, AllocError>
+pub(crate) fn lend_all(alloc: Global, contents: &[Content]) -> Result<Vec<Column<'_>>, AllocError>
     ensures { IfOk result (λ columns. columns.items ≡ contents.now) }
 {
     let mut columns = Vec::with_capacity(alloc, contents.len())?;

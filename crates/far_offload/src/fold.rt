@@ -95,11 +95,7 @@ pub(crate) fn fold(
         return keyed(alloc, spec, column, columns, alive);
     }
     match spec.fold {
-        Fold::Totals => Ok(PartialDone::Totals(plain_totals(
-            alloc, spec, columns, alive,
-        )?)),
-        Fold::Extrema => Ok(PartialDone::Extrema(plain_extrema(
-            alloc, spec, columns, alive,
-        )?)),
+        Fold::Totals => Ok(PartialDone::Totals(plain_totals(alloc, spec, columns, alive)?)),
+        Fold::Extrema => Ok(PartialDone::Extrema(plain_extrema(alloc, spec, columns, alive)?)),
     }
 }

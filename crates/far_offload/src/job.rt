@@ -76,12 +76,7 @@ impl<S: FarRead> OffloadJob<S> {
     }
 
     /// What `carry` answers, of a job that is kept.
-    fn partial(
-        &self,
-        alloc: Global,
-        store: &S,
-        meter: &mut Meter,
-    ) -> Result<PartialDone, Refusal>
+    fn partial(&self, alloc: Global, store: &S, meter: &mut Meter) -> Result<PartialDone, Refusal>
         requires few { meter.old < 2 ^ 63 }
         requires here { All (λ ticket. S.is_of ticket.1 (S.name store.now)) self.now.tickets }
         ensures partial { IfOk result (λ done. done ≡ partial_of self.now.spec.fold (pairs_over self.now.spec (columns_under S.content self.now.tickets) self.now.alive)) }

@@ -14,3 +14,6 @@ mod plain;
 
 pub use job::OffloadJob;
 pub use partial::PartialDone;
+
+#[cfg(test)]
+mod tests;

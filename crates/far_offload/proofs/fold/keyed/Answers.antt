@@ -34,18 +34,18 @@ loop-place-preserved c =
     let key_is : (key : Option Key) → key ≡ key_in (option_map (cell_of place) (option_copied c.find-keys.result)) → key ≡ key_in (cells_at columns place c.args.column) = λ key is. is ∙ ap (λ (o : Option (ℕ × List Cell)). key_in (option_map (cell_of place) o)) c.find-keys.ensures in
     elim c.match-value_at.branch [
       | in-Some+in_ok-key+then-is_some+in_ok-fold_under w ↦
-      w.done-is
-      ∙ w.in_ok-fold_under.ensures.ok
-      ∙ ap (λ (v : ℤ). with_folded c.loop-place.done (w.in_ok-key.key, v)) (to_z-of_z w64 w.in-Some.value w.in-Some.ensures.fits)
-      ∙ ap (λ (done : PartialDone). with_folded done (w.in_ok-key.key, w.in-Some.value)) c.loop-place.invariant
-      ∙ sym (partial-more spec.fold pairs (w.in_ok-key.key, w.in-Some.value))
-      ∙ ap (partial_of spec.fold) (sym (pairs-with spec columns alive place c.args.column flag w.in-Some.value w.in_ok-key.key c.requires.keyed (omega arith) refl w.in-Some.ensures.value (key_is w.in_ok-key.key w.in_ok-key.ensures.key) (sym w.is_some.ensures ∙ w.if-is_some.true)))
+          w.done-is
+          ∙ w.in_ok-fold_under.ensures.ok
+          ∙ ap (λ (v : ℤ). with_folded c.loop-place.done (w.in_ok-key.key, v)) (to_z-of_z w64 w.in-Some.value w.in-Some.ensures.fits)
+          ∙ ap (λ (done : PartialDone). with_folded done (w.in_ok-key.key, w.in-Some.value)) c.loop-place.invariant
+          ∙ sym (partial-more spec.fold pairs (w.in_ok-key.key, w.in-Some.value))
+          ∙ ap (partial_of spec.fold) (sym (pairs-with spec columns alive place c.args.column flag w.in-Some.value w.in_ok-key.key c.requires.keyed (omega arith) refl w.in-Some.ensures.value (key_is w.in_ok-key.key w.in_ok-key.ensures.key) (sym w.is_some.ensures ∙ w.if-is_some.true)))
       | in-Some+in_ok-key+else-is_some w ↦
-      w.done-is
-      ∙ c.loop-place.invariant
-      ∙ ap (partial_of spec.fold) (sym (pairs-keyless spec columns alive place c.args.column flag w.in-Some.value w.in_ok-key.key c.requires.keyed (omega arith) refl w.in-Some.ensures.value (key_is w.in_ok-key.key w.in_ok-key.ensures.key) (sym w.is_some.ensures ∙ w.if-is_some.false)))
+          w.done-is
+          ∙ c.loop-place.invariant
+          ∙ ap (partial_of spec.fold) (sym (pairs-keyless spec columns alive place c.args.column flag w.in-Some.value w.in_ok-key.key c.requires.keyed (omega arith) refl w.in-Some.ensures.value (key_is w.in_ok-key.key w.in_ok-key.ensures.key) (sym w.is_some.ensures ∙ w.if-is_some.false)))
       | in_default w ↦
-      w.done-is
-      ∙ c.loop-place.invariant
-      ∙ ap (partial_of spec.fold) (sym (pairs-valueless spec columns alive place flag (omega arith) refl w.in_default.ensures.value))
+          w.done-is
+          ∙ c.loop-place.invariant
+          ∙ ap (partial_of spec.fold) (sym (pairs-valueless spec columns alive place flag (omega arith) refl w.in_default.ensures.value))
     ]

@@ -19,12 +19,12 @@ returns-clause-extrema c =
     let pairs = ap extrema (sym (plain-pairs spec columns (enumerate_from 0 alive) c.requires)) in
     elim c.match-span_of.branch [
       | in-Some+in_ok-see_rows w ↦
-      w.seen-is
-      ∙ w.in_ok-see_rows.ensures.ok
-      ∙ ap (λ (l : ℤ). joined_extrema c.new-seen.result (fin.insert fin.empty None (l, to_z w64 (of_z w64 w.in-Some.greatest)))) (to_z-of_z w64 w.in-Some.least w.in-Some.ensures.fits.0)
-      ∙ ap (λ (g : ℤ). joined_extrema c.new-seen.result (fin.insert fin.empty None (w.in-Some.least, g))) (to_z-of_z w64 w.in-Some.greatest w.in-Some.ensures.fits.1)
-      ∙ ap (λ (m : Extrema). joined_extrema m (fin.insert fin.empty None (w.in-Some.least, w.in-Some.greatest))) c.new-seen.ensures
-      ∙ seen-extrema values w.in-Some.least w.in-Some.greatest w.in-Some.ensures.span
-      ∙ pairs
+          w.seen-is
+          ∙ w.in_ok-see_rows.ensures.ok
+          ∙ ap (λ (l : ℤ). joined_extrema c.new-seen.result (fin.insert fin.empty None (l, to_z w64 (of_z w64 w.in-Some.greatest)))) (to_z-of_z w64 w.in-Some.least w.in-Some.ensures.fits.0)
+          ∙ ap (λ (g : ℤ). joined_extrema c.new-seen.result (fin.insert fin.empty None (w.in-Some.least, g))) (to_z-of_z w64 w.in-Some.greatest w.in-Some.ensures.fits.1)
+          ∙ ap (λ (m : Extrema). joined_extrema m (fin.insert fin.empty None (w.in-Some.least, w.in-Some.greatest))) c.new-seen.ensures
+          ∙ seen-extrema values w.in-Some.least w.in-Some.greatest w.in-Some.ensures.span
+          ∙ pairs
       | in_default w ↦ w.seen-is ∙ c.new-seen.ensures ∙ sym (no-extrema values w.in_default.ensures.span) ∙ pairs
     ]

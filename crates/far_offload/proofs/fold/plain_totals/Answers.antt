@@ -31,16 +31,16 @@ returns-clause-totals c =
     let sum = to_z-of_z w128 c.tally_of-count.result.1 (omega (arith, c.tally_of-count.ensures.sum, c.tally_of-count.ensures.few)) in
     elim c.if-count-ne0.branch [
       | then-count-ne0+in_ok-add_rows w ↦
-      w.live-is
-      ∙ w.in_ok-add_rows.ensures.ok
-      ∙ ap (λ (s : ℤ). live_of c.new-live.result.left (joined_totals c.new-live.result.totals (fin.insert fin.empty None (c.tally_of-count.result.0, s)))) sum
-      ∙ ap (λ (n : ℕ). live_of n (joined_totals c.new-live.result.totals (fin.insert fin.empty None c.tally_of-count.result))) c.new-live.ensures.left
-      ∙ ap (live_of 0) (ap (λ (m : Totals). joined_totals m (fin.insert fin.empty None c.tally_of-count.result)) c.new-live.ensures.empty
-      ∙ ap (λ (t : ℕ × ℤ). joined_totals fin.empty (fin.insert fin.empty None t)) c.tally_of-count.ensures.tally
-      ∙ added-totals values (λ h. w.if-count-ne0.true (count ∙ h))
-      ∙ pairs)
+          w.live-is
+          ∙ w.in_ok-add_rows.ensures.ok
+          ∙ ap (λ (s : ℤ). live_of c.new-live.result.left (joined_totals c.new-live.result.totals (fin.insert fin.empty None (c.tally_of-count.result.0, s)))) sum
+          ∙ ap (λ (n : ℕ). live_of n (joined_totals c.new-live.result.totals (fin.insert fin.empty None c.tally_of-count.result))) c.new-live.ensures.left
+          ∙ ap (live_of 0) (ap (λ (m : Totals). joined_totals m (fin.insert fin.empty None c.tally_of-count.result)) c.new-live.ensures.empty
+          ∙ ap (λ (t : ℕ × ℤ). joined_totals fin.empty (fin.insert fin.empty None t)) c.tally_of-count.ensures.tally
+          ∙ added-totals values (λ h. w.if-count-ne0.true (count ∙ h))
+          ∙ pairs)
       | else-count-ne0 w ↦
-      w.live-is
-      ∙ ap (λ (n : ℕ). live_of n c.new-live.result.totals) c.new-live.ensures.left
-      ∙ ap (live_of 0) (c.new-live.ensures.empty ∙ sym (no-totals values (omega (arith, count, w.if-count-ne0.false))) ∙ pairs)
+          w.live-is
+          ∙ ap (λ (n : ℕ). live_of n c.new-live.result.totals) c.new-live.ensures.left
+          ∙ ap (live_of 0) (c.new-live.ensures.empty ∙ sym (no-totals values (omega (arith, count, w.if-count-ne0.false))) ∙ pairs)
     ]

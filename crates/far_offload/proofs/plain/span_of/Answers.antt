@@ -17,22 +17,22 @@ loop-place-preserved c =
     let values = values_over spec columns (take place alive) in
     elim c.match-value_at.branch [
       | in-Some w ↦
-      record {
-        span =
-            w.span-is
-            ∙ ap Some (w.widened.ensures.value
-            ∙ ap (λ (v : ℤ). widened v c.loop-place.span) (to_z-of_z w64 w.in-Some.value w.in-Some.ensures.fits)
-            ∙ ap (λ (s : Option (ℤ × ℤ)). widened w.in-Some.value s) c.loop-place.invariant.span)
-            ∙ sym (span-more values w.in-Some.value)
-            ∙ ap span_in (sym (values-with spec columns alive place flag w.in-Some.value (omega arith) refl w.in-Some.ensures.value));
-        fits = subst SpanFits (sym w.span-is) w.widened.ensures.fits;
-      }
+          record {
+            span =
+                w.span-is
+                ∙ ap Some (w.widened.ensures.value
+                ∙ ap (λ (v : ℤ). widened v c.loop-place.span) (to_z-of_z w64 w.in-Some.value w.in-Some.ensures.fits)
+                ∙ ap (λ (s : Option (ℤ × ℤ)). widened w.in-Some.value s) c.loop-place.invariant.span)
+                ∙ sym (span-more values w.in-Some.value)
+                ∙ ap span_in (sym (values-with spec columns alive place flag w.in-Some.value (omega arith) refl w.in-Some.ensures.value));
+            fits = subst SpanFits (sym w.span-is) w.widened.ensures.fits;
+          }
       | in_default w ↦
-      record {
-        span =
-            w.span-is
-            ∙ c.loop-place.invariant.span
-            ∙ ap span_in (sym (values-same spec columns alive place flag (omega arith) refl w.in_default.ensures.value));
-        fits = subst SpanFits (sym w.span-is) c.loop-place.invariant.fits;
-      }
+          record {
+            span =
+                w.span-is
+                ∙ c.loop-place.invariant.span
+                ∙ ap span_in (sym (values-same spec columns alive place flag (omega arith) refl w.in_default.ensures.value));
+            fits = subst SpanFits (sym w.span-is) c.loop-place.invariant.fits;
+          }
     ]

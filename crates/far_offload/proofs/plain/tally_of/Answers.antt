@@ -23,21 +23,21 @@ loop-place-preserved c =
     let values = values_over spec columns (take place alive) in
     elim c.match-value_at.branch [
       | in-Some w ↦
-      let is : c.match-value_at.tally ≡ (c.loop-place.tally.0 + 1, c.loop-place.tally.1 +ℤ w.in-Some.value) =
+          let is : c.match-value_at.tally ≡ (c.loop-place.tally.0 + 1, c.loop-place.tally.1 +ℤ w.in-Some.value) =
           w.tally-is ∙ w.raised-tally.ensures.value ∙ ap (λ (v : ℤ). (c.loop-place.tally.0 + 1, c.loop-place.tally.1 +ℤ v)) (to_z-of_z w64 w.in-Some.value w.in-Some.ensures.fits) in
-      record {
-        tally =
-            is
-            ∙ ap (λ (t : ℕ × ℤ). (t.0 + 1, t.1 +ℤ w.in-Some.value)) c.loop-place.invariant.tally
-            ∙ sym (tally-more values w.in-Some.value)
-            ∙ ap tally (sym (values-with spec columns alive place flag w.in-Some.value (omega arith) refl w.in-Some.ensures.value));
-        sum = subst summed (sym w.tally-is) w.raised-tally.ensures.sum;
-        few = omega (arith, ap (λ (t : ℕ × ℤ). t.0) is, c.loop-place.invariant.few);
-      }
+          record {
+            tally =
+                is
+                ∙ ap (λ (t : ℕ × ℤ). (t.0 + 1, t.1 +ℤ w.in-Some.value)) c.loop-place.invariant.tally
+                ∙ sym (tally-more values w.in-Some.value)
+                ∙ ap tally (sym (values-with spec columns alive place flag w.in-Some.value (omega arith) refl w.in-Some.ensures.value));
+            sum = subst summed (sym w.tally-is) w.raised-tally.ensures.sum;
+            few = omega (arith, ap (λ (t : ℕ × ℤ). t.0) is, c.loop-place.invariant.few);
+          }
       | in_default w ↦
-      record {
-        tally = w.tally-is ∙ c.loop-place.invariant.tally ∙ ap tally (sym (values-same spec columns alive place flag (omega arith) refl w.in_default.ensures.value));
-        sum = subst summed (sym w.tally-is) c.loop-place.invariant.sum;
-        few = omega (arith, ap (λ (t : ℕ × ℤ). t.0) w.tally-is, c.loop-place.invariant.few);
-      }
+          record {
+            tally = w.tally-is ∙ c.loop-place.invariant.tally ∙ ap tally (sym (values-same spec columns alive place flag (omega arith) refl w.in_default.ensures.value));
+            sum = subst summed (sym w.tally-is) c.loop-place.invariant.sum;
+            few = omega (arith, ap (λ (t : ℕ × ℤ). t.0) w.tally-is, c.loop-place.invariant.few);
+          }
     ]
