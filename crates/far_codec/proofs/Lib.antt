@@ -2,6 +2,7 @@ pub mod Chunks
 pub mod Compared
 pub mod Heads
 pub mod IntForms
+pub mod LentForms
 pub mod MaskWriting
 pub mod ChangedLengths
 pub mod Laws

@@ -1,6 +1,7 @@
 pub mod BytesLaws
 pub mod FarForm
 pub mod Forms
+pub mod Lent
 pub mod MaskLaws
 pub mod PlainLaws
 pub mod PlainNumbers

@@ -65,7 +65,7 @@ number_again (Some x) missing e fits =
     ap (λ b. cond b None (Some (number_of (number_bytes (Some x))))) e
     ∙ ap Some (ap (cast_signed w64) (from_le_bytes-to_le_bytes_8 (cast_unsigned w64 x) (omega (arith, Fits-of_z fits))) ∙ to_z-of_z w64 x fits)
 
-numbers_again : (numbers : List (Option ℤ)) → All (λ number. IfSome number (FitsSigned w64)) numbers → numbers_of (mask_of (map is_none numbers)) (map number_bytes numbers) ≡ numbers
+pub numbers_again : (numbers : List (Option ℤ)) → All (λ number. IfSome number (FitsSigned w64)) numbers → numbers_of (mask_of (map is_none numbers)) (map number_bytes numbers) ≡ numbers
 numbers_again numbers fits =
     let flags = map is_none numbers in
     let m = mask_of flags in

@@ -58,7 +58,7 @@ pub(crate) fn split_ints(bytes: &[u8]) -> Option<IntParts<'_>>
 }
 
 /// The number of a word, where it is not missing.
-fn option_in(missing: bool, word: &[u8; 8]) -> Option<i64>
+pub(crate) fn option_in(missing: bool, word: &[u8; 8]) -> Option<i64>
     ensures { result ≡ cond missing None (Some (number_of word.now)) }
 {
     if missing { None } else { Some(number_in(word)) }

@@ -94,7 +94,7 @@ pub fn text_at(bytes: &[u8], i: usize) -> Option<&str>
 }
 
 /// How many bytes the mask of so many values has, by the first byte of a form.
-fn mask_size(version: u8, count: usize) -> usize
+pub(crate) fn mask_size(version: u8, count: usize) -> usize
     requires { count < 2 ^ 32 }
     ensures { result ≡ cond (version == 2) ((count + 7) / 8) 0 }
 {

@@ -1,0 +1,189 @@
+-- How what the first places come to changes with one place more.
+use Rattle.std.proofs.Common.{◌≡◌, ℕ, zero, suc, ◌+◌, ◌<◌, ◌≤◌, ◌^◌, Bool, true, false, cond, List, [], ◌∷◌, ◌++◌, length, get_or, map, take, Option, None, Some, refl, sym, ap, ◌∙◌, arith}
+use Rattle.std.specs.Prelude.{ℤ, ◌+ℤ◌, option_map, is_some}
+use Rattle.std.specs.FinMap as fin
+use Rattle.std.specs.Option.{option_and_then}
+use Rattle.std.proofs.lemmas.Bool.{false≢true}
+use Rattle.std.specs.List.{filter_map, cons_option, enumerate_from}
+use Rattle.std.proofs.lemmas.Int.{ints}
+use Rattle.std.proofs.lemmas.List.{append-nil, take_more, length-take, take_all}
+use Rattle.std.proofs.lemmas.List.Elements.{filter_map-append}
+use Rattle.far_types.specs.declared.key.Key.{Key}
+use Rattle.far_types.specs.declared.spec.Spec.{Spec}
+use Rattle.far_types.specs.declared.spec.Fold.{Fold}
+use Rattle.far_types.specs.declared.spec.Fold.TheVariants as fold
+use Rattle.far_types.specs.Cells.{number_in, key_in}
+use Rattle.far_types.specs.Filters.{keeps}
+use Rattle.far_types.specs.Pairs.{Pair, key_under, paired}
+use Rattle.far_types.specs.Answers.{tally, int_sum, span, totals, extrema}
+use Rattle.far_types.specs.Changes.{widened, with_pair, with_seen, joined_totals, joined_extrema}
+use Rattle.far_types.proofs.ByKeyMaps.{grouped-one}
+use Rattle.far_types.proofs.Values.{tally-among, span-among, span-cons}
+use Rattle.far_types.proofs.TotalLaws.{totals-cons, totals-among, totals-append, extrema-cons, extrema-among, extrema-append}
+use Rattle.far_groups.proofs.PairLaws.{counted}
+use Rattle.far_offload.specs.declared.partial.PartialDone.TheVariants.{Totals, Extrema}
+use Rattle.far_offload.specs.Columns.{Columns, cells_at}
+use Rattle.far_offload.specs.Partials.{pair_at, pairs_over, value_at, values_over, span_in, partial_of, with_folded, CanFold}
+
+enumerate-more : (n : ℕ) (flags : List Bool) (i : ℕ) → i < length flags → enumerate_from n (take i flags ++ get_or flags i false ∷ []) ≡ enumerate_from n (take i flags) ++ (n + i, get_or flags i false) ∷ []
+enumerate-more n [] i h = absurd (omega arith)
+enumerate-more n (flag ∷ flags) zero h = ap (λ k. (k, flag) ∷ []) (omega arith)
+enumerate-more n (flag ∷ flags) (suc i) h =
+    ap (λ l. (n, flag) ∷ l) (enumerate-more (n + 1) flags i (omega arith)
+    ∙ ap (λ k. enumerate_from (n + 1) (take i flags) ++ (k, get_or flags i false) ∷ []) (omega arith))
+
+-- what places give, with one place more
+pub over-more : {Y : Type 0} (h : ℕ × Bool → Option Y) (flags : List Bool) (i : ℕ) (flag : Bool) → i < length flags → get_or flags i false ≡ flag → filter_map h (enumerate_from 0 (take (i + 1) flags)) ≡ filter_map h (enumerate_from 0 (take i flags)) ++ cons_option (h (i, flag)) []
+over-more h flags i flag within is =
+    ap (λ l. filter_map h (enumerate_from 0 l)) (take_more flags i false within)
+    ∙ ap (filter_map h) (enumerate-more 0 flags i within)
+    ∙ filter_map-append h (enumerate_from 0 (take i flags)) ((0 + i, get_or flags i false) ∷ [])
+    ∙ ap (λ k. filter_map h (enumerate_from 0 (take i flags)) ++ cons_option (h (k, get_or flags i false)) []) (omega arith)
+    ∙ ap (λ f. filter_map h (enumerate_from 0 (take i flags)) ++ cons_option (h (i, f)) []) is
+
+pub over-few : {Y : Type 0} (h : ℕ × Bool → Option Y) (n : ℕ) (flags : List Bool) → length (filter_map h (enumerate_from n flags)) ≤ length flags
+over-few h n [] = omega arith
+over-few h n (flag ∷ flags) = few (h (n, flag)) (filter_map h (enumerate_from (n + 1) flags)) (over-few h (n + 1) flags)
+  where
+    few : {Y : Type 0} (o : Option Y) (ys : List Y) → length ys ≤ length flags → length (cons_option o ys) ≤ length (flag ∷ flags)
+    few None ys h = omega arith
+    few (Some y) ys h = omega arith
+
+pub tally-more : (values : List ℤ) (value : ℤ) → tally (values ++ value ∷ []) ≡ ((tally values).0 + 1, (tally values).1 +ℤ value)
+tally-more values value =
+    let count : length (value ∷ values) ≡ length values + 1 = omega arith in
+    let sum : value +ℤ int_sum values ≡ int_sum values +ℤ value = omega (arith, ints) in
+    tally-among values value [] ∙ ap (λ l. tally (value ∷ l)) (append-nil values) ∙ (λ i. (count i, sum i))
+
+pub span-more : (values : List ℤ) (value : ℤ) → span_in (values ++ value ∷ []) ≡ Some (widened value (span_in values))
+span-more [] value = refl
+span-more (v ∷ values) value =
+    ap Some (span-among (v ∷ values) value [] ∙ ap (λ l. span (value ∷ l)) (append-nil (v ∷ values)) ∙ span-cons value (v ∷ values))
+
+pub partial-more : (f : Fold) (pairs : List Pair) (pair : Pair) → partial_of f (pairs ++ pair ∷ []) ≡ with_folded (partial_of f pairs) pair
+partial-more fold.Totals pairs pair =
+    ap (λ m. Totals (record { left = 0; totals = m })) (totals-among pairs pair [] ∙ ap (λ l. totals (pair ∷ l)) (append-nil pairs) ∙ totals-cons pair pairs)
+partial-more fold.Extrema pairs pair =
+    ap Extrema (extrema-among pairs pair [] ∙ ap (λ l. extrema (pair ∷ l)) (append-nil pairs) ∙ extrema-cons pair pairs)
+
+pub can-fold : (f : Fold) (pairs : List Pair) (key : Option Key) → length pairs < 2 ^ 26 → CanFold (partial_of f pairs) key
+can-fold fold.Totals pairs key few = let h = counted pairs key in omega (arith, h)
+can-fold fold.Extrema pairs key few = tt
+
+-- the values of the first places, with one place more
+pub values-with : (spec : Spec) (columns : Columns) (flags : List Bool) (i : ℕ) (flag : Bool) (value : ℤ) → i < length flags → get_or flags i false ≡ flag → Some value ≡ value_at spec columns (i, flag) → values_over spec columns (take (i + 1) flags) ≡ values_over spec columns (take i flags) ++ value ∷ []
+values-with spec columns flags i flag value within is there =
+    over-more (value_at spec columns) flags i flag within is
+    ∙ ap (λ (o : Option ℤ). values_over spec columns (take i flags) ++ cons_option o []) (sym there)
+
+pub values-same : (spec : Spec) (columns : Columns) (flags : List Bool) (i : ℕ) (flag : Bool) → i < length flags → get_or flags i false ≡ flag → None ≡ value_at spec columns (i, flag) → values_over spec columns (take (i + 1) flags) ≡ values_over spec columns (take i flags)
+values-same spec columns flags i flag within is none =
+    over-more (value_at spec columns) flags i flag within is
+    ∙ ap (λ (o : Option ℤ). values_over spec columns (take i flags) ++ cons_option o []) (sym none)
+    ∙ append-nil (values_over spec columns (take i flags))
+
+-- a place with a value gives a pair where it has a key
+paired-is : (under : Option (Option Key)) (number : Option ℤ) → paired under number ≡ option_and_then (λ value. option_map (λ key. (key, value)) under) number
+paired-is None None = refl
+paired-is None (Some value) = refl
+paired-is (Some key) None = refl
+paired-is (Some key) (Some value) = refl
+
+pair-is : (spec : Spec) (columns : Columns) (place : ℕ × Bool) → pair_at spec columns place ≡ option_and_then (λ value. option_map (λ key. (key, value)) (key_under spec.key (cells_at columns place.0))) (value_at spec columns place)
+pair-is spec columns place =
+    let under = key_under spec.key (cells_at columns place.0) in
+    let number = number_in (cells_at columns place.0 spec.value) in
+    elim place.1 as (λ a. cond a (cond (keeps spec.filter (cells_at columns place.0)) (paired under number) None) None ≡ option_and_then (λ value. option_map (λ key. (key, value)) under) (cond a (cond (keeps spec.filter (cells_at columns place.0)) number None) None)) [
+      | true ↦ elim (keeps spec.filter (cells_at columns place.0)) as (λ k. cond k (paired under number) None ≡ option_and_then (λ value. option_map (λ key. (key, value)) under) (cond k number None)) [ true ↦ paired-is under number | false ↦ refl ]
+      | false ↦ refl
+    ]
+
+-- the pairs of the first places, with one place more
+pairs-next : (spec : Spec) (columns : Columns) (flags : List Bool) (i : ℕ) (flag : Bool) (pair : Option Pair) → i < length flags → get_or flags i false ≡ flag → pair_at spec columns (i, flag) ≡ pair → pairs_over spec columns (take (i + 1) flags) ≡ pairs_over spec columns (take i flags) ++ cons_option pair []
+pairs-next spec columns flags i flag pair within is there =
+    over-more (pair_at spec columns) flags i flag within is
+    ∙ ap (λ (o : Option Pair). pairs_over spec columns (take i flags) ++ cons_option o []) there
+
+pub pairs-valueless : (spec : Spec) (columns : Columns) (flags : List Bool) (i : ℕ) (flag : Bool) → i < length flags → get_or flags i false ≡ flag → None ≡ value_at spec columns (i, flag) → pairs_over spec columns (take (i + 1) flags) ≡ pairs_over spec columns (take i flags)
+pairs-valueless spec columns flags i flag within is none =
+    pairs-next spec columns flags i flag None within is (pair-is spec columns (i, flag) ∙ ap (λ (o : Option ℤ). option_and_then (λ value. option_map (λ key. (key, value)) (key_under spec.key (cells_at columns i))) o) (sym none))
+    ∙ append-nil (pairs_over spec columns (take i flags))
+
+-- a place with a value, in an aggregate with a key column
+keyed-pair : (spec : Spec) (columns : Columns) (i column : ℕ) (flag : Bool) (value : ℤ) (key : Option Key) → spec.key ≡ Some column → Some value ≡ value_at spec columns (i, flag) → key ≡ key_in (cells_at columns i column) → pair_at spec columns (i, flag) ≡ option_map {U = Pair} (λ k. (Some k, value)) key
+keyed-pair spec columns i column flag value key keyed there is =
+    pair-is spec columns (i, flag)
+    ∙ ap (λ (o : Option ℤ). option_and_then (λ value. option_map (λ key. (key, value)) (key_under spec.key (cells_at columns i))) o) (sym there)
+    ∙ ap (λ (o : Option ℕ). option_map (λ key. (key, value)) (key_under o (cells_at columns i))) keyed
+    ∙ ap (λ (o : Option Key). option_map {U = Pair} (λ k. (k, value)) (option_map Some o)) (sym is)
+    ∙ twice key
+  where
+    twice : (o : Option Key) → option_map {U = Pair} (λ k. (k, value)) (option_map Some o) ≡ option_map (λ k. (Some k, value)) o
+    twice None = refl
+    twice (Some k) = refl
+
+some-key : (key : Option Key) (value : ℤ) → is_some key ≡ true → option_map {U = Pair} (λ k. (Some k, value)) key ≡ Some (key, value)
+some-key None value h = absurd (false≢true h)
+some-key (Some k) value h = refl
+
+no-key : (key : Option Key) (value : ℤ) → is_some key ≡ false → option_map {U = Pair} (λ k. (Some k, value)) key ≡ None
+no-key None value h = refl
+no-key (Some k) value h = absurd (false≢true (sym h))
+
+pub pairs-with : (spec : Spec) (columns : Columns) (flags : List Bool) (i column : ℕ) (flag : Bool) (value : ℤ) (key : Option Key) → spec.key ≡ Some column → i < length flags → get_or flags i false ≡ flag → Some value ≡ value_at spec columns (i, flag) → key ≡ key_in (cells_at columns i column) → is_some key ≡ true → pairs_over spec columns (take (i + 1) flags) ≡ pairs_over spec columns (take i flags) ++ (key, value) ∷ []
+pairs-with spec columns flags i column flag value key keyed within is there key_is some =
+    pairs-next spec columns flags i flag (Some (key, value)) within is (keyed-pair spec columns i column flag value key keyed there key_is ∙ some-key key value some)
+
+pub pairs-keyless : (spec : Spec) (columns : Columns) (flags : List Bool) (i column : ℕ) (flag : Bool) (value : ℤ) (key : Option Key) → spec.key ≡ Some column → i < length flags → get_or flags i false ≡ flag → Some value ≡ value_at spec columns (i, flag) → key ≡ key_in (cells_at columns i column) → is_some key ≡ false → pairs_over spec columns (take (i + 1) flags) ≡ pairs_over spec columns (take i flags)
+pairs-keyless spec columns flags i column flag value key keyed within is there key_is none =
+    pairs-next spec columns flags i flag None within is (keyed-pair spec columns i column flag value key keyed there key_is ∙ no-key key value none)
+    ∙ append-nil (pairs_over spec columns (take i flags))
+
+-- without key column each value stands under no key
+plain-pair : (spec : Spec) (columns : Columns) (place : ℕ × Bool) → spec.key ≡ None → pair_at spec columns place ≡ option_map (λ value. (None, value)) (value_at spec columns place)
+plain-pair spec columns place plain =
+    pair-is spec columns place
+    ∙ ap (λ (o : Option ℕ). option_and_then (λ value. option_map (λ key. (key, value)) (key_under o (cells_at columns place.0))) (value_at spec columns place)) plain
+    ∙ once (value_at spec columns place)
+  where
+    once : (o : Option ℤ) → option_and_then {U = Pair} (λ value. Some (None, value)) o ≡ option_map (λ value. (None, value)) o
+    once None = refl
+    once (Some value) = refl
+
+pub plain-pairs : (spec : Spec) (columns : Columns) (places : List (ℕ × Bool)) → spec.key ≡ None → filter_map (pair_at spec columns) places ≡ map (λ value. (None, value)) (filter_map (value_at spec columns) places)
+plain-pairs spec columns [] plain = refl
+plain-pairs spec columns (place ∷ places) plain =
+    ap (cons_option (pair_at spec columns place)) (plain-pairs spec columns places plain)
+    ∙ ap (λ (o : Option Pair). cons_option o (map (λ value. (None, value)) (filter_map (value_at spec columns) places))) (plain-pair spec columns place plain)
+    ∙ each (value_at spec columns place) (filter_map (value_at spec columns) places)
+  where
+    each : (o : Option ℤ) (values : List ℤ) → cons_option {X = Pair} (option_map (λ value. (None, value)) o) (map (λ value. (None, value)) values) ≡ map (λ value. (None, value)) (cons_option o values)
+    each None values = refl
+    each (Some value) values = refl
+
+-- the totals of values that all stand under no key
+plain-totals : (values : List ℤ) → (length values ≡ 0 → ⊥) → totals (map (λ value. (None, value)) values) ≡ fin.insert fin.empty None (tally values)
+plain-totals [] some = absurd (some refl)
+plain-totals (value ∷ values) some = grouped-one tally None value values
+
+pub no-totals : (values : List ℤ) → length values ≡ 0 → totals (map (λ value. (None, value)) values) ≡ fin.empty
+no-totals [] none = refl
+no-totals (value ∷ values) none = absurd (omega arith)
+
+plain-extrema : (values : List ℤ) (least greatest : ℤ) → Some (least, greatest) ≡ span_in values → extrema (map (λ value. (None, value)) values) ≡ fin.insert fin.empty None (least, greatest)
+plain-extrema [] least greatest h = absurd cc
+plain-extrema (value ∷ values) least greatest h = grouped-one span None value values ∙ ap (fin.insert fin.empty None) (sym (some_same h))
+  where
+    some_same : {a b : ℤ × ℤ} → Some a ≡ Some b → a ≡ b
+    some_same e = cc
+
+pub no-extrema : (values : List ℤ) → None ≡ span_in values → extrema (map (λ value. (None, value)) values) ≡ fin.empty
+no-extrema [] h = refl
+no-extrema (value ∷ values) h = absurd cc
+
+-- what `add_rows` and `see_rows` make of them, where nothing is in yet
+pub added-totals : (values : List ℤ) → (length values ≡ 0 → ⊥) → joined_totals fin.empty (fin.insert fin.empty None (tally values)) ≡ totals (map (λ value. (None, value)) values)
+added-totals values some = ap (joined_totals fin.empty) (sym (plain-totals values some)) ∙ sym (totals-append [] (map (λ value. (None, value)) values))
+
+pub seen-extrema : (values : List ℤ) (least greatest : ℤ) → Some (least, greatest) ≡ span_in values → joined_extrema fin.empty (fin.insert fin.empty None (least, greatest)) ≡ extrema (map (λ value. (None, value)) values)
+seen-extrema values least greatest h = ap (joined_extrema fin.empty) (sym (plain-extrema values least greatest h)) ∙ sym (extrema-append [] (map (λ value. (None, value)) values))

@@ -1,0 +1,48 @@
+-- The columns that a job has at hand: the cells that their far forms mean, and what a place has in them.
+use Rattle.std.specs.Prelude.{ℕ, ℤ, Bool, ◌==◌, List, map, Option, None, Some, option_map, slice_index_or}
+use Rattle.std.specs.List.{find}
+use Rattle.far_types.specs.declared.cell.Cell.{Cell}
+use Rattle.far_types.specs.declared.cell.Cell.TheVariants as cell
+use Rattle.far_types.specs.Cells.{Cells}
+use Rattle.far_codec.specs.declared.lent.LentValues.{LentValues}
+use Rattle.far_codec.specs.declared.lent.LentValues.TheVariants as lent
+use Rattle.far_codec.specs.Lent.{lent_in}
+
+-- a number that may be missing, as a cell
+abbrev pub int_cell : Option ℤ → Cell
+int_cell (Some number) = cell.Int number
+int_cell None = cell.Missing
+
+-- likewise a text
+abbrev pub text_cell : Option (List ℕ) → Cell
+text_cell (Some text) = cell.Text text
+text_cell None = cell.Missing
+
+-- values of either kind, as cells
+abbrev pub cells_in : LentValues → List Cell
+cells_in (lent.Ints numbers) = map int_cell numbers
+cells_in (lent.Texts texts) = map text_cell texts
+
+-- the cells that a far form means
+abbrev pub cells_meant : List ℕ → List Cell
+cells_meant form = cells_in (lent_in form)
+
+-- columns, each with its number and its cells
+abbrev pub Columns : Type 0
+Columns = List (ℕ × List Cell)
+
+-- whether this is the column of that number
+abbrev pub is_number : ℕ → ℕ × List Cell → Bool
+is_number number column = column.0 == number
+
+-- the column of a number
+abbrev pub column_of : Columns → ℕ → Option (ℕ × List Cell)
+column_of columns number = find (is_number number) columns
+
+-- the cell of a column at a place; past its end there is no value
+abbrev pub cell_of : ℕ → ℕ × List Cell → Cell
+cell_of place column = slice_index_or column.1 place cell.Missing
+
+-- what a place has, by the number of the column: nothing in a column that is not at hand
+abbrev pub cells_at : Columns → ℕ → Cells
+cells_at columns place number = option_map (cell_of place) (column_of columns number)

@@ -1,0 +1,27 @@
+-- A job: what it is to compute, of which contents.
+use Rattle.std.specs.Prelude.{ℕ, List, map, Bool, Result}
+use Rattle.std.specs.declared.result.Result.TheVariants.{Ok, Err}
+use Rattle.std.specs.List.{All}
+use Rattle.far_types.specs.declared.spec.Spec.{Spec}
+use Rattle.far_types.specs.declared.refusal.Refusal.{Refusal}
+use Rattle.far_codec.specs.Lent.{IsForm}
+use Rattle.far_offload.specs.Columns.{Columns, cells_meant}
+
+-- what a job is to compute, over which columns and places: a flag for each place
+pub record Job (K : Type 0) : Type 0 where
+  pub spec : Spec
+  pub tickets : List (ℕ × K)
+  pub alive : List Bool
+
+-- the columns of the contents under some tickets
+abbrev pub columns_under : {K : Type 0} → (K → List ℕ) → List (ℕ × K) → Columns
+columns_under content tickets = map (λ ticket. (ticket.0, cells_meant (content ticket.1))) tickets
+
+-- each content is a far form
+abbrev pub AreForms : {K : Type 0} → (K → List ℕ) → List (ℕ × K) → Type 0
+AreForms content tickets = All (λ ticket. IsForm (content ticket.1)) tickets
+
+-- how a call came out that hands its job back where it is refused
+abbrev pub outcome : {A J : Type 0} → Result A (Refusal × J) → Result A Refusal
+outcome (Ok done) = Ok done
+outcome (Err refused) = Err refused.0

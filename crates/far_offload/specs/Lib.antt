@@ -1,0 +1,4 @@
+pub mod Columns
+pub mod Jobs
+pub mod Lent
+pub mod Partials

@@ -1,0 +1,57 @@
+-- What the live places of a row group come to.
+use Rattle.std.specs.Prelude.{ℕ, ◌^◌, ◌<◌, ℤ, Bool, cond, List, [], ◌∷◌, Option, None, Some, IfSome, FitsSigned}
+use Rattle.std.specs.Int.{w64}
+use Rattle.std.specs.List.{filter_map, enumerate_from}
+use Rattle.std.specs.FinMap as fin
+use Rattle.far_types.specs.declared.key.Key.{Key}
+use Rattle.far_types.specs.declared.spec.Spec.{Spec}
+use Rattle.far_types.specs.declared.spec.Fold.{Fold}
+use Rattle.far_types.specs.declared.spec.Fold.TheVariants as fold
+use Rattle.far_types.specs.Cells.{number_in}
+use Rattle.far_types.specs.Filters.{keeps}
+use Rattle.far_types.specs.Pairs.{Pair, pair_of}
+use Rattle.far_types.specs.Answers.{span, totals, extrema}
+use Rattle.far_types.specs.Changes.{with_pair, with_seen, count_in}
+use Rattle.far_offload.specs.declared.partial.PartialDone.{PartialDone}
+use Rattle.far_offload.specs.declared.partial.PartialDone.TheVariants.{Totals, Extrema}
+use Rattle.far_offload.specs.Columns.{Columns, cells_at}
+
+-- what a place gives: the pair of its row, where it is alive, kept and folded
+abbrev pub pair_at : Spec → Columns → ℕ × Bool → Option Pair
+pair_at spec columns place = cond place.1 (pair_of spec (cells_at columns place.0)) None
+
+-- the pairs of the first places, one for each flag, in order
+abbrev pub pairs_over : Spec → Columns → List Bool → List Pair
+pairs_over spec columns flags = filter_map (pair_at spec columns) (enumerate_from 0 flags)
+
+-- the value of a place that is alive and kept, where it has one
+abbrev pub value_at : Spec → Columns → ℕ × Bool → Option ℤ
+value_at spec columns place = cond place.1 (cond (keeps spec.filter (cells_at columns place.0)) (number_in (cells_at columns place.0 spec.value)) None) None
+
+-- the values of the first places that are alive and kept, in order
+abbrev pub values_over : Spec → Columns → List Bool → List ℤ
+values_over spec columns flags = filter_map (value_at spec columns) (enumerate_from 0 flags)
+
+-- the least and the greatest of some values, where there is one
+abbrev pub span_in : List ℤ → Option (ℤ × ℤ)
+span_in [] = None
+span_in (value ∷ values) = Some (span (value ∷ values))
+
+-- they are numbers of 64 bits
+abbrev pub SpanFits : Option (ℤ × ℤ) → Type 0
+SpanFits span = IfSome span (λ s. FitsSigned w64 s.0 × FitsSigned w64 s.1)
+
+-- what pairs come to; no row group is left to a partial
+abbrev pub partial_of : Fold → List Pair → PartialDone
+partial_of fold.Totals pairs = Totals (record { left = 0; totals = totals pairs })
+partial_of fold.Extrema pairs = Extrema (extrema pairs)
+
+-- one pair more
+abbrev pub with_folded : PartialDone → Pair → PartialDone
+with_folded (Totals live) pair = Totals (record live { totals = with_pair live.totals pair })
+with_folded (Extrema seen) pair = Extrema (with_seen seen pair)
+
+-- a pair more can be counted under the key
+abbrev pub CanFold : PartialDone → Option Key → Type 0
+CanFold (Totals live) key = count_in (fin.get live.totals key) < 2 ^ 26
+CanFold (Extrema seen) key = Unit {0}

@@ -1,0 +1,101 @@
+// The fold of a row group, by any aggregate.
+ghost use Rattle.std.specs.Prelude.{◌≡◌, ◌≤◌, ◌^◌, Some, None, length, IfOk, IfErr};
+ghost use Rattle.far_types.specs.declared.spec.Fold.TheVariants as folds;
+ghost use Rattle.far_types.specs.Answers.{totals, extrema};
+ghost use Rattle.far_offload.specs.Partials.{partial_of, pairs_over};
+
+use crate::column::{Column, find};
+use crate::kept::value_at;
+use crate::keys::key_at;
+use crate::partial::PartialDone;
+use crate::plain::{span_of, tally_of};
+use far_extrema::GroupExtrema;
+use far_groups::LiveTotals;
+use far_types::{Fold, Refusal, Spec};
+use std::alloc::Global;
+
+/// Totals without key column.
+fn plain_totals(
+    alloc: Global,
+    spec: &Spec,
+    columns: &[Column<'_>],
+    alive: &[bool],
+) -> Result<LiveTotals, Refusal>
+    requires few { length alive.now ≤ 2 ^ 26 }
+    requires plain { spec.now.key ≡ None }
+    ensures totals { IfOk result (λ live. live ≡ record { left = 0; totals = totals (pairs_over spec.now columns.now alive.now) }) }
+    ensures memory { IfErr result (λ e. e ≡ Refusal.NoMemory) }
+{
+    let mut live = LiveTotals::new(alloc, 0);
+    let (count, sum) = tally_of(spec, columns, alive);
+    if count != 0 {
+        live.add_rows(None, count, sum)?;
+    }
+    Ok(live)
+}
+
+/// Extrema without key column.
+fn plain_extrema(
+    alloc: Global,
+    spec: &Spec,
+    columns: &[Column<'_>],
+    alive: &[bool],
+) -> Result<GroupExtrema, Refusal>
+    requires { spec.now.key ≡ None }
+    ensures extrema { IfOk result (λ seen. seen ≡ extrema (pairs_over spec.now columns.now alive.now)) }
+    ensures memory { IfErr result (λ e. e ≡ Refusal.NoMemory) }
+{
+    let mut seen = GroupExtrema::new(alloc);
+    if let Some((least, greatest)) = span_of(spec, columns, alive) {
+        seen.see_rows(None, least, greatest)?;
+    }
+    Ok(seen)
+}
+
+/// The partial aggregate of an aggregate with a key column.
+fn keyed(
+    alloc: Global,
+    spec: &Spec,
+    column: u32,
+    columns: &[Column<'_>],
+    alive: &[bool],
+) -> Result<PartialDone, Refusal>
+    requires few { length alive.now ≤ 2 ^ 26 }
+    requires keyed { spec.now.key ≡ Some column }
+    ensures partial { IfOk result (λ done. done ≡ partial_of spec.now.fold (pairs_over spec.now columns.now alive.now)) }
+    ensures memory { IfErr result (λ e. e ≡ Refusal.NoMemory) }
+{
+    let values = find(columns, spec.value);
+    let keys = find(columns, column);
+    let mut done = PartialDone::new(alloc, spec.fold);
+    let mut key = None;
+    for place in 0..alive.len() {
+        if let Some(value) = value_at(spec, columns, values, place, alive[place]) {
+            key = key_at(alloc, keys, place, key)?;
+            if key.is_some() {
+                done.fold_under(&key, value)?;
+            }
+        }
+    }
+    Ok(done)
+}
+
+/// What the live places come to. Refused with `NoMemory` (1) alone.
+pub(crate) fn fold(
+    alloc: Global,
+    spec: &Spec,
+    columns: &[Column<'_>],
+    alive: &[bool],
+) -> Result<PartialDone, Refusal>
+    requires few { length alive.now ≤ 2 ^ 26 }
+    ensures partial { IfOk result (λ done. done ≡ partial_of spec.now.fold (pairs_over spec.now columns.now alive.now)) }
+    ensures memory { IfErr result (λ e. e ≡ Refusal.NoMemory) }
+{
+    if let Some(column) = spec.key {
+        return keyed(alloc, spec, column, columns, alive);
+    }
+    match spec.fold {
+        Fold::Totals => Ok(PartialDone::Totals(plain_totals(alloc, spec, columns, alive)?)),
+        Fold::Extrema => Ok(PartialDone::Extrema(plain_extrema(alloc, spec, columns, alive)?)),
+    }
+}

@@ -1,0 +1,90 @@
+// The job that a remote agent carries.
+ghost use Rattle.std.specs.Prelude.{◌≡◌, ◌≤◌, ◌<◌, ◌+◌, ◌^◌, [], ◌∷◌, length, All, IfOk, IfErr};
+ghost use Rattle.far_store.specs.Faults.{faults_in, RefusedBy};
+ghost use Rattle.far_offload.specs.Jobs.{columns_under, AreForms, outcome};
+ghost use Rattle.far_offload.specs.Partials.{partial_of, pairs_over};
+
+use crate::content::{contents_under, lend_all};
+use crate::fold::fold;
+use crate::partial::PartialDone;
+use far_store::{FarRead, Meter};
+use far_types::{Refusal, Spec};
+use std::alloc::Global;
+use std::marker::Model;
+
+/// What a remote agent is to compute: an aggregate over the live places of one row group, whose columns lie in a far
+/// store. A job borrows nothing, so it can be carried by any thread.
+///
+/// Contracts see the aggregate, the tickets of the columns by number, and the alive flags. That the remote agent works
+/// on far data where it lies, and only what it came to travels, is AIFM's offloading (OSDI 2020, section 4.4).
+#[derive(Drop)]
+pub struct OffloadJob<S: FarRead> {
+    spec: Spec,
+    tickets: Vec<(u32, S::Ticket)>,
+    alive: Vec<bool>,
+}
+
+impl<S: FarRead> Model for OffloadJob<S> {
+    ghost use Rattle.far_types.specs.declared.spec.Spec.{Spec};
+    ghost use Rattle.far_offload.specs.Jobs.{Job, AreForms};
+    ghost use Rattle.std.specs.Prelude.{length, ◌≤◌, ◌^◌};
+
+    ghost Value = { Job S.Ticket };
+
+    ghost view = { λ job. record { spec = job.spec; tickets = job.tickets.items; alive = job.alive.items } };
+
+    ghost invariant = { λ job. AreForms S.content job.tickets.items × (length job.alive.items ≤ 2 ^ 26) };
+}
+
+impl<S: FarRead> OffloadJob<S> {
+    /// A job over these columns: for each column that the aggregate needs, its number and a ticket whose content is a
+    /// far form. There is a place for each flag, at most 2^26. A column without a ticket, and a place past the end of a
+    /// content, have no value. Takes no memory.
+    pub fn new(spec: Spec, tickets: Vec<(u32, S::Ticket)>, alive: Vec<bool>) -> OffloadJob<S>
+        requires forms { AreForms S.content tickets.items }
+        requires few { length alive.items ≤ 2 ^ 26 }
+        ensures { result ≡ record { spec = spec; tickets = tickets.items; alive = alive.items } }
+    {
+        OffloadJob {
+            spec,
+            tickets,
+            alive,
+        }
+    }
+
+    /// What the live places come to: the aggregate over the rows that the contents mean, in the words of the plain
+    /// table. Nothing enters the local region: the contents are read into buffers of their own, which are let go.
+    /// Refused with `FarFault` (21) where the store fails in this call, exactly where the meter rises, by one, and
+    /// with `NoMemory` (1). The job then comes back whole.
+    pub fn carry(
+        self,
+        alloc: Global,
+        store: &S,
+        meter: &mut Meter,
+    ) -> Result<PartialDone, (Refusal, OffloadJob<S>)>
+        requires few { meter.old < 2 ^ 63 }
+        requires here { All (λ ticket. S.is_of ticket.1 (S.name store.now)) self.tickets }
+        ensures partial { IfOk result (λ done. done ≡ partial_of self.spec.fold (pairs_over self.spec (columns_under S.content self.tickets) self.alive)) }
+        ensures back { IfErr result (λ refused. refused.1 ≡ self) }
+        ensures faults { meter.new ≡ meter.old + faults_in (outcome result) }
+        ensures refused { RefusedBy (21 ∷ 1 ∷ []) (outcome result) }
+    {
+        match self.partial(alloc, store, meter) {
+            Ok(done) => Ok(done),
+            Err(refusal) => Err((refusal, self)),
+        }
+    }
+
+    /// What `carry` answers, of a job that is kept.
+    fn partial(&self, alloc: Global, store: &S, meter: &mut Meter) -> Result<PartialDone, Refusal>
+        requires few { meter.old < 2 ^ 63 }
+        requires here { All (λ ticket. S.is_of ticket.1 (S.name store.now)) self.now.tickets }
+        ensures partial { IfOk result (λ done. done ≡ partial_of self.now.spec.fold (pairs_over self.now.spec (columns_under S.content self.now.tickets) self.now.alive)) }
+        ensures faults { meter.new ≡ meter.old + faults_in result }
+        ensures refused { RefusedBy (21 ∷ 1 ∷ []) result }
+    {
+        let contents = contents_under(alloc, store, meter, &self.tickets)?;
+        let columns = lend_all(alloc, &contents)?;
+        fold(alloc, &self.spec, &columns, &self.alive)
+    }
+}
