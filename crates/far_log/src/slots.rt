@@ -23,7 +23,7 @@ pub fn slot_at(slots: &[Slot], offset: u32) -> usize
     while size > 1 {
         let half = size / 2;
         let middle = low + half;
-        // One choice and no second bound, so that it compiles to a move and not to a branch.
+        // One choice, so that a compiler can do without a branch.
         low = if slots[middle].offset <= offset {
             middle
         } else {
