@@ -9,7 +9,8 @@ use std::alloc::Global;
 ///
 /// A list of elements that has a spelling has exactly one, and it reads back.
 pub trait Elem: Copy + Drop + Send + Sync {
-    /// The element is a value of its type: holds of each element that runs, and no proof above knows it otherwise.
+    /// The element is a value of its type. It is so of each element of a running program, and no proof above knows it
+    /// otherwise.
     ghost in_range: { Self → Type 0 };
 
     /// The list has a spelling.
