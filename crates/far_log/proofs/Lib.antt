@@ -1,5 +1,6 @@
 pub mod StoredParts
 pub mod SlotOf
+pub mod Linked
 pub mod PartChanges
 pub mod PartDrops
 pub mod Writes

@@ -1,13 +1,14 @@
 -- What taking a part away does to a segment.
-use Rattle.std.proofs.Common.{◌≡◌, ℕ, zero, suc, ◌+◌, ◌-◌, ◌<◌, ◌≤◌, true, false, List, [], ◌∷◌, length, take, map, Some, cond, eqb, refl, ap, ◌∙◌, arith, length-take}
+use Rattle.std.proofs.Common.{sym, ◌≡◌, ℕ, zero, suc, ◌+◌, ◌-◌, ◌<◌, ◌≤◌, true, false, List, [], ◌∷◌, length, take, map, Some, cond, eqb, refl, ap, ◌∙◌, arith, length-take}
 use Rattle.std.specs.Prelude.{filter, slice_get, slice_set, sum_by, not}
 use Rattle.std.proofs.lemmas.Bool.{eq-eqb, ne_eqb}
 use Rattle.std.proofs.lemmas.List.Sums.{sum_by-cons}
 use Rattle.far_log.specs.declared.slots.Slot.{Slot}
 use Rattle.far_log.specs.Room.{Part, SegmentRoom}
 use Rattle.far_log.specs.Changes.{without_part}
-use Rattle.far_log.specs.Storage.{AreLined, slots_end, EndsLive, part_in, parts_in, IsStored}
+use Rattle.far_log.specs.Storage.{AreLined, slots_end, EndsLive, emptied_at, part_in, parts_in, IsStored}
 use Rattle.far_log.proofs.StoredParts.{head-within, length-part, begins}
+use Rattle.far_log.proofs.Linked.{emptied-is}
 use Rattle.far_log.proofs.PartChanges.{parts-take, lined-take, end-take-le, shown}
 
 -- a slot without its part
@@ -82,14 +83,15 @@ pub record IsDropped {X : Type 0} (items : List X) (ss : List Slot) (offset : �
   pub sum : sum_by (λ p. length p.list) (parts_in items left) + s.len ≡ sum_by (λ p. length p.list) (parts_in items ss)
 
 module _ {X : Type 0} (items : List X) (ss : List Slot) where
-  pub dropped : (used size capacity offset i n : ℕ) (s : Slot) (now : List Slot) → IsStored items ss used size capacity → slice_get ss i ≡ Some s → s.live ≡ true → s.offset ≡ offset
-      → now ≡ slice_set ss i (emptied s) → filter (λ u. u.live) (take n now) ≡ filter (λ u. u.live) now → IsDropped items ss offset s (take n now)
-  dropped used size capacity offset i n s now h e live at is kept =
-      let lined : AreLined 0 now = rw is (lined-emptied 0 ss i s h.lined e) in
-      let same : parts_in items (take n now) ≡ parts_in items now = ap (map (part_in items)) kept in
+  pub dropped : (used size capacity offset i n : ℕ) (s : Slot) → IsStored items ss used size capacity → slice_get ss i ≡ Some s → s.live ≡ true → s.offset ≡ offset
+      → filter (λ u. u.live) (take n (emptied_at ss i)) ≡ filter (λ u. u.live) (emptied_at ss i) → IsDropped items ss offset s (take n (emptied_at ss i))
+  dropped used size capacity offset i n s h e live at kept =
+      let is : emptied_at ss i ≡ slice_set ss i (emptied s) = sym (emptied-is ss i s e) in
+      let lined : AreLined 0 (emptied_at ss i) = rw is (lined-emptied 0 ss i s h.lined e) in
+      let same : parts_in items (take n (emptied_at ss i)) ≡ parts_in items (emptied_at ss i) = ap (map (part_in items)) kept in
       record {
-        lined = lined-take n 0 now lined;
-        within = omega (arith, end-take-le n 0 now lined, ap (slots_end 0) is, end-emptied 0 ss i s e, h.end);
+        lined = lined-take n 0 (emptied_at ss i) lined;
+        within = omega (arith, end-take-le n 0 (emptied_at ss i) lined, ap (slots_end 0) is, end-emptied 0 ss i s e, h.end);
         parts = same ∙ ap (parts_in items) is ∙ parts-emptied items offset 0 ss i s h.lined e live at;
         sum = omega (arith, ap (sum_by (λ (p : Part X). length p.list)) (same ∙ ap (parts_in items) is), used-emptied items 0 ss i s h.lined (omega (arith, h.end)) e live);
       }

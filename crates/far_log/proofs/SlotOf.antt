@@ -1,6 +1,6 @@
 -- The slot in which the part lies that begins at an offset.
 use Rattle.std.proofs.Common.{◌≡◌, ℕ, zero, suc, ◌+◌, ◌<◌, ◌≤◌, Bool, true, false, List, [], ◌∷◌, length, get_or, take, drop, map, Some, IsSome, cond, eqb, refl, ap, ◌∙◌, arith}
-use Rattle.std.specs.Prelude.{filter, slice_get}
+use Rattle.std.specs.Prelude.{filter, slice_get, IsSomeAnd}
 use Rattle.std.proofs.lemmas.Bool.{eqb-true, eq-eqb}
 use Rattle.std.proofs.lemmas.Option.{slice_get_within, get_or_from_slice_get}
 use Rattle.far_log.specs.declared.slots.Slot.{Slot}
@@ -49,6 +49,12 @@ module _ {X : Type 0} (items : List X) where
   slot-in-table ss offset i h only =
       let found = some-slot ss offset h in
       omega (arith, only found.0 found.1.0 found.1.1.here found.1.1.begins, slice_get_within ss found.0 found.1.0 found.1.1.here)
+
+  pub slot-is-live : (ss : List Slot) (offset i : ℕ) → IsSome (list_at (parts_in items ss) offset)
+      → ((k : ℕ) (t : Slot) → slice_get ss k ≡ Some t → t.offset ≡ offset → i ≡ k) → IsSomeAnd (slice_get ss i) (λ s. s.live ≡ true)
+  slot-is-live ss offset i h only =
+      let found = some-slot ss offset h in
+      rw (only found.0 found.1.0 found.1.1.here found.1.1.begins, found.1.1.here) found.1.1.live
 
   -- a slot with a part shows it
   live-step : (s : Slot) (ss : List Slot) (offset : ℕ) (live here : Bool) → s.live ≡ live → eqb s.offset offset ≡ here → IsSome (list_at (parts_in items ss) offset) → IsSome (list_at (parts_in items (s ∷ ss)) offset)

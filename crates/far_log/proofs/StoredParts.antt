@@ -13,6 +13,11 @@ pub begin-le-end : (from : ℕ) (ss : List Slot) → AreLined from ss → from �
 begin-le-end from [] h = omega arith
 begin-le-end from (s ∷ ss) h = let later = begin-le-end (from + s.len) ss h.2 in omega arith
 
+-- no more slots than elements
+pub count-le-end : (from : ℕ) (ss : List Slot) → AreLined from ss → from + length ss ≤ slots_end from ss
+count-le-end from [] h = omega arith
+count-le-end from (s ∷ ss) h = let later = count-le-end (from + s.len) ss h.2 in omega (arith, h.1)
+
 module _ {X : Type 0} (items : List X) where
   -- a part is as long as its slot
   pub length-part : (s : Slot) → s.offset + s.len ≤ length items → length (part_in items s).list ≡ s.len

@@ -10,6 +10,7 @@
 
 mod compaction;
 mod fitting;
+mod links;
 mod region;
 mod segment;
 mod slots;

@@ -4,7 +4,8 @@ ghost use Rattle.std.specs.Borrow.{sem};
 ghost use Rattle.far_log.specs.Room.{list_at, fill_of, space_in, used_in, IsLaid};
 ghost use Rattle.far_log.specs.Changes.{with_part, without_part, gathered, IsOrder};
 
-use super::slots::{Slot, end_of, live_len, slot_at};
+use super::links::{Link, link_last, unlink};
+use super::slots::{Slot, end_of, slot_at};
 use far_types::Refusal;
 use std::alloc::Global;
 use std::marker::Model;
@@ -14,6 +15,7 @@ use std::marker::Model;
 pub struct Segment<T> {
     items: Vec<T>,
     slots: Vec<Slot>,
+    links: Vec<Link>,
     used: u32,
     size: u32,
 }
@@ -24,11 +26,11 @@ impl<T> Model for Segment<T> {
     ghost Value = { SegmentRoom T };
 
     ghost use Rattle.std.specs.Prelude.{vec_capacity};
-    ghost use Rattle.far_log.specs.Storage.{parts_in, IsStored};
+    ghost use Rattle.far_log.specs.Storage.{parts_in, IsKept};
 
     ghost view = { λ s. record { parts = parts_in s.items.items s.slots.items; size = s.size } };
 
-    ghost invariant = { λ s. IsStored s.items.items s.slots.items s.used s.size (vec_capacity s.items) };
+    ghost invariant = { λ s. IsKept s.items.items s.slots.items s.links.items s.used s.size (vec_capacity s.items) };
 }
 
 impl<T: Copy + Drop> Segment<T> {
@@ -41,6 +43,7 @@ impl<T: Copy + Drop> Segment<T> {
         Ok(Segment {
             items,
             slots: Vec::new(alloc),
+            links: Vec::new(alloc),
             used: 0,
             size,
         })
@@ -109,11 +112,13 @@ impl<T: Copy + Drop> Segment<T> {
     {
         let offset = self.items.len() as u32;
         let len = items.len() as u32;
+        self.links.reserve(1)?;
         self.slots.push(Slot {
             offset,
             len,
             live: true,
         })?;
+        link_last(&mut self.links);
         let Ok(()) = self.items.extend_from_slice(items) else {
             unreachable!();
         };
@@ -127,10 +132,12 @@ impl<T: Copy + Drop> Segment<T> {
         ensures { self.new ≡ without_part self.old offset }
     {
         let number = slot_at(&self.slots, offset);
+        let left = unlink(&self.slots, &mut self.links, number);
         let slot = &mut self.slots[number];
         slot.live = false;
         self.used -= slot.len;
-        self.slots.truncate(live_len(&self.slots));
+        self.slots.truncate(left);
+        self.links.truncate(left);
         self.items.truncate(end_of(&self.slots));
     }
 
@@ -139,6 +146,7 @@ impl<T: Copy + Drop> Segment<T> {
         ensures { self.new ≡ record self.old { parts = [] } }
     {
         self.slots.clear();
+        self.links.clear();
         self.items.clear();
         self.used = 0;
     }
@@ -162,6 +170,7 @@ impl<T: Copy + Drop> Segment<T> {
     {
         let mut offsets = Vec::with_capacity(alloc, order.len())?;
         self.slots.reserve(order.len())?;
+        self.links.reserve(order.len())?;
         for offset in order {
             offsets.push(self.place(source.part(*offset))?)?;
         }

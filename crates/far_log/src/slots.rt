@@ -1,6 +1,6 @@
 // The table of a segment: where its parts lie, and where parts lay that are gone.
-ghost use Rattle.std.specs.Prelude.{◌≡◌, ℕ, ◌<◌, ◌≤◌, ◌^◌, List, length, take, filter, slice_get, Some};
-ghost use Rattle.far_log.specs.Storage.{AreLined, EndsLive, slots_end};
+ghost use Rattle.std.specs.Prelude.{◌≡◌, ℕ, ◌<◌, ◌^◌, slice_get, Some};
+ghost use Rattle.far_log.specs.Storage.{AreLined, slots_end};
 
 /// A stretch of a segment that has a part, or had one.
 #[derive(Clone, Copy)]
@@ -32,19 +32,6 @@ pub fn slot_at(slots: &[Slot], offset: u32) -> usize
         size -= half;
     }
     low
-}
-
-/// How many slots are left once those behind the last part are taken off.
-pub fn live_len(slots: &[Slot]) -> usize
-    ensures within { result ≤ length slots.now }
-    ensures kept { filter (λ s. s.live) (take result slots.now) ≡ filter (λ s. s.live) slots.now }
-    ensures last { EndsLive (take result slots.now) }
-{
-    let mut len = slots.len();
-    while len > 0 && !slots[len - 1].live {
-        len -= 1;
-    }
-    len
 }
 
 /// Where the last of the slots ends.

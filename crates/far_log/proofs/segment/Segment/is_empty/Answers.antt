@@ -12,6 +12,6 @@ returns g c = (
       let none : c.self.inside.slots.items ≡ [] = nil_from_length c.self.inside.slots.items (sym c.self.inside.slots.ok.0 ∙ long) in
       sym (ap (λ r. r.parts) c.self.view_is) ∙ rw none,
   λ no.
-      let none = no-slots c.self.inside.items.items c.self.inside.slots.items c.self.invariant.live (ap (λ r. r.parts) c.self.view_is ∙ no) in
+      let none = no-slots c.self.inside.items.items c.self.inside.slots.items c.self.invariant.stored.live (ap (λ r. r.parts) c.self.view_is ∙ no) in
       c.is_empty.ensures ∙ eq-eqb _ _ (c.self.inside.slots.ok.0 ∙ ap length none),
 )

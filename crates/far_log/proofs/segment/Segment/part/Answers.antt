@@ -13,15 +13,15 @@ pub offset_bounds-deref-from : goal.offset_bounds-deref-from
 offset_bounds-deref-from g c =
     let there = subst (λ r. IsSome (list_at r.parts c.args.offset)) (sym c.self.view_is) c.requires in
     let slot = slot-of c.self.inside.items.items c.self.inside.slots.items c.args.offset c.slot_at.result c.index-slot.result.now there (λ k t e. c.slot_at.ensures k t (rw c.deref.ensures.value e)) c.index-slot.ensures in
-    let ends = slot-within 0 c.self.inside.slots.items c.slot_at.result c.index-slot.result.now c.self.invariant.lined slot.here in
-    omega (arith, ends, c.self.invariant.end, ap length c.deref-2.ensures.value)
+    let ends = slot-within 0 c.self.inside.slots.items c.slot_at.result c.index-slot.result.now c.self.invariant.stored.lined slot.here in
+    omega (arith, ends, c.self.invariant.stored.end, ap length c.deref-2.ensures.value)
 
 pub slice_bounds-result-end : goal.slice_bounds-result-end
 slice_bounds-result-end g c =
     let there = subst (λ r. IsSome (list_at r.parts c.args.offset)) (sym c.self.view_is) c.requires in
     let slot = slot-of c.self.inside.items.items c.self.inside.slots.items c.args.offset c.slot_at.result c.index-slot.result.now there (λ k t e. c.slot_at.ensures k t (rw c.deref.ensures.value e)) c.index-slot.ensures in
-    let ends = slot-within 0 c.self.inside.slots.items c.slot_at.result c.index-slot.result.now c.self.invariant.lined slot.here in
-    omega (arith, ends, c.self.invariant.end, ap length c.deref-2.ensures.value)
+    let ends = slot-within 0 c.self.inside.slots.items c.slot_at.result c.index-slot.result.now c.self.invariant.stored.lined slot.here in
+    omega (arith, ends, c.self.invariant.stored.end, ap length c.deref-2.ensures.value)
 
 pub returns : goal.returns
 returns g c =

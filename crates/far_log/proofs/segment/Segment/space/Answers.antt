@@ -4,9 +4,9 @@ use Rattle.far_log.proofs.segment.Segment.space.Goals as goal
 
 pub returns-clause-space : goal.returns-clause-space
 returns-clause-space g c =
-    let fill = stored-fill c.self.inside.items.items c.self.inside.slots.items _ _ _ c.self.invariant in
+    let fill = stored-fill c.self.inside.items.items c.self.inside.slots.items _ _ _ c.self.invariant.stored in
     rw (← c.self.view_is, fill) (omega (arith, c.self.inside.items.ok.0))
 
 pub returns-clause-laid : goal.returns-clause-laid
 returns-clause-laid g c =
-    rw (← c.self.view_is) (stored-laid c.self.inside.items.items c.self.inside.slots.items _ _ _ c.self.invariant)
+    rw (← c.self.view_is) (stored-laid c.self.inside.items.items c.self.inside.slots.items _ _ _ c.self.invariant.stored)
