@@ -1,6 +1,6 @@
 -- Lists of numbers of which none is missing.
-use Rattle.std.proofs.Common.{◌≡◌, ℕ, Bool, true, false, eqb, cond, ℤ, pos, List, [], ◌∷◌, ◌++◌, length, get_or, map, Option, None, Some, FitsSigned, refl, sym, ap, ◌∙◌, arith, inl, inr}
-use Rattle.std.specs.Prelude.{is_none, is_some, not, IfSome, IsSomeAnd}
+use Rattle.std.proofs.Common.{◌≡◌, ℕ, Bool, true, false, eqb, cond, ℤ, pos, List, [], ◌∷◌, ◌++◌, length, get_or, map, Option, None, Some, FitsSigned, refl, sym, ap, ◌∙◌}
+use Rattle.std.specs.Prelude.{is_none, is_some, not, IfSome}
 use Rattle.std.specs.Int.{w32, w64, to_le_bytes}
 use Rattle.std.specs.List.{list_any, flat_map, AllByRecursion}
 use Rattle.std.specs.Option.{option_map_or}

@@ -1,7 +1,6 @@
 use Rattle.std.proofs.Common.{◌≡◌, ◌++◌, ◌%◌, ℕ, List, length, map, sym, ap, ◌∙◌, arith}
 use Rattle.std.specs.Prelude.{is_none}
 use Rattle.std.specs.List.{flat_map}
-use Rattle.std.proofs.lemmas.Bool.{false≢true}
 use Rattle.std.proofs.lemmas.Bool.Decides.{nat_tests}
 use Rattle.far_codec.specs.FarForm.{head, number_bytes}
 use Rattle.far_codec.proofs.IntForms.{ints_form_is, fields_from_words, words_from_fields, length-numbers}

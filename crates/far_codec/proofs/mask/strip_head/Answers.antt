@@ -1,7 +1,6 @@
 use Rattle.std.proofs.Common.{◌≡◌, ◌++◌, ℕ, true, List, length, sym, ap, ◌∙◌, arith}
 use Rattle.std.proofs.lemmas.List.{length-map}
 use Rattle.std.specs.Prelude.{is_none}
-use Rattle.std.specs.List.{list_any}
 use Rattle.far_codec.specs.FarForm.{some_missing}
 use Rattle.far_codec.specs.MaskLaws.{masked}
 use Rattle.far_codec.proofs.Compared.{same_if_not_ne, differ_if_ne}

@@ -1,11 +1,11 @@
-use Rattle.std.proofs.Common.{◌≡◌, ◌++◌, ℕ, List, [], ◌∷◌, map, take, get_or, Option, None, sym, ap, ◌∙◌, arith}
+use Rattle.std.proofs.Common.{◌++◌, ℕ, List, [], ◌∷◌, map, take, get_or, None, sym, ap, ◌∙◌, arith}
 use Rattle.std.specs.Prelude.{is_none}
 use Rattle.std.proofs.lemmas.List.{take_more, get_or-map, map-append}
 use Rattle.std.proofs.lemmas.List.Folds.{list_any_at}
 use Rattle.std.proofs.lemmas.Bool.{false≢true}
 use Rattle.far_codec.specs.FarForm.{number_bytes}
 use Rattle.far_codec.specs.PlainNumbers.{IsThere}
-use Rattle.far_codec.proofs.Chunks.{AllByRecursion-append, taken_more}
+use Rattle.far_codec.proofs.Chunks.{AllByRecursion-append}
 use Rattle.far_codec.proofs.Compared.{same_if_not_ne, differ_if_ne}
 use Rattle.far_codec.proofs.PresentNumbers.{is_there, tells_none}
 use Rattle.far_codec.proofs.present.are_present.Goals as goal

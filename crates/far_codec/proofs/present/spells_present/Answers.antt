@@ -1,4 +1,4 @@
-use Rattle.std.proofs.Common.{◌≡◌, ℕ, ℤ, List, map, Some, sym, ap, ◌∙◌, arith}
+use Rattle.std.proofs.Common.{ℕ, List, map, sym, ap, ◌∙◌, arith}
 use Rattle.far_codec.specs.FarForm.{number_bytes, ints_form}
 use Rattle.far_codec.specs.PlainNumbers.{plain_form}
 use Rattle.far_codec.specs.Reading.{number_of}
