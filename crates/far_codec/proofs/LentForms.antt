@@ -1,11 +1,11 @@
 -- How the parts of a known far form of numbers lie, and which kind a far form has.
-use Rattle.std.proofs.Common.{◌≡◌, ℕ, ◌+◌, ◌*◌, ◌/◌, ◌<◌, ◌≤◌, ◌^◌, Bool, true, false, cond, eqb, ℤ, List, [], ◌∷◌, ◌++◌, length, get_or, map, take, drop, Option, None, Some, refl, sym, ap, ◌∙◌, arith, inl, inr, ◌⊎◌}
+use Rattle.std.proofs.Common.{◌≡◌, ℕ, ◌+◌, ◌/◌, ◌<◌, ◌≤◌, Bool, true, false, cond, eqb, ℤ, List, [], ◌∷◌, length, get_or, map, take, drop, Option, None, refl, sym, ap, ◌∙◌, arith, inl, inr}
 use Rattle.std.specs.Prelude.{is_none, slice_get}
 use Rattle.std.specs.Option.{option_and_then}
 use Rattle.std.specs.Int.{w32, from_le_bytes}
 use Rattle.std.specs.List.{flat_map}
 use Rattle.std.specs.Simd.{first_chunks}
-use Rattle.std.proofs.lemmas.List.{length-map, length-append, take_at, drop_at}
+use Rattle.std.proofs.lemmas.List.{length-map, take_at, drop_at}
 use Rattle.std.proofs.lemmas.Option.{slice_get-get_or, slice_get_past}
 use Rattle.far_codec.specs.FarForm.{mask_of, some_missing, number_bytes}
 use Rattle.far_codec.specs.Reading.{ints_meaning, numbers_of, IsIntsForm}
@@ -13,7 +13,7 @@ use Rattle.far_codec.specs.ReadingLaws.{length-mask_of, numbers_again}
 use Rattle.far_codec.specs.TextForm.{texts_meaning, IsTextsForm}
 use Rattle.far_codec.specs.Lent.{IsForm}
 use Rattle.far_codec.proofs.Heads.{HeadCells, head_cells}
-use Rattle.far_codec.proofs.IntForms.{ints_form_is, length-numbers, words_from_fields, numbers_of_at, number_at, length-numbers_of}
+use Rattle.far_codec.proofs.IntForms.{ints_form_is, words_from_fields, numbers_of_at, number_at, length-numbers_of}
 use Rattle.far_codec.proofs.Meaning.{lies_so}
 
 pub record IntsLieSo (form : List ℕ) (numbers : List (Option ℤ)) : Type 0 where

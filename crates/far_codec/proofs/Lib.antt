@@ -3,10 +3,12 @@ pub mod Compared
 pub mod Heads
 pub mod IntForms
 pub mod LentForms
+pub mod MaskBits
 pub mod MaskWriting
 pub mod ChangedLengths
 pub mod Laws
 pub mod Masks
 pub mod Meaning
 pub mod PlainWords
+pub mod PresentNumbers
 pub mod TextForms

@@ -1,6 +1,6 @@
 -- Numbers of which none is missing.
-use Rattle.std.specs.Prelude.{◌≡◌, ℕ, ◌+◌, ◌*◌, ℤ, List, ◌∷◌, length, map, take, drop, Some}
-use Rattle.std.specs.Int.{w32, to_le_bytes}
+use Rattle.std.specs.Prelude.{◌≡◌, ℕ, ◌+◌, ◌*◌, ℤ, FitsSigned, List, ◌∷◌, length, map, take, drop, Option, Some, IsSomeAnd}
+use Rattle.std.specs.Int.{w32, w64, to_le_bytes}
 use Rattle.std.specs.Simd.{first_chunks}
 use Rattle.far_codec.specs.FarForm.{ints_form}
 use Rattle.far_codec.specs.Reading.{count_in, number_of}
@@ -18,3 +18,7 @@ pub record IsPlain (bytes : List ℕ) (words : List (List ℕ)) : Type 0 where
   pub head : take 6 bytes ≡ 1 ∷ 0 ∷ to_le_bytes w32 (length words)
   pub words_are : words ≡ first_chunks 8 (length words) (drop 6 bytes)
   pub len : length bytes ≡ 6 + 8 * length words
+
+-- the number is not missing, and one of 64 bits
+abbrev pub IsThere : Option ℤ → Type 0
+IsThere number = IsSomeAnd number (FitsSigned w64)

@@ -23,7 +23,7 @@ pub(crate) fn is_set(mask: &[u8], i: usize) -> bool
 }
 
 /// Whether a byte is not 0.
-fn has_bit(mask: &[u8]) -> bool
+pub(crate) fn has_bit(mask: &[u8]) -> bool
     ensures { result ≡ list_any (λ byte. not (byte == 0)) mask.now }
 {
     mask.iter().any(|byte| *byte != 0)

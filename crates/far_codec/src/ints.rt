@@ -1,6 +1,7 @@
 // Numbers that may be missing: the parts of their far form, and how they are read from them.
-ghost use Rattle.std.specs.Prelude.{◌≡◌, ◌↔◌, ◌<◌, ◌^◌, ℕ, ℤ, List, [], Option, None, Some, cond, true, length, slice_index_or, FitsSigned, IfOk, IfErr, IfSome, IsSome, IsTrue};
+ghost use Rattle.std.specs.Prelude.{◌≡◌, ◌==◌, ◌↔◌, is_none, ◌<◌, ◌^◌, ℕ, ℤ, List, [], Option, None, Some, cond, true, length, slice_index_or, FitsSigned, IfOk, IfErr, IfSome, IsSome, IsTrue};
 ghost use Rattle.std.specs.Int.{w64};
+ghost use Rattle.std.specs.List.{list_any, AllByRecursion};
 ghost use Rattle.far_types.specs.FormLengths.{ints_length};
 ghost use Rattle.far_codec.specs.FarForm.{number_bytes, ints_form, FitsCount, AreInts};
 ghost use Rattle.far_codec.specs.Reading.{is_missing, number_of, numbers_of, ints_meaning};
@@ -9,6 +10,8 @@ ghost use Rattle.far_codec.specs.ReadingLaws.{ints_list_reads_back, one_ints_lis
 use crate::elem::Elem;
 use crate::head::{Masked, is_set, split_head};
 use crate::mask::{mask_length, push_head, strip_head};
+use crate::numbers::push_plain_head;
+use crate::present::{push_present, spells_present};
 use crate::words::{are_words, number_in, push_words};
 use far_types::Refusal;
 use std::alloc::{AllocError, Global};
@@ -96,9 +99,36 @@ pub fn encode_ints(alloc: Global, numbers: &[Option<i64>]) -> Result<Vec<u8>, Re
 {
     let room = 6 + numbers.len().div_ceil(8) + 8 * numbers.len();
     let mut form = Vec::with_capacity(alloc, room)?;
+    push_plain_head(&mut form, numbers.len())?;
+    let all = push_present(&mut form, numbers)?;
+    if all {
+        return Ok(form);
+    }
+    form.clear();
     push_head(&mut form, 0, numbers)?;
     push_words(&mut form, numbers)?;
     Ok(form)
+}
+
+/// Whether the bytes, where they are a far form, tell that a value is missing.
+fn tells_missing(bytes: &[u8]) -> bool
+    ensures { result ≡ (slice_index_or bytes.now 0 0 == 2) }
+{
+    !bytes.is_empty() && bytes[0] == 2
+}
+
+/// Whether the bytes are the far form of numbers of which one is missing, up to the first difference.
+fn spells_masked(bytes: &[u8], numbers: &[Option<i64>]) -> bool
+    ensures found { IsTrue result → (bytes.now ≡ ints_form numbers.now) × AllByRecursion (λ number. IfSome number (FitsSigned w64)) numbers.now }
+    ensures only { bytes.now ≡ ints_form numbers.now → list_any is_none numbers.now ≡ true → IsTrue result }
+{
+    match strip_head(bytes, 0, numbers) {
+        Some(fields) => {
+            let (words, spare) = fields.as_chunks::<8>();
+            spare.is_empty() && are_words(words, numbers)
+        }
+        None => false,
+    }
 }
 
 impl Elem for Option<i64> {
@@ -122,12 +152,10 @@ impl Elem for Option<i64> {
     }
 
     fn spells(bytes: &[u8], view: &[Option<i64>]) -> bool {
-        match strip_head(bytes, 0, view) {
-            Some(fields) => {
-                let (words, spare) = fields.as_chunks::<8>();
-                spare.is_empty() && are_words(words, view)
-            }
-            None => false,
+        if tells_missing(bytes) {
+            spells_masked(bytes, view)
+        } else {
+            spells_present(bytes, view)
         }
     }
 

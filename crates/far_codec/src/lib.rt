@@ -10,6 +10,7 @@ mod lent;
 mod lists;
 mod mask;
 mod numbers;
+mod present;
 mod text_forms;
 mod texts;
 mod values;

@@ -1,9 +1,10 @@
 // The head and the mask of values, written and compared.
-ghost use Rattle.std.specs.Prelude.{◌≡◌, ◌++◌, ◌+◌, ◌*◌, ◌/◌, ◌<◌, ◌≤◌, ◌^◌, ℕ, List, length, map, take, drop, cond, is_none, OnOk, IfSome, IsSomeAnd};
+ghost use Rattle.std.specs.Prelude.{◌≡◌, true, ◌++◌, ◌+◌, ◌*◌, ◌/◌, ◌<◌, ◌≤◌, ◌^◌, ℕ, List, length, map, take, drop, cond, is_none, OnOk, IfSome, IsSomeAnd};
 ghost use Rattle.std.specs.List.{list_any};
 ghost use Rattle.far_types.specs.FormLengths.{mask_length};
 ghost use Rattle.far_codec.specs.FarForm.{mask_byte, mask_bytes, head};
 
+use crate::head::has_bit;
 use std::alloc::AllocError;
 
 /// Whether a value is missing.
@@ -93,10 +94,10 @@ pub(crate) fn push_head<T>(
     Ok(())
 }
 
-/// What follows the mask of values of which one is missing, where the bytes begin with it.
+/// What follows the mask of values of which one is missing, where the bytes begin with it. Stops at the first difference.
 fn strip_mask<'a, T>(bytes: &'a [u8], values: &[Option<T>]) -> Option<&'a [u8]>
-    ensures found { IfSome result (λ rest. bytes.now ≡ mask_bytes (map is_none values.now) ++ rest.now) }
-    ensures only { (rest : List ℕ) → bytes.now ≡ mask_bytes (map is_none values.now) ++ rest → IsSomeAnd result (λ r. r.now ≡ rest) }
+    ensures found { IfSome result (λ rest. (bytes.now ≡ mask_bytes (map is_none values.now) ++ rest.now) × (list_any is_none values.now ≡ true)) }
+    ensures only { (rest : List ℕ) → bytes.now ≡ mask_bytes (map is_none values.now) ++ rest → list_any is_none values.now ≡ true → IsSomeAnd result (λ r. r.now ≡ rest) }
 {
     let length = values.len().div_ceil(8);
     if bytes.len() < length {
@@ -108,35 +109,25 @@ fn strip_mask<'a, T>(bytes: &'a [u8], values: &[Option<T>]) -> Option<&'a [u8]>
             return None;
         }
     }
+    if !has_bit(mask) {
+        return None;
+    }
     Some(rest)
 }
 
-/// What follows the head and the mask of values, where the bytes begin with them.
+/// What follows the head and the mask of values of which one is missing, where the bytes begin with them. Stops at the
+/// first difference.
 pub(crate) fn strip_head<'a, T>(bytes: &'a [u8], kind: u8, values: &[Option<T>]) -> Option<&'a [u8]>
-    ensures found { IfSome result (λ rest. bytes.now ≡ head kind (map is_none values.now) ++ rest.now) }
-    ensures only { (rest : List ℕ) → bytes.now ≡ head kind (map is_none values.now) ++ rest → IsSomeAnd result (λ r. r.now ≡ rest) }
+    ensures found { IfSome result (λ rest. (bytes.now ≡ head kind (map is_none values.now) ++ rest.now) × (list_any is_none values.now ≡ true)) }
+    ensures only { (rest : List ℕ) → bytes.now ≡ head kind (map is_none values.now) ++ rest → list_any is_none values.now ≡ true → IsSomeAnd result (λ r. r.now ≡ rest) }
 {
     if bytes.len() < 6 {
         return None;
     }
     let (front, rest) = bytes.split_at(6);
-    let masked = any_missing(values);
     let count = values.len().to_le_bytes();
-    if front
-        != [
-            version(masked),
-            kind,
-            count[0],
-            count[1],
-            count[2],
-            count[3],
-        ]
-        .as_slice()
-    {
+    if front != [2, kind, count[0], count[1], count[2], count[3]].as_slice() {
         return None;
     }
-    if masked {
-        return strip_mask(rest, values);
-    }
-    Some(rest)
+    strip_mask(rest, values)
 }

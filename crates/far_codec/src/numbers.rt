@@ -1,7 +1,7 @@
 // Numbers of which none is missing, as elements.
-ghost use Rattle.std.specs.Prelude.{◌≡◌, ◌↔◌, ◌++◌, ◌∷◌, ℤ, List, map, length, FitsSigned, OnOk, IfOk, IfSome, IsSomeAnd, IsTrue, Some};
+ghost use Rattle.std.specs.Prelude.{◌≡◌, ◌↔◌, ◌++◌, ◌∷◌, ◌<◌, ◌^◌, ℤ, List, map, length, FitsSigned, OnOk, IfOk, IfSome, IsSomeAnd, IsTrue, Some};
 ghost use Rattle.std.specs.List.{flat_map, AllByRecursion};
-ghost use Rattle.std.specs.Int.{w64};
+ghost use Rattle.std.specs.Int.{w32, w64, to_le_bytes};
 ghost use Rattle.far_codec.specs.FarForm.{number_bytes, FitsCount};
 ghost use Rattle.far_codec.specs.PlainNumbers.{plain_form, plain_meaning, IsPlain};
 ghost use Rattle.far_codec.specs.Reading.{number_of};
@@ -22,7 +22,7 @@ fn read_numbers(alloc: Global, words: &[[u8; 8]]) -> Result<Vec<i64>, AllocError
 }
 
 /// The words of a form of numbers without a mask, where the bytes are such a form with any count.
-fn plain_words(bytes: &[u8]) -> Option<&[[u8; 8]]>
+pub(crate) fn plain_words(bytes: &[u8]) -> Option<&[[u8; 8]]>
     ensures found { IfSome result (λ words. IsPlain bytes.now words.now) }
     ensures only { (numbers : List ℤ) → bytes.now ≡ plain_form numbers → IsSomeAnd result (λ words. words.now ≡ map (λ x. number_bytes (Some x)) numbers) }
 {
@@ -41,6 +41,15 @@ fn plain_words(bytes: &[u8]) -> Option<&[[u8; 8]]>
     Some(words)
 }
 
+/// Appends the head of so many numbers of which none is missing.
+pub(crate) fn push_plain_head(form: &mut Vec<u8>, count: usize) -> Result<(), AllocError>
+    requires { count < 2 ^ 32 }
+    ensures { OnOk result (form.new.items ≡ form.old.items ++ 1 ∷ 0 ∷ to_le_bytes w32 count) }
+{
+    form.extend_from_slice(&[1, 0])?;
+    form.extend_from_slice(&(count as u32).to_le_bytes())
+}
+
 impl Elem for i64 {
     ghost in_range = { FitsSigned w64 };
 
@@ -52,8 +61,7 @@ impl Elem for i64 {
 
     fn spell(alloc: Global, view: &[i64]) -> Result<Vec<u8>, Refusal> {
         let mut form = Vec::with_capacity(alloc, 6 + 8 * view.len())?;
-        form.extend_from_slice(&[1, 0])?;
-        form.extend_from_slice(&(view.len() as u32).to_le_bytes())?;
+        push_plain_head(&mut form, view.len())?;
         push_words(&mut form, view)?;
         Ok(form)
     }

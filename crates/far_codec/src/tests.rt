@@ -1,6 +1,6 @@
 // Forms known from the description of the format, and bytes near them.
 use super::*;
-use far_types::Kind;
+use far_types::{Kind, Refusal};
 use std::alloc::Global;
 use std::process::Abort;
 use std::test::*;
@@ -251,5 +251,122 @@ fn the_length_after_a_change_is_that_of_the_new_form(rt: HostRuntime) -> Result<
     if 2 < count_texts(view.as_slice()) {
         assert_eq!(rt; length_with(view.as_slice(), 2, &None), 20);
     }
+    Ok(())
+}
+
+// The form of the numbers from 0 up to the last, which is missing or not, made by hand.
+fn long_form(alloc: Global, last: u8, missing: bool) -> Result<Vec<u8>, Fail> {
+    let version = if missing { 2 } else { 1 };
+    let mut form = Vec::from_slice(alloc, &[version, 0, last.wrapping_add(1), 0, 0, 0])
+        .ok()
+        .ok_or("memory")?;
+    if missing {
+        for _ in 0..last / 8 {
+            form.push(0).ok().ok_or("memory")?;
+        }
+        form.push(1 << (last % 8)).ok().ok_or("memory")?;
+    }
+    for number in 0..last {
+        form.extend_from_slice(&i64::from(number).to_le_bytes())
+            .ok()
+            .ok_or("memory")?;
+    }
+    let end = if missing { 0 } else { i64::from(last) };
+    form.extend_from_slice(&end.to_le_bytes())
+        .ok()
+        .ok_or("memory")?;
+    Ok(form)
+}
+
+#[test]
+fn lists_longer_than_a_block_are_written_and_read(rt: HostRuntime) -> Result<(), Fail> {
+    for last in [62, 63, 64, 127, 129] {
+        let mut numbers = Vec::new(rt.alloc());
+        for number in 0..last {
+            numbers.push(Some(i64::from(number))).ok().ok_or("memory")?;
+        }
+        numbers.push(Some(i64::from(last))).ok().ok_or("memory")?;
+        let plain = long_form(rt.alloc(), last, false)?;
+        are_numbers(&rt, rt.alloc(), plain.as_slice(), numbers.as_slice())?;
+        numbers.pop();
+        numbers.push(None).ok().ok_or("memory")?;
+        let masked = long_form(rt.alloc(), last, true)?;
+        are_numbers(&rt, rt.alloc(), masked.as_slice(), numbers.as_slice())?;
+        assert!(rt; !<Option<i64> as Elem>::spells(plain.as_slice(), numbers.as_slice()));
+    }
+    Ok(())
+}
+
+#[test]
+fn a_missing_number_is_not_the_number_0(rt: HostRuntime) -> Result<(), Fail> {
+    let zero = [1, 0, 1, 0, 0, 0, 0, 0, 0, 0, 0, 0, 0, 0];
+    let missing = [2, 0, 1, 0, 0, 0, 1, 0, 0, 0, 0, 0, 0, 0, 0];
+    are_numbers(&rt, rt.alloc(), &zero, &[Some(0)])?;
+    are_numbers(&rt, rt.alloc(), &missing, &[None])?;
+    assert!(rt; !<Option<i64> as Elem>::spells(&zero, &[None]));
+    assert!(rt; !<Option<i64> as Elem>::spells(&missing, &[Some(0)]));
+    assert!(rt; !<Option<i64> as Elem>::spells(&[2, 0, 0, 0, 0, 0], &[]));
+    Ok(())
+}
+
+// The form, or the refusal for want of memory, which is counted.
+fn form_or_refusal(
+    rt: &impl Abort,
+    answer: Result<Vec<u8>, Refusal>,
+    form: &[u8],
+    refused: u32,
+) -> u32 {
+    match answer {
+        Ok(written) => {
+            assert_eq!(rt; written.as_slice(), form);
+            refused
+        }
+        Err(refusal) => {
+            assert_eq!(rt; refusal, Refusal::NoMemory);
+            refused.wrapping_add(1)
+        }
+    }
+}
+
+// What is read is written again, or a call is refused for want of memory, which is counted.
+fn read_or_refusal(rt: &impl Abort, alloc: Global, form: &[u8], refused: u32) -> u32 {
+    match decode(alloc, form) {
+        Ok(Some(Values::Ints(list))) => {
+            form_or_refusal(rt, encode_ints(alloc, list.as_slice()), form, refused)
+        }
+        Ok(Some(Values::Texts(list))) => {
+            form_or_refusal(rt, encode_texts(alloc, list.as_slice()), form, refused)
+        }
+        Ok(None) => {
+            assert!(rt; false);
+            refused
+        }
+        Err(refusal) => {
+            assert_eq!(rt; refusal, Refusal::NoMemory);
+            refused.wrapping_add(1)
+        }
+    }
+}
+
+// With one allocation that fails, which a run may ask for, one call at most is refused.
+#[test]
+fn a_call_without_memory_is_refused_and_the_others_answer(rt: HostRuntime) -> Result<(), Fail> {
+    let alloc = rt.alloc();
+    let plain = ONE_AND_MINUS_ONE.as_slice();
+    let masked = ONE_AND_MISSING.as_slice();
+    let texts = THREE_TEXTS.as_slice();
+    let mut refused = 0;
+    refused = form_or_refusal(&rt, <i64 as Elem>::spell(alloc, &[1, -1]), plain, refused);
+    refused = form_or_refusal(
+        &rt,
+        encode_ints(alloc, &[Some(1), Some(-1)]),
+        plain,
+        refused,
+    );
+    refused = form_or_refusal(&rt, encode_ints(alloc, &[Some(1), None]), masked, refused);
+    refused = read_or_refusal(&rt, alloc, plain, refused);
+    refused = read_or_refusal(&rt, alloc, masked, refused);
+    refused = read_or_refusal(&rt, alloc, texts, refused);
+    assert!(rt; refused < 2);
     Ok(())
 }

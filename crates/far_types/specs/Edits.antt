@@ -70,28 +70,28 @@ overfills schema limits (edit.Remove p) places = false
 
 -- what is wrong with the edit itself, whichever objects are local: refusals 4 to 10. Between them and the others, a
 -- table whose objects move looks whether they are local
-abbrev pub faults_of : List Kind → Limits → List Place → Edit → List (Bool × Refusal)
-faults_of schema limits places (edit.Insert row) =
+abbrev pub edit_faults : List Kind → Limits → List Place → Edit → List (Bool × Refusal)
+edit_faults schema limits places (edit.Insert row) =
     (not (kinds_fit schema row), refusal.WrongKind)
     ∷ (not (length row == length schema), refusal.RowWidth)
     ∷ (list_any is_too_long row, refusal.TextTooLong)
     ∷ (length places == limits.places, refusal.TableFull)
     ∷ []
-faults_of schema limits places (edit.Set p c cell) =
+edit_faults schema limits places (edit.Set p c cell) =
     (is_none (slice_get schema c), refusal.NoColumn)
     ∷ (is_of_other_kind (slice_get schema c) cell, refusal.WrongKind)
     ∷ (is_too_long cell, refusal.TextTooLong)
     ∷ (is_none (slice_get places p), refusal.NoRow)
     ∷ (is_dead (slice_get places p), refusal.RemovedRow)
     ∷ []
-faults_of schema limits places (edit.Remove p) =
+edit_faults schema limits places (edit.Remove p) =
     (is_none (slice_get places p), refusal.NoRow)
     ∷ (is_dead (slice_get places p), refusal.RemovedRow)
     ∷ []
 
 -- why the plain table, of which nothing is ever away, refuses an edit: the first that applies
 abbrev pub edit_refusal : Table → Edit → Option Refusal
-edit_refusal table e = first_of (faults_of table.schema table.limits table.places e
+edit_refusal table e = first_of (edit_faults table.schema table.limits table.places e
     ++ (overfills table.schema table.limits e table.places, refusal.ChunkFull)
     ∷ (table.edits == table.limits.edits, refusal.EditsUsedUp)
     ∷ [])

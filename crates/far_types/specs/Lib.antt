@@ -13,5 +13,6 @@ pub mod FormLengths
 pub mod KeyOrder
 pub mod Keys
 pub mod Pairs
+pub mod RefusalExamples
 pub mod Refusals
 pub mod Table

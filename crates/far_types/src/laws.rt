@@ -10,7 +10,8 @@ ghost use Rattle.far_types.specs.Pairs.{Pair, PairsFit, pairs_of};
 ghost use Rattle.far_types.specs.Table.{Place, rows_of, place_pair};
 ghost use Rattle.far_types.specs.Answers.{totals, extrema, total_lines, extrema_lines, values_of, is_under, int_sum, least, greatest};
 ghost use Rattle.far_types.specs.Changes.{with_pair, without_pair, with_seen, joined_totals, joined_extrema};
-ghost use Rattle.far_types.specs.Examples.{OverNoRows, TotalsByKey, ExactSum, LeastAndGreatest, Filtered, WithMissing, UsedUp, FirstRefusal, OverLength};
+ghost use Rattle.far_types.specs.Examples.{OverNoRows, TotalsByKey, ExactSum, LeastAndGreatest, Filtered, WithMissing};
+ghost use Rattle.far_types.specs.RefusalExamples.{UsedUp, FirstRefusal, OverLength};
 ghost use Rattle.far_types.specs.FilterExamples.{Comparisons, TestsOfTexts, AllowedAggregates};
 ghost use Rattle.far_types.specs.EditExamples.{WhatEditsDo, RoomForTexts, OrderOfRefusals, RowGroups};
 

@@ -1,4 +1,4 @@
-use Rattle.std.proofs.Common.{◌≡◌, sym, ◌∙◌, arith}
+use Rattle.std.proofs.Common.{arith}
 use Rattle.far_codec.proofs.LentForms.{form_is_long, is_of_ints, is_of_texts}
 use Rattle.far_codec.proofs.lent.lend_values.Goals as goal
 

@@ -1,41 +1,15 @@
-use Rattle.std.proofs.Common.{◌≡◌, ◌++◌, ◌%◌, ℕ, List, length, map, sym, ap, ◌∙◌, arith}
-use Rattle.std.specs.Prelude.{is_none}
-use Rattle.std.specs.List.{flat_map}
-use Rattle.std.proofs.lemmas.Bool.{false≢true}
-use Rattle.std.proofs.lemmas.Bool.Decides.{nat_tests}
-use Rattle.far_codec.specs.FarForm.{head, number_bytes}
-use Rattle.far_codec.proofs.IntForms.{ints_form_is, fields_from_words, words_from_fields, length-numbers}
+use Rattle.std.proofs.Common.{sym, ◌∙◌}
+use Rattle.far_codec.proofs.PresentNumbers.{form_tells}
 use Rattle.far_codec.proofs.ints.OptionI64Elem.spells.Goals as goal
 
-pub returns-then-is_empty-clause-exact : goal.returns-then-is_empty-clause-exact
-returns-then-is_empty-clause-exact c =
-    let view = c.args.view.now in
-    let fields = c.in-Some.fields.now in
-    let words = c.as_chunks.result.0.now in
-    let p = c.is_empty.ensures in
-    let q = c.if-is_empty.true in
-    let back = c.as_chunks.ensures.back_len in
-    let none : length fields % 8 ≡ 0 = grind (arith, nat_tests) in (
-      λ h. c.in-Some.ensures.found ∙ ap (λ (l : List ℕ). head 0 (map is_none view) ++ l) (fields_from_words fields words view c.as_chunks.ensures.front none (c.are_words.ensures.exact.0 h)) ∙ sym (ints_form_is view),
-      λ e. c.are_words.ensures.exact.1 (words_from_fields fields words view c.as_chunks.ensures.front (c.in-Some.ensures.only (flat_map number_bytes view) (e ∙ ints_form_is view))),
-    )
+pub returns-then-tells_missing-clause-exact : goal.returns-then-tells_missing-clause-exact
+returns-then-tells_missing-clause-exact c = (
+  λ h. (c.spells_masked.ensures.found h).0,
+  λ e. c.spells_masked.ensures.only e (sym (form_tells c.args.bytes.now c.args.view.now e) ∙ sym c.tells_missing.ensures ∙ c.if-tells_missing.true),
+)
 
-pub returns-else-is_empty-clause-exact : goal.returns-else-is_empty-clause-exact
-returns-else-is_empty-clause-exact c =
-    let view = c.args.view.now in
-    let fields = c.in-Some.fields.now in
-    let p = c.is_empty.ensures in
-    let q = c.if-is_empty.false in
-    let back = c.as_chunks.ensures.back_len in (
-      λ h. absurd (false≢true (sym q ∙ h)),
-      λ e.
-          let same : fields ≡ flat_map number_bytes view = c.in-Some.ensures.only (flat_map number_bytes view) (e ∙ ints_form_is view) in
-          let none : length fields % 8 ≡ 0 = omega (arith, ap length same, length-numbers view) in
-          let empty : length c.as_chunks.result.1.now ≡ 0 = back ∙ none in
-          absurd (grind (arith, nat_tests)),
-    )
-
-pub returns-in-None-clause-exact : goal.returns-in-None-clause-exact
-returns-in-None-clause-exact c =
-    let view = c.args.view.now in
-    (λ h. absurd (false≢true h), λ e. absurd (c.in-None.ensures.only (flat_map number_bytes view) (e ∙ ints_form_is view)))
+pub returns-else-tells_missing-clause-exact : goal.returns-else-tells_missing-clause-exact
+returns-else-tells_missing-clause-exact c = (
+  λ h. (c.spells_present.ensures.found h).0,
+  λ e. c.spells_present.ensures.only e (sym (form_tells c.args.bytes.now c.args.view.now e) ∙ sym c.tells_missing.ensures ∙ c.if-tells_missing.false),
+)

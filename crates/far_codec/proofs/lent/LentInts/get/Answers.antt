@@ -1,4 +1,4 @@
-use Rattle.std.proofs.Common.{◌≡◌, ℤ, List, Option, Some, None, cond, get_or, [], sym, ap, ◌∙◌, arith}
+use Rattle.std.proofs.Common.{ℤ, List, Option, Some, None, cond, get_or, [], sym, ap, ◌∙◌, arith}
 use Rattle.std.specs.Prelude.{slice_get}
 use Rattle.std.specs.Option.{option_and_then}
 use Rattle.far_codec.specs.Reading.{number_of}

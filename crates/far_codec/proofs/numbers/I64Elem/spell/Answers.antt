@@ -8,7 +8,7 @@ use Rattle.far_codec.proofs.numbers.I64Elem.spell.Goals as goal
 
 pub returns-clause-spelled : goal.returns-clause-spelled
 returns-clause-spelled c =
-    let head : c.extend_from_slice-2.new.self.items ≡ 1 ∷ 0 ∷ to_le_bytes w32 (length c.args.view.now) = search rules in
+    let head : c.push_plain_head.new.form.items ≡ 1 ∷ 0 ∷ to_le_bytes w32 (length c.args.view.now) = search rules in
     record {
       range = All-from_recursion (FitsSigned w64) c.args.view.now c.in_ok-push_words.ensures.range;
       has = c.requires;

@@ -1,0 +1,85 @@
+// Numbers of which none is missing, in a list where they may be: written and compared up to the first that is.
+ghost use Rattle.std.specs.Prelude.{◌≡◌, ◌++◌, length, map, is_none, false, IfOk, IsTrue};
+ghost use Rattle.std.specs.List.{list_any, flat_map, AllByRecursion};
+ghost use Rattle.far_codec.specs.FarForm.{number_bytes, ints_form};
+ghost use Rattle.far_codec.specs.PlainNumbers.{IsThere};
+
+use crate::numbers::plain_words;
+use crate::words::Word;
+use std::alloc::AllocError;
+
+/// Writes the words of a block into their places, and tells whether none is missing. Stops at the first that is.
+#[tactic(auto, unfolding(crate::specs::FarForm::number_bytes))]
+fn write_present(words: &mut [[u8; 8]], block: &[Option<i64>]) -> bool
+    requires { length words.old ≡ length block.now }
+    ensures words { IsTrue result → words.new ≡ map number_bytes block.now }
+    ensures there { IsTrue result → AllByRecursion IsThere block.now }
+{
+    for j in 0..block.len() {
+        match block[j] {
+            Some(number) => words[j] = number.to_le_bytes(),
+            None => return false,
+        }
+    }
+    true
+}
+
+/// Appends the words of a few numbers, and tells whether none is missing. Stops at the first that is.
+fn push_few(form: &mut Vec<u8>, numbers: &[Option<i64>]) -> Result<bool, AllocError>
+    ensures written { IfOk result (λ all. IsTrue all → form.new.items ≡ form.old.items ++ flat_map number_bytes numbers.now) }
+    ensures there { IfOk result (λ all. IsTrue all → AllByRecursion IsThere numbers.now) }
+{
+    for number in numbers {
+        if number.is_none() {
+            return Ok(false);
+        }
+        form.extend_from_slice(&number.word())?;
+    }
+    Ok(true)
+}
+
+/// Appends the words of numbers, and tells whether none is missing. Stops at the first that is. They are written in
+/// blocks, without a test that the form has room for each.
+pub(crate) fn push_present(form: &mut Vec<u8>, numbers: &[Option<i64>]) -> Result<bool, AllocError>
+    ensures written { IfOk result (λ all. IsTrue all → form.new.items ≡ form.old.items ++ flat_map number_bytes numbers.now) }
+    ensures there { IfOk result (λ all. IsTrue all → AllByRecursion IsThere numbers.now) }
+{
+    let mut words = [[0; 8]; 64];
+    for i in 0..numbers.len() / 64 {
+        let (_, from) = numbers.split_at(64 * i);
+        let (block, _) = from.split_at(64);
+        if !write_present(&mut words, block) {
+            return Ok(false);
+        }
+        form.extend_from_slice(words.as_flattened())?;
+    }
+    let (_, rest) = numbers.split_at(numbers.len() / 64 * 64);
+    push_few(form, rest)
+}
+
+/// Whether the words are those of numbers of which none is missing, up to the first difference.
+fn are_present(words: &[[u8; 8]], numbers: &[Option<i64>]) -> bool
+    ensures found { IsTrue result → (words.now ≡ map number_bytes numbers.now) × AllByRecursion IsThere numbers.now }
+    ensures only { words.now ≡ map number_bytes numbers.now → list_any is_none numbers.now ≡ false → IsTrue result }
+{
+    if words.len() != numbers.len() {
+        return false;
+    }
+    for i in 0..words.len() {
+        if numbers[i].is_none() || words[i] != numbers[i].word() {
+            return false;
+        }
+    }
+    true
+}
+
+/// Whether the bytes are the far form of numbers of which none is missing, up to the first difference.
+pub(crate) fn spells_present(bytes: &[u8], numbers: &[Option<i64>]) -> bool
+    ensures found { IsTrue result → (bytes.now ≡ ints_form numbers.now) × AllByRecursion IsThere numbers.now }
+    ensures only { bytes.now ≡ ints_form numbers.now → list_any is_none numbers.now ≡ false → IsTrue result }
+{
+    match plain_words(bytes) {
+        Some(words) => are_present(words, numbers),
+        None => false,
+    }
+}

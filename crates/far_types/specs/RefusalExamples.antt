@@ -1,0 +1,56 @@
+-- Worked examples: which edits a small table refuses, and why. Each is computed, so a wrong definition fails.
+use Rattle.std.specs.Prelude.{◌≡◌, ℕ, ℤ, pos, [], ◌∷◌, None, Some, replicate}
+use Rattle.far_types.specs.declared.cell.Cell.TheVariants as cell
+use Rattle.far_types.specs.declared.cell.Kind.TheVariants as kind
+use Rattle.far_types.specs.declared.edit.Edit.{Edit}
+use Rattle.far_types.specs.declared.edit.Edit.TheVariants as edit
+use Rattle.far_types.specs.declared.refusal.Refusal.TheVariants as refusal
+use Rattle.far_types.specs.Table.{Table, empty_table, rows_of}
+use Rattle.far_types.specs.Edits.{edited, edit_refusal}
+use Rattle.far_types.specs.Examples.{a}
+
+-- a table of numbers with room for 2 places and 3 edits
+abbrev pub small : Table
+small = empty_table (kind.Int ∷ []) (record { group = 4; places = 2; edits = 3; int_segments = 1; int_size = 4; text_segments = 1; text_size = 64 })
+
+-- an insert of a number
+abbrev pub number : ℤ → Edit
+number n = edit.Insert (cell.Int n ∷ [])
+
+-- the places are used, and one edit is left
+abbrev pub full : Table
+full = edited (number (pos 2)) (edited (number (pos 1)) small)
+
+-- a full table refuses a row, takes a cell equal to the old one, and then no edit more
+abbrev pub UsedUp : Type 0
+UsedUp =
+    (edit_refusal full (number (pos 3)) ≡ Some refusal.TableFull)
+    × (edit_refusal full (edit.Set 0 0 (cell.Int (pos 1))) ≡ None)
+    × (edit_refusal (edited (edit.Set 0 0 (cell.Int (pos 1))) full) (edit.Set 0 0 (cell.Int (pos 1))) ≡ Some refusal.EditsUsedUp)
+    × (rows_of (edited (edit.Remove 1) full).places ≡ (cell.Int (pos 1) ∷ []) ∷ [])
+
+-- the first refusal that applies: kinds before the width, the column before the place, the place before its flag
+abbrev pub FirstRefusal : Type 0
+FirstRefusal =
+    (edit_refusal small (edit.Insert (cell.Text a ∷ cell.Int (pos 2) ∷ [])) ≡ Some refusal.WrongKind)
+    × (edit_refusal small (edit.Insert (cell.Int (pos 1) ∷ cell.Int (pos 2) ∷ [])) ≡ Some refusal.RowWidth)
+    × (edit_refusal small (edit.Set 0 7 (cell.Int (pos 1))) ≡ Some refusal.NoColumn)
+    × (edit_refusal small (edit.Set 0 0 (cell.Int (pos 1))) ≡ Some refusal.NoRow)
+    × (edit_refusal (edited (edit.Remove 0) full) (edit.Remove 0) ≡ Some refusal.RemovedRow)
+
+-- a table of texts whose objects may have 64 bytes: a head of 6, 4 for each text's end, and the texts
+abbrev pub texts : Table
+texts = empty_table (kind.Text ∷ []) (record { group = 4; places = 100; edits = 100; int_segments = 4; int_size = 4; text_segments = 2; text_size = 64 })
+
+-- an insert of as many letters
+abbrev pub text_of : ℕ → Edit
+text_of n = edit.Insert (cell.Text (replicate n 97) ∷ [])
+
+-- one text of 54 bytes fits and one of 55 does not, nor an empty one beside it; a missing one costs a byte of mask more
+abbrev pub OverLength : Type 0
+OverLength =
+    (edit_refusal texts (text_of 54) ≡ None)
+    × (edit_refusal texts (text_of 55) ≡ Some refusal.ChunkFull)
+    × (edit_refusal (edited (text_of 54) texts) (text_of 0) ≡ Some refusal.ChunkFull)
+    × (edit_refusal (edited (text_of 50) texts) (text_of 0) ≡ None)
+    × (edit_refusal (edited (text_of 50) texts) (edit.Insert (cell.Missing ∷ [])) ≡ Some refusal.ChunkFull)
