@@ -6,12 +6,16 @@ ghost use Rattle.far_types.specs.declared.edit.Edit.TheVariants.{Insert, Set};
 ghost use Rattle.far_types.specs.Cells.{cell_at};
 ghost use Rattle.far_types.specs.Edits.{kinds_fit, is_of_other_kind, with_cell, removed, changed_at, overfills};
 ghost use Rattle.far_types.specs.Table.{Place, place_pair};
+ghost use Rattle.far_frame.specs.Changes.{value_if};
 ghost use Rattle.far_frame.specs.Columns.{lent_cell};
+ghost use Rattle.far_frame.specs.Kept.{pair_if};
 ghost use Rattle.far_frame.specs.Rows.{AreRows};
 
 use super::cell_ref::CellRef;
 use super::column::Column;
-use super::columns::{cell_of, overfills_any, pair_of, pop_all, push_all, reserve_all};
+use super::columns::{
+    cell_of, overfills_any, pair_of, pop_all, push_all, reserve_all, value_under,
+};
 use far_types::{Cell, Key, Limits, Refusal, Row, Schema, Spec};
 use std::alloc::Global;
 use std::marker::Model;
@@ -149,6 +153,18 @@ impl Rows {
             spec,
             place,
         )
+    }
+
+    /// The value that a place gives to an aggregate, where it gives one under this key. Takes no memory.
+    pub fn value_under(&self, spec: &Spec, key: &Option<Key>, place: usize) -> Option<i64>
+        requires { place < length self.now.places }
+        ensures { result ≡ value_if key.now (pair_if spec.now (slice_get self.now.places place)) }
+    {
+        if self.alive[place] {
+            value_under(self.columns.as_slice(), spec, key, place)
+        } else {
+            None
+        }
     }
 
     /// Whether the row's insert would make a text object longer than a text segment. Each text column is looked at,

@@ -33,7 +33,7 @@ fn scan(
             live.merge(&totals)
         }
         Kept::Extrema(live) => {
-            let extrema = group_extrema(alloc, rows, spec, size, group as usize, None)?;
+            let extrema = group_extrema(alloc, rows, spec, size, group as usize)?;
             live.make_room(group)?;
             live.merge(group, extrema);
             Ok(())
