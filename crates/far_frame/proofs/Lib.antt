@@ -6,6 +6,7 @@ pub mod ComingLaws
 pub mod CountLaws
 pub mod EditLaws
 pub mod ExtremaLaws
+pub mod FillLaws
 pub mod FormLaws
 pub mod GroupLaws
 pub mod KeepLaws

@@ -1,6 +1,8 @@
+pub mod Aggregates
 pub mod Changes
 pub mod Columns
 pub mod Coming
+pub mod Fills
 pub mod Going
 pub mod Kept
 pub mod Readings

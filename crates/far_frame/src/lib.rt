@@ -9,6 +9,7 @@ mod column;
 mod columns;
 mod coming;
 mod edits;
+mod fill;
 pub mod frame;
 mod going;
 mod groups;
@@ -22,6 +23,7 @@ mod scans;
 pub mod step;
 #[cfg(test)]
 mod tests;
+mod text_column;
 mod text_form;
 mod unbuilt;
 pub mod world;

@@ -42,15 +42,16 @@ impl Model for Rows {
 }
 
 impl Rows {
-    /// No rows, for a table with this schema. Refused with `NoMemory` (1) alone.
-    pub fn new(alloc: Global, schema: &Schema) -> Result<Rows, Refusal>
+    /// No rows, for a table with this schema and row groups of `size` places. Refused with `NoMemory` (1) alone.
+    pub fn new(alloc: Global, schema: &Schema, size: u32) -> Result<Rows, Refusal>
+        requires { 0 < size }
         ensures kinds { IfOk result (λ rows. rows.kinds ≡ schema.now) }
         ensures places { IfOk result (λ rows. rows.places ≡ []) }
         ensures memory { IfErr result (λ e. e ≡ Refusal.NoMemory) }
     {
         let mut columns = Vec::with_capacity(alloc, schema.len())?;
         for kind in schema.as_slice() {
-            columns.push(Column::new(alloc, *kind))?;
+            columns.push(Column::new(alloc, *kind, size))?;
         }
         Ok(Rows {
             columns,
@@ -168,7 +169,8 @@ impl Rows {
     }
 
     /// Whether the row's insert would make a text object longer than a text segment. Each text column is looked at,
-    /// and a row that is too short has no value there. One pass over the texts of the last row group; takes no memory.
+    /// and a row that is too short has no value there. Costs no look at the texts that are there, for limits with these
+    /// row groups; takes no memory.
     pub fn overfills_insert(&self, limits: &Limits, row: &Row) -> bool
         requires { 1 ≤ limits.now.group }
         ensures { result ≡ overfills self.now.kinds limits.now (Insert row.now) self.now.places }
@@ -177,7 +179,7 @@ impl Rows {
     }
 
     /// Whether the cell's set would make its text object longer than a text segment; false where there is no such
-    /// column. One pass over the texts of the place's row group; takes no memory.
+    /// column. Costs no look at the other texts, for limits with these row groups; takes no memory.
     pub fn overfills_set(&self, limits: &Limits, place: usize, column: usize, cell: &Cell) -> bool
         requires group_low { 1 ≤ limits.now.group }
         requires place { place < length self.now.places }
