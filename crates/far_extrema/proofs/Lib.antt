@@ -1,1 +1,2 @@
+pub mod GoneLaws
 pub mod GroupLaws

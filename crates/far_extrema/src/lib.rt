@@ -9,6 +9,7 @@ mod spans;
 
 pub use group_extrema::GroupExtrema;
 pub use live_extrema::LiveExtrema;
+pub use spans::Span;
 
 #[cfg(test)]
 mod tests;

@@ -1,15 +1,16 @@
 // Extrema that are kept up to date, row group by row group.
-ghost use Rattle.std.specs.Prelude.{◌≡◌, ◌≢◌, ◌-◌, ◌<◌, [], Err, OnOk, OnErr, IfOk, IfErr, length, slice_set};
+ghost use Rattle.std.specs.Prelude.{◌≡◌, ◌≢◌, ◌-◌, ◌<◌, [], None, Err, OnOk, OnErr, IfOk, IfErr, length, slice_set};
 ghost use Rattle.far_extrema.specs.Live.{all_groups};
 
 use super::group_extrema::GroupExtrema;
-use far_types::{Answer, ExtremaLines, Refusal};
+use super::spans::Span;
+use far_types::{Answer, ExtremaLines, Key, Refusal};
 use std::alloc::Global;
 use std::marker::Model;
 
 /// The least and the greatest value under each key, kept up to date row group by row group, and how many row groups
-/// are still to be built in. Where a row of a group changes, that group's rows are seen anew and replace what stood
-/// for it, which costs no look at the other groups.
+/// are still to be built in. A row more costs one look-up by key. A row less costs a look at the rows under its key in
+/// its row group, and only where its value was the least or the greatest there; no other row group is looked at.
 ///
 /// Contracts see how many are left, and for each row group for which room was made, in their order, the extrema of
 /// its rows.
@@ -31,8 +32,11 @@ impl Model for LiveExtrema {
 }
 
 impl LiveExtrema {
+    ghost use Rattle.std.specs.FinMap as fin;
     ghost use Rattle.far_types.specs.Answers.{extrema_lines};
-    ghost use Rattle.far_extrema.specs.Live.{with_room};
+    ghost use Rattle.far_types.specs.Changes.{with_seen};
+    ghost use Rattle.far_extrema.specs.Live.{with_room, group_at};
+    ghost use Rattle.far_extrema.specs.Spans.{put_span};
 
     /// No row group has room, and as many are still to be built in. Takes no memory.
     pub fn new(alloc: Global, left: u32) -> LiveExtrema
@@ -66,6 +70,39 @@ impl LiveExtrema {
             self.groups.push(GroupExtrema::new(self.alloc)).unwrap();
         }
         Ok(())
+    }
+
+    /// One folded row more in a row group. A clone of the key is made where it is new there. Refused with `NoMemory` (1)
+    /// alone, where the key is new, and then nothing is changed.
+    pub fn see_under(&mut self, group: u32, key: &Option<Key>, value: i64) -> Result<(), Refusal>
+        requires { group < length self.old.groups }
+        ensures ok { OnOk result (self.new ≡ record self.old { groups = slice_set self.old.groups group (with_seen (group_at self.old.groups group) (key.now, value)) }) }
+        ensures err { OnErr result (self.new ≡ self.old) }
+        ensures only_new { OnErr result (fin.get (group_at self.old.groups group) key.now ≡ None) }
+        ensures memory { IfErr result (λ e. e ≡ Refusal.NoMemory) }
+    {
+        self.groups[group as usize].see_under(key, value)
+    }
+
+    /// The least and the greatest value under a key in a row group, or `None` where it does not occur there, as in a
+    /// row group without room. Takes no memory.
+    pub fn span(&self, group: u32, key: &Option<Key>) -> Option<Span>
+        ensures { result ≡ fin.get (group_at self.now.groups group) key.now }
+    {
+        match self.groups.get(group as usize) {
+            Some(extrema) => extrema.span(key),
+            None => None,
+        }
+    }
+
+    /// Puts a span in place of the one under a key that occurs in a row group; none makes the key go. With the span that
+    /// stood there, this takes back what `see_under` did. Takes no memory.
+    pub fn put_span(&mut self, group: u32, key: &Option<Key>, span: Option<Span>)
+        requires room { group < length self.old.groups }
+        requires there { fin.get (group_at self.old.groups group) key.now ≢ None }
+        ensures { self.new ≡ record self.old { groups = slice_set self.old.groups group (put_span (group_at self.old.groups group) key.now span) } }
+    {
+        self.groups[group as usize].put_span(key, span);
     }
 
     /// These are the rows of a row group, in place of those that stood for it. Takes no memory.

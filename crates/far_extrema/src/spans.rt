@@ -1,11 +1,11 @@
 // The least and the greatest value by key, in a tree map.
-ghost use Rattle.std.specs.Prelude.{◌≡◌, None, false, IsTrue, is_some, IfOk, IfErr, OnOk, OnErr, map, ℤ, Option};
+ghost use Rattle.std.specs.Prelude.{◌≡◌, ◌≢◌, None, false, IsTrue, is_some, IfOk, IfErr, OnOk, OnErr, map, ℤ, Option};
 ghost use Rattle.std.specs.BTreeMap.{IsOrdered};
 ghost use Rattle.std.specs.FinMap as fin;
 ghost use Rattle.far_types.specs.declared.key.Key.{Key};
 ghost use Rattle.far_types.specs.Keys.{line_cmp};
 ghost use Rattle.far_types.specs.Changes.{join_spans, joined_extrema};
-ghost use Rattle.far_extrema.specs.Spans.{extrema_of, with_span};
+ghost use Rattle.far_extrema.specs.Spans.{extrema_of, with_span, put_span};
 
 use far_types::{Key, Refusal, clone_key};
 use std::alloc::Global;
@@ -63,6 +63,29 @@ pub fn see_under(spans: &mut Spans, key: &Option<Key>, more: Span) -> Result<(),
         spans.insert(clone_key(key)?, more)?;
     }
     Ok(())
+}
+
+/// What stands under a key. Takes no memory.
+pub fn span_under(spans: &Spans, key: &Option<Key>) -> Option<Span>
+    ensures { result ≡ fin.get (extrema_of spans.now.entries) key.now }
+{
+    spans.get(key).copied()
+}
+
+/// A span in place of the one under a key that is there; none makes the key go. Takes no memory.
+pub fn put(spans: &mut Spans, key: &Option<Key>, span: Option<Span>)
+    requires { fin.get (extrema_of spans.old.entries) key.now ≢ None }
+    ensures { extrema_of spans.new.entries ≡ put_span (extrema_of spans.old.entries) key.now span }
+{
+    match span {
+        None => {
+            spans.remove(key);
+        }
+        Some(span) => match spans.get_mut(key) {
+            Some(stood) => *stood = span,
+            None => unreachable!(),
+        },
+    }
 }
 
 /// Joins the spans of another map to these. A refusal may leave some of them joined.

@@ -117,3 +117,44 @@ fn rows_that_the_caller_folded_come_in_at_once(rt: HostRuntime) -> Result<(), Fa
     assert!(rt; has_lines(&group.answer(alloc)?, &[(None, -6, 5)]));
     Ok(())
 }
+
+#[test]
+fn a_span_follows_a_row_and_is_put_back(rt: HostRuntime) -> Result<(), Fail> {
+    let alloc = rt.alloc();
+    let key = text(alloc, "a")?;
+    let mut live = LiveExtrema::new(alloc, 0);
+    live.make_room(1)?;
+    assert_eq!(rt; live.span(1, &key), None);
+    live.see_under(1, &key, 4)?;
+    live.see_under(1, &key, 9)?;
+    assert_eq!(rt; live.span(1, &key), Some((4, 9)));
+    live.put_span(1, &key, Some((4, 4)));
+    live.see_under(1, &key, -1)?;
+    assert_eq!(rt; live.span(1, &key), Some((-1, 4)));
+    assert_eq!(rt; live.span(0, &key), None);
+    assert_eq!(rt; live.span(2, &key), None);
+    Ok(())
+}
+
+#[test]
+fn a_key_whose_rows_are_gone_is_listed_no_more(rt: HostRuntime) -> Result<(), Fail> {
+    let alloc = rt.alloc();
+    let key = text(alloc, "a")?;
+    let rows = [
+        (text(alloc, "a")?, 4),
+        (number(1), 5),
+        (text(alloc, "a")?, 6),
+    ];
+    let mut group = group_of(alloc, Vec::from_array(alloc, rows)?)?;
+    if group.span(&key).is_some() {
+        group.put_span(&key, Some((6, 6)));
+    }
+    let lines = [(number(1), 5, 5), (text(alloc, "a")?, 6, 6)];
+    assert!(rt; has_lines(&group.answer(alloc)?, &lines));
+    if group.span(&key).is_some() {
+        group.put_span(&key, None);
+    }
+    assert!(rt; has_lines(&group.answer(alloc)?, &[(number(1), 5, 5)]));
+    assert_eq!(rt; group.span(&key), None);
+    Ok(())
+}

@@ -16,7 +16,7 @@ use Rattle.far_types.specs.Pairs.{Pair, PairsFit, paired, pair_in, pair_of, key_
 use Rattle.far_types.specs.Table.{Place, place_pair, is_unbuilt, left}
 use Rattle.far_types.proofs.TotalLaws.{totals-cons, totals-among, without_pair-totals}
 use Rattle.far_frame.specs.Kept.{Change, built_pair, built_pairs}
-use Rattle.far_frame.specs.Deltas.{with_change, without_change}
+use Rattle.far_frame.specs.Changes.{with_change, without_change}
 
 pub totals-more : (o : Change) (ps : List Pair) → totals (cons_option o ps) ≡ with_change (totals ps) o
 totals-more None ps = refl

@@ -110,7 +110,7 @@ cell-of_kind (Ints numbers) p = ap (is_of_kind (kind_in (Ints numbers))) (get_or
   int-kind : (number : Option ℤ) → is_of_kind (kind_in (Ints numbers)) (int_cell number) ≡ true
   int-kind (Some number) = refl
   int-kind None = refl
-cell-of_kind (Texts texts) p = ap (is_of_kind (kind_in (Texts texts))) (get_or-map text_cell texts.items p None) ∙ text-kind (get_or texts.items p None) where
+cell-of_kind (Texts texts) p = ap (is_of_kind (kind_in (Texts texts))) (get_or-map text_cell texts.texts p None) ∙ text-kind (get_or texts.texts p None) where
   text-kind : (text : Option (List ℕ)) → is_of_kind (kind_in (Texts texts)) (text_cell text) ≡ true
   text-kind (Some text) = refl
   text-kind None = refl

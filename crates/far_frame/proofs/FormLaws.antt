@@ -27,7 +27,7 @@ part-put {X} size p from to after x xs low high within is-to is-after =
     ∙ take-append-add front (x ∷ back) (suc more)
     ∙ ap (λ ys. front ++ x ∷ ys) (sym taken)
 
-texts-back : (texts : List (Option (List ℕ))) → map text_in (map text_cell texts) ≡ texts
+pub texts-back : (texts : List (Option (List ℕ))) → map text_in (map text_cell texts) ≡ texts
 texts-back [] = refl
 texts-back (Some text ∷ texts) = ap (λ ts. Some text ∷ ts) (texts-back texts)
 texts-back (None ∷ texts) = ap (λ ts. None ∷ ts) (texts-back texts)

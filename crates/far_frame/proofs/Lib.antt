@@ -2,6 +2,11 @@ pub mod AnswerLaws
 pub mod AskLaws
 pub mod BuiltLaws
 pub mod ColumnLaws
+pub mod ComingLaws
+pub mod CountLaws
+pub mod EditLaws
+pub mod ExtremaLaws
+pub mod FillLaws
 pub mod FormLaws
 pub mod GroupLaws
 pub mod KeepLaws
@@ -15,6 +20,6 @@ pub mod RoomLaws
 pub mod RowsLaws
 pub mod RunLaws
 pub mod ScanLaws
-pub mod SlotLaws
+pub mod UnderLaws
 pub mod UntilLaws
 pub mod Writes

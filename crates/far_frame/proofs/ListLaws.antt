@@ -1,6 +1,7 @@
 -- Laws of lists: a fact of each element, and writes.
-use Rattle.std.proofs.Common.{◌≡◌, ℕ, zero, suc, ◌+◌, ◌<◌, List, [], ◌∷◌, ◌++◌, length, map, take, refl, sym, ap, ◌∙◌, subst, arith, add-one, Some, slice_get, slice_set, slice_index_or, replicate}
+use Rattle.std.proofs.Common.{◌≡◌, ℕ, zero, suc, ◌+◌, ◌<◌, List, [], ◌∷◌, ◌++◌, length, map, take, drop, refl, sym, ap, ◌∙◌, subst, arith, add-one, Some, slice_get, slice_set, slice_index_or, replicate}
 use Rattle.std.specs.List.{AllByRecursion}
+use Rattle.std.proofs.Math.Seq.{drop-nil}
 use Rattle.far_frame.specs.Until.{zip_all}
 
 pub all-set : {X : Type 0} (P : X → Type 0) (xs : List X) (i : ℕ) (x : X) → AllByRecursion P xs → P x → AllByRecursion P (slice_set xs i x)
@@ -66,3 +67,31 @@ module _ {X C : Type 0} (f : X → C → X) where
   map-zip_all g k [] cs = refl
   map-zip_all g k (x ∷ xs) [] = refl
   map-zip_all g k (x ∷ xs) (c ∷ cs) = λ i. k x c i ∷ map-zip_all g k xs cs i
+
+-- what was written last stands
+pub set-again : {X : Type 0} (xs : List X) (i : ℕ) (x y : X) → slice_set (slice_set xs i x) i y ≡ slice_set xs i y
+set-again [] i x y = refl
+set-again (z ∷ xs) zero x y = refl
+set-again (z ∷ xs) (suc i) x y = ap (λ l. z ∷ l) (set-again xs i x y)
+
+-- an element written to its own place
+pub set-own : {X : Type 0} (xs : List X) (i : ℕ) (d : X) → slice_set xs i (slice_index_or xs i d) ≡ xs
+set-own [] i d = refl
+set-own (z ∷ xs) zero d = refl
+set-own (z ∷ xs) (suc i) d = ap (λ l. z ∷ l) (set-own xs i d)
+
+pub length-written : {X : Type 0} (xs : List X) (i : ℕ) (x : X) → length (slice_set xs i x) ≡ length xs
+length-written [] i x = refl
+length-written (z ∷ xs) zero x = refl
+length-written (z ∷ xs) (suc i) x = ap suc (length-written xs i x)
+
+pub get-drop : {X : Type 0} (n k : ℕ) (xs : List X) → slice_get (drop n xs) k ≡ slice_get xs (n + k)
+get-drop n k [] = ap (λ l. slice_get l k) (drop-nil n)
+get-drop zero k (x ∷ xs) = let e : zero + k ≡ k = omega arith in rw e refl
+get-drop (suc n) k (x ∷ xs) = get-drop n k xs ∙ (let e : suc n + k ≡ suc (n + k) = omega arith in rw e refl)
+
+-- an element that stands there already
+pub set_same : {X : Type 0} (xs : List X) (i : ℕ) (x : X) → slice_get xs i ≡ Some x → slice_set xs i x ≡ xs
+set_same [] i x h = refl
+set_same (y ∷ xs) zero x h = let e : x ≡ y = cc in rw e refl
+set_same (y ∷ xs) (suc i) x h = ap (λ l. y ∷ l) (set_same xs i x h)

@@ -2,7 +2,6 @@
 use Rattle.std.proofs.Common.{inl, inr, ◌≡◌, ℕ, zero, suc, ◌+◌, ◌-◌, ◌*◌, ◌<◌, ◌≤◌, List, [], ◌∷◌, ◌++◌, length, take, drop, min, refl, sym, ap, ◌∙◌, arith, Option, None, Some, slice_get, length-drop}
 use Rattle.std.specs.Prelude.{option_map, ◌⊎◌, Result, Ok, Err, IfOk}
 use Rattle.std.specs.List.{filter_map, cons_option}
-use Rattle.std.proofs.Math.Seq.{drop-nil}
 use Rattle.std.proofs.lemmas.List.{append-nil, take_all, length-take}
 use Rattle.std.proofs.lemmas.List.Elements.{filter_map-append}
 use Rattle.far_types.specs.declared.spec.Spec.{Spec}
@@ -10,11 +9,10 @@ use Rattle.far_types.specs.Answers.{totals, extrema}
 use Rattle.far_types.specs.Changes.{with_pair, with_seen}
 use Rattle.far_types.specs.Pairs.{Pair}
 use Rattle.far_types.specs.Table.{Place, place_pair}
-use Rattle.far_types.specs.Edits.{removed}
 use Rattle.far_types.proofs.TotalLaws.{totals-cons, totals-among, extrema-cons, extrema-among}
 use Rattle.far_frame.specs.Kept.{Change, pair_if, group_pairs}
-use Rattle.far_frame.specs.Deltas.{with_change, with_seen_change, without}
-use Rattle.far_frame.proofs.GroupLaws.{length-changed, get-changed}
+use Rattle.far_frame.proofs.ListLaws.{get-drop}
+use Rattle.far_frame.specs.Changes.{with_change, with_seen_change}
 
 pub each_ok : {A E : Type 0} (P Q : A → Type 0) (r : Result A E) → ((a : A) → P a → Q a) → IfOk r P → IfOk r Q
 each_ok P Q (Ok a) f h = f a h
@@ -25,24 +23,10 @@ pub pair_is : (spec : Spec) (o : Option Place) (c : Change) → Some c ≡ optio
 pair_is spec None c h = cc
 pair_is spec (Some p) c h = cc
 
-pub pair-left_out : (spec : Spec) (p : ℕ) (ps : List Place) → None ≡ pair_if spec (slice_get (without (Some p) ps) p)
-pair-left_out spec p ps =
-    elim (slice_get ps p) as (λ o. None ≡ pair_if spec (option_map removed o)) [ None ↦ refl | Some x ↦ refl ]
-    ∙ ap (pair_if spec) (sym (get-changed removed p ps))
-
-pub length-without : (o : Option ℕ) (ps : List Place) → length (without o ps) ≡ length ps
-length-without None ps = refl
-length-without (Some p) ps = length-changed removed p ps
-
 range-more : {X : Type 0} (n : ℕ) (xs : List X) (x : X) → slice_get xs n ≡ Some x → take (suc n) xs ≡ take n xs ++ x ∷ []
 range-more n [] x h = cc
 range-more zero (y ∷ xs) x h = let e : y ≡ x = cc in rw e refl
 range-more (suc n) (y ∷ xs) x h = ap (λ l. y ∷ l) (range-more n xs x h)
-
-get-drop : {X : Type 0} (n k : ℕ) (xs : List X) → slice_get (drop n xs) k ≡ slice_get xs (n + k)
-get-drop n k [] = ap (λ l. slice_get l k) (drop-nil n)
-get-drop zero k (x ∷ xs) = let e : zero + k ≡ k = omega arith in rw e refl
-get-drop (suc n) k (x ∷ xs) = get-drop n k xs ∙ (let e : suc n + k ≡ suc (n + k) = omega arith in rw e refl)
 
 -- the pairs of the places from one number up to another
 abbrev pub pairs_between : Spec → List Place → ℕ → ℕ → List Pair
@@ -76,7 +60,7 @@ totals-joined : (xs : List Pair) (o : Change) → totals (xs ++ cons_option o []
 totals-joined xs None = ap totals (append-nil xs)
 totals-joined xs (Some p) = totals-last xs p
 
-extrema-joined : (xs : List Pair) (o : Change) → extrema (xs ++ cons_option o []) ≡ with_seen_change (extrema xs) o
+pub extrema-joined : (xs : List Pair) (o : Change) → extrema (xs ++ cons_option o []) ≡ with_seen_change (extrema xs) o
 extrema-joined xs None = ap extrema (append-nil xs)
 extrema-joined xs (Some p) = extrema-last xs p
 

@@ -20,7 +20,7 @@ use Rattle.far_frame.specs.declared.aggregate.Kept.TheVariants as kept
 use Rattle.far_frame.specs.Kept.{Slot, Change, registered_in, registered_of, fold_of, IsKept, KeepsSlot}
 use Rattle.far_frame.specs.Readings.{is_totals, all_values, plain_in}
 use Rattle.far_frame.specs.Scans.{has_unbuilt}
-use Rattle.far_frame.specs.Steps.{joined}
+use Rattle.far_frame.specs.Aggregates.{joined}
 use Rattle.far_frame.proofs.AskLaws.{at_number, none_at_number}
 use Rattle.far_frame.proofs.BuiltLaws.{built-all}
 

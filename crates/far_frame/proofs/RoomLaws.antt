@@ -8,7 +8,7 @@ use Rattle.far_frame.specs.declared.aggregate.Aggregate.{Aggregate}
 use Rattle.far_frame.specs.declared.aggregate.Kept.{Kept}
 use Rattle.far_frame.specs.declared.aggregate.Kept.TheVariants as kept
 use Rattle.far_frame.specs.Kept.{Slot, registered_in, fold_of, IsKept, KeepsSlot}
-use Rattle.far_frame.specs.Deltas.{kept_room, roomy, KeptHasRoom, HasRoom}
+use Rattle.far_frame.specs.Rooms.{kept_room, roomy, KeptHasRoom, HasRoom}
 use Rattle.far_frame.proofs.ListLaws.{index-replicate}
 
 pub roomy-registered : (g : ℕ) (s : Slot) → registered_in (roomy g s) ≡ registered_in s

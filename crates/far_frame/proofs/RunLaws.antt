@@ -11,7 +11,8 @@ use Rattle.far_frame.specs.declared.step.Step.TheVariants as step
 use Rattle.far_frame.specs.declared.step.Reply.{Reply}
 use Rattle.far_frame.specs.declared.step.Reply.TheVariants as reply
 use Rattle.far_frame.specs.Runs.{is_refused, rows_after, plain_rows}
-use Rattle.far_frame.specs.Steps.{State, aggregate_at, lowest_free, registered_at, scanned_at, ask_refusal, after, answer_reply, IsStep, IsRun}
+use Rattle.far_frame.specs.Aggregates.{aggregate_at, lowest_free, registered_at, scanned_at, ask_refusal}
+use Rattle.far_frame.specs.Steps.{State, after, answer_reply, IsStep, IsRun}
 
 pub IsRun-push : (old mid new : State) (ss : List Step) (rs : List Reply) (s : Step) (r : Reply) → IsRun old ss rs mid → IsStep mid s r new → IsRun old (ss ++ s ∷ []) (rs ++ r ∷ []) new
 IsRun-push old mid new [] [] s r h k = (new, subst (λ t. IsStep t s r new) h k, refl)

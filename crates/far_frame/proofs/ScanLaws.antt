@@ -22,12 +22,12 @@ use Rattle.far_frame.specs.declared.aggregate.Kept.TheVariants as kept
 use Rattle.far_frame.specs.Kept.{Slot, Change, built_pairs, group_pairs, built_group, fold_of, IsKept, KeepsSlot}
 use Rattle.far_frame.proofs.RoomLaws.{same-kept}
 use Rattle.far_frame.specs.Scans.{has_unbuilt, kept_scanned, KeptMayScan}
-use Rattle.far_frame.specs.Steps.{joined}
-use Rattle.far_frame.specs.Deltas.{with_change}
+use Rattle.far_frame.specs.Aggregates.{joined}
+use Rattle.far_frame.specs.Changes.{with_change}
 use Rattle.far_frame.proofs.BuiltLaws.{length-built}
 use Rattle.far_frame.proofs.ListLaws.{index-replicate}
 use Rattle.far_frame.proofs.PairLaws.{pairs-few}
-use Rattle.far_frame.proofs.KeepLaws.{same_or_not}
+use Rattle.far_frame.proofs.ExtremaLaws.{same_or_not}
 
 -- the flag of a row group that is unbuilt is there
 flag-there : (unbuilt : List Bool) (g : ℕ) → is_unbuilt unbuilt g ≡ true → g < length unbuilt

@@ -33,17 +33,17 @@ text_cell None = cell.Missing
 -- the kind of a column's cells
 abbrev pub kind_in : Column → Kind
 kind_in (Ints numbers) = kind.Int
-kind_in (Texts texts) = kind.Text
+kind_in (Texts column) = kind.Text
 
 -- the cells of a column, by place
 abbrev pub cells_in : Column → List Cell
 cells_in (Ints numbers) = map int_cell numbers.items
-cells_in (Texts texts) = map text_cell texts.items
+cells_in (Texts column) = map text_cell column.texts
 
 -- one more cell can be pushed without memory
 abbrev pub HasRoom : Column → Type 0
 HasRoom (Ints numbers) = vec_len numbers < vec_capacity numbers
-HasRoom (Texts texts) = vec_len texts < vec_capacity texts
+HasRoom (Texts column) = 0 < column.room
 
 -- the cells with one put at a place, or appended
 abbrev pub put : ℕ → Cell → List Cell → List Cell

@@ -1,5 +1,5 @@
 -- What is kept for each aggregate, and how an edit changes it.
-use Rattle.std.specs.Prelude.{◌≡◌, ℕ, ◌+◌, ◌-◌, ◌≤◌, ◌^◌, ◌/◌, Bool, cond, List, [], ◌∷◌, ◌++◌, length, map, replicate, Option, None, Some, slice_index_or}
+use Rattle.std.specs.Prelude.{◌≡◌, ℕ, ◌+◌, ◌-◌, ◌≤◌, ◌^◌, ◌/◌, Bool, cond, List, [], ◌∷◌, ◌++◌, length, map, replicate, Option, None, Some}
 use Rattle.std.specs.List.{AllByRecursion, filter_map, cons_option}
 use Rattle.std.specs.FinMap as fin
 use Rattle.far_types.specs.declared.cell.Kind.{Kind}
@@ -13,7 +13,7 @@ use Rattle.far_types.specs.Answers.{Extrema, totals, extrema, or_zero, total_lin
 use Rattle.far_types.specs.Bounds.{AreLimits}
 use Rattle.far_types.specs.Pairs.{Pair}
 use Rattle.far_types.specs.Table.{Place, Registered, place_pair, in_group, is_unbuilt, left}
-use Rattle.far_extrema.specs.Live.{Live, all_groups}
+use Rattle.far_extrema.specs.Live.{all_groups, group_at}
 use Rattle.far_frame.specs.declared.aggregate.Aggregate.{Aggregate}
 use Rattle.far_frame.specs.declared.aggregate.Kept.{Kept}
 use Rattle.far_frame.specs.declared.aggregate.Kept.TheVariants as kept
@@ -53,10 +53,6 @@ built_pairs spec size unbuilt i (place ∷ places) = cons_option (built_pair spe
 abbrev pub group_pairs : Spec → ℕ → ℕ → List Place → List Pair
 group_pairs spec size g places = filter_map (place_pair spec) (in_group size g places)
 
--- what extrema have of a row group: nothing past their room
-abbrev pub group_at : Live → ℕ → Extrema
-group_at live g = slice_index_or live.groups g fin.empty
-
 -- what extrema are to have of a row group: nothing while it is unbuilt
 abbrev pub built_group : Spec → ℕ → List Bool → List Place → ℕ → Extrema
 built_group spec size unbuilt places g = cond (is_unbuilt unbuilt g) fin.empty (extrema (group_pairs spec size g places))
@@ -83,7 +79,7 @@ KeepsNothing count (kept.Extrema live) = (live.left ≡ count) × (live.groups �
 -- what is kept is what computing afresh over the row groups that are built in would give
 abbrev pub IsKept : ℕ → List Place → Aggregate → Kept → Type 0
 IsKept size places a (kept.Totals live) = (live.totals ≡ totals (built_pairs a.spec size a.unbuilt 0 places)) × (live.left ≡ left a.unbuilt)
-IsKept size places a (kept.Extrema live) = ((g : ℕ) → group_at live g ≡ built_group a.spec size a.unbuilt places g) × (live.left ≡ left a.unbuilt)
+IsKept size places a (kept.Extrema live) = ((g : ℕ) → group_at live.groups g ≡ built_group a.spec size a.unbuilt places g) × (live.left ≡ left a.unbuilt)
 
 abbrev pub KeepsSlot : ℕ → List Place → Slot → Type 0
 KeepsSlot size places None = Unit {0}

@@ -1,7 +1,12 @@
+pub mod Aggregates
+pub mod Changes
 pub mod Columns
-pub mod Deltas
+pub mod Coming
+pub mod Fills
+pub mod Going
 pub mod Kept
 pub mod Readings
+pub mod Rooms
 pub mod Rows
 pub mod Runs
 pub mod Scans

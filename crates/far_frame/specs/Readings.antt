@@ -7,7 +7,7 @@ use Rattle.far_types.specs.declared.spec.Fold.TheVariants as fold
 use Rattle.far_types.specs.Answers.{tally}
 use Rattle.far_types.specs.Pairs.{Pair, pairs_of}
 use Rattle.far_types.specs.Table.{Place, Table, Registered, rows_of, is_unbuilt, left}
-use Rattle.far_frame.specs.Steps.{aggregate_at}
+use Rattle.far_frame.specs.Aggregates.{aggregate_at}
 
 -- whether a row group is still to be built into the aggregate of a number
 abbrev pub has_left : Table → ℕ → ℕ → Bool

@@ -9,7 +9,7 @@ use Rattle.far_groups.specs.Live.{CanJoin}
 use Rattle.far_frame.specs.declared.aggregate.Kept.{Kept}
 use Rattle.far_frame.specs.declared.aggregate.Kept.TheVariants as kept
 use Rattle.far_frame.specs.Kept.{Slot, group_pairs}
-use Rattle.far_frame.specs.Steps.{built_in}
+use Rattle.far_frame.specs.Aggregates.{built_in}
 
 -- whether a row group is still to be built into what stands in a slot
 abbrev pub has_unbuilt : ℕ → Slot → Bool

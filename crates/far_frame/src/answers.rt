@@ -3,7 +3,8 @@ ghost use Rattle.std.specs.Prelude.{◌≡◌, ◌≢◌, ◌<◌, ℕ, List, So
 ghost use Rattle.far_types.specs.Answers.{total_lines, answer_over};
 ghost use Rattle.far_types.specs.Table.{Place, left, rows_of};
 ghost use Rattle.far_frame.specs.Kept.{KeepsSlot, registered_in};
-ghost use Rattle.far_frame.specs.Steps.{MayRefuse, ask_refusal};
+ghost use Rattle.far_frame.specs.Aggregates.{ask_refusal};
+ghost use Rattle.far_frame.specs.Steps.{MayRefuse};
 
 use super::aggregate::{Aggregate, Kept};
 use far_groups::LiveTotals;

@@ -5,7 +5,7 @@ ghost use Rattle.far_types.specs.declared.cell.Cell.TheVariants.{Missing};
 ghost use Rattle.far_frame.specs.Columns.{lent_cell, int_cell, text_cell, kind_in, cells_in, HasRoom, overfilled};
 
 use super::cell_ref::CellRef;
-use super::text_form::texts_length;
+use super::text_column::TextColumn;
 use far_types::{Cell, Kind, Limits, Refusal, Text};
 use std::alloc::Global;
 use std::mem;
@@ -14,18 +14,19 @@ use std::mem;
 #[derive(Drop, Debug)]
 pub enum Column {
     Ints(Vec<Option<i64>>),
-    Texts(Vec<Option<Text>>),
+    Texts(TextColumn),
 }
 
 impl Column {
-    /// A column without cells. Takes no memory.
-    pub fn new(alloc: Global, kind: Kind) -> Column
+    /// A column without cells, in row groups of `size` places. Takes no memory.
+    pub fn new(alloc: Global, kind: Kind, size: u32) -> Column
+        requires { 0 < size }
         ensures kind { kind_in result ≡ kind }
         ensures cells { cells_in result ≡ [] }
     {
         match kind {
             Kind::Int => Column::Ints(Vec::new(alloc)),
-            Kind::Text => Column::Texts(Vec::new(alloc)),
+            Kind::Text => Column::Texts(TextColumn::new(alloc, size)),
         }
     }
 
@@ -39,7 +40,7 @@ impl Column {
                 Some(Some(number)) => CellRef::Int(*number),
                 _ => CellRef::Missing,
             },
-            Column::Texts(texts) => match texts.get(place) {
+            Column::Texts(texts) => match texts.as_slice().get(place) {
                 Some(Some(text)) => CellRef::Text(text.as_str()),
                 _ => CellRef::Missing,
             },
@@ -55,7 +56,7 @@ impl Column {
     {
         match self {
             Column::Ints(numbers) => numbers.reserve(1)?,
-            Column::Texts(texts) => texts.reserve(1)?,
+            Column::Texts(texts) => texts.reserve()?,
         }
         Ok(())
     }
@@ -70,7 +71,7 @@ impl Column {
     {
         match self {
             Column::Ints(numbers) => numbers.push(number_of(cell)).unwrap(),
-            Column::Texts(texts) => texts.push(text_of(cell)).unwrap(),
+            Column::Texts(texts) => texts.push(text_of(cell)),
         }
     }
 
@@ -83,9 +84,7 @@ impl Column {
             Column::Ints(numbers) => {
                 numbers.pop();
             }
-            Column::Texts(texts) => {
-                texts.pop();
-            }
+            Column::Texts(texts) => texts.pop(),
         }
     }
 
@@ -105,7 +104,7 @@ impl Column {
                 &mut numbers[place],
                 number_of(cell),
             )),
-            Column::Texts(texts) => cell_of_text(mem::replace(&mut texts[place], text_of(cell))),
+            Column::Texts(texts) => cell_of_text(texts.replace(place, text_of(cell))),
         }
     }
 
@@ -116,16 +115,10 @@ impl Column {
         requires place { place ≤ length (cells_in self.now) }
         ensures { result ≡ overfilled limits.now place cell.now self.now }
     {
-        let Column::Texts(texts) = self else {
-            return false;
-        };
-        let group = limits.group as usize;
-        let from = place / group * group;
-        let to = (from + group).min(texts.len());
-        let texts = texts.as_slice();
-        let before = &texts[from..place];
-        let after = &texts[(place + 1).min(to)..to];
-        texts_length(before, cell, after) > limits.text_size as u128
+        match self {
+            Column::Ints(_) => false,
+            Column::Texts(texts) => texts.overfills(limits, place, cell),
+        }
     }
 }
 

@@ -1,14 +1,15 @@
 // What is read from all columns of a table, and done to each.
-ghost use Rattle.std.specs.Prelude.{◌≡◌, ◌≤◌, true, map, length, option_map, slice_get, unwrap_or, IfOk, IfErr, OnOk, IfSome, FitsSigned};
+ghost use Rattle.std.specs.Prelude.{◌≡◌, ◌≢◌, ◌≤◌, true, false, IsTrue, Some, map, length, option_map, slice_get, unwrap_or, IfOk, IfErr, OnOk, IfSome, FitsSigned};
 ghost use Rattle.std.specs.Int.{w64};
 ghost use Rattle.std.specs.List.{All, list_any, enumerate_from};
 ghost use Rattle.std.specs.Option.{option_copied};
 ghost use Rattle.far_types.specs.declared.cell.Cell.TheVariants.{Missing};
-ghost use Rattle.far_types.specs.Cells.{RowFits, cell_at, cells_of};
+ghost use Rattle.far_types.specs.Cells.{RowFits, cell_at, cells_of, number_in};
 ghost use Rattle.far_types.specs.Edits.{kinds_fit};
 ghost use Rattle.far_types.specs.Filters.{passes, keeps};
 ghost use Rattle.far_types.specs.Pairs.{key_under, pair_of};
 ghost use Rattle.far_frame.specs.Columns.{lent_cell, kind_in, cells_in, HasRoom, overfilled};
+ghost use Rattle.far_frame.specs.Changes.{value_if};
 ghost use Rattle.far_frame.specs.Rows.{row_at, pushed, shorter};
 
 use super::cell_ref::CellRef;
@@ -23,6 +24,16 @@ pub fn cell_of(columns: &[Column], column: usize, place: usize) -> Option<CellRe
     match columns.get(column) {
         Some(column) => Some(column.cell(place)),
         None => None,
+    }
+}
+
+/// The number in a column at a place, or `None` where there is no number.
+fn int_at(columns: &[Column], column: usize, place: usize) -> Option<i64>
+    ensures { result ≡ number_in (slice_get (row_at (map cells_in columns.now) place) column) }
+{
+    match cell_of(columns, column, place) {
+        Some(CellRef::Int(number)) => Some(number),
+        _ => None,
     }
 }
 
@@ -72,6 +83,35 @@ fn key_under(
             alloc, text,
         )?))))),
         _ => Ok(None),
+    }
+}
+
+/// Whether the row at a place stands under a key.
+fn is_under(columns: &[Column], column: Option<u32>, key: &Option<Key>, place: usize) -> bool
+    ensures there { IsTrue result → key_under column (cells_of (row_at (map cells_in columns.now) place)) ≡ Some key.now }
+    ensures elsewhere { result ≡ false → key_under column (cells_of (row_at (map cells_in columns.now) place)) ≢ Some key.now }
+{
+    let Some(column) = column else {
+        return key.is_none();
+    };
+    match (cell_of(columns, column as usize, place), key) {
+        (Some(CellRef::Int(number)), Some(Key::Int(key))) => number == *key,
+        (Some(CellRef::Text(text)), Some(Key::Text(key))) => text == key.as_str(),
+        _ => false,
+    }
+}
+
+/// The value of the row at a place, where it is kept and folded under a key. Takes no memory.
+pub fn value_under(columns: &[Column], spec: &Spec, key: &Option<Key>, place: usize) -> Option<i64>
+    ensures { result ≡ value_if key.now (pair_of spec.now (cells_of (row_at (map cells_in columns.now) place))) }
+{
+    if !is_under(columns, spec.key, key, place) {
+        return None;
+    }
+    if keeps(columns, spec.filter.as_slice(), place) {
+        int_at(columns, spec.value as usize, place)
+    } else {
+        None
     }
 }
 

@@ -1,49 +1,18 @@
 // Edits of the rows, and what they change of what is kept for the aggregates. Each has three parts: growths, each with
 // its way back, and then changes that cannot fail.
-ghost use Rattle.std.specs.Prelude.{◌≡◌, ◌<◌, ◌≤◌, ◌/◌, ◌^◌, [], length, map, true, false, slice_get, OnOk, OnErr, IfErr};
+ghost use Rattle.std.specs.Prelude.{◌≡◌, ◌<◌, ◌≤◌, ◌^◌, length, map, true, false, slice_get, OnOk, OnErr, IfErr};
 ghost use Rattle.far_types.specs.declared.edit.Edit.TheVariants as edit;
 ghost use Rattle.far_types.specs.Edits.{kinds_fit, is_of_other_kind, places_after};
 ghost use Rattle.far_frame.specs.Kept.{Keeps, registered_in};
-ghost use Rattle.far_frame.specs.Deltas.{added, taken, change_of, fresh_of, refreshed, EachFolds, EachMayTake, HaveRoom};
-ghost use Rattle.far_frame.specs.Until.{zip_all, zip_until};
 
 use super::aggregate::Aggregate;
-use super::deltas::{Pair, add_all, changes, take_until};
-use super::refresh::{fresh_groups, make_rooms, refresh_all};
+use super::changes::changes;
+use super::coming::come_in;
+use super::going::take_all;
+use super::rooms::make_rooms;
 use super::rows::Rows;
 use far_types::{Cell, Refusal, Row};
 use std::alloc::Global;
-
-/// A place has another row than before: its pairs come, those that it gave before go, and its row group is looked at
-/// anew.
-fn follow(
-    alloc: Global,
-    slots: &mut [Option<Aggregate>],
-    rows: &Rows,
-    size: u32,
-    place: usize,
-    gone: &[Option<Pair>],
-) -> Result<(), Refusal>
-    requires size { 0 < size }
-    requires few { length rows.now.places ≤ 2 ^ 24 }
-    requires within { place < length rows.now.places }
-    requires gone { length gone.now ≤ length slots.old }
-    requires folds { EachFolds slots.old }
-    requires may_take { EachMayTake (length gone.now) (zip_all added slots.old (map (change_of size place (slice_get rows.now.places place)) slots.old)) gone.now }
-    requires room { HaveRoom (place / size) slots.old }
-    ensures ok { OnOk result (slots.new ≡ zip_all (refreshed (place / size)) (zip_until taken (length gone.now) (zip_all added slots.old (map (change_of size place (slice_get rows.now.places place)) slots.old)) gone.now) (map (fresh_of size (place / size) rows.now.places) slots.old)) }
-    ensures err { OnErr result (slots.new ≡ slots.old) }
-    ensures memory { IfErr result (λ e. e ≡ Refusal.NoMemory) }
-{
-    let group = place / size as usize;
-    let come = changes(alloc, slots, rows, size, place)?;
-    let fresh = fresh_groups(alloc, slots, rows, size, group, None)?;
-    add_all(slots, come.as_slice())?;
-    // nothing from here on can fail
-    take_until(slots, gone, gone.len());
-    refresh_all(slots, group as u32, fresh);
-    Ok(())
-}
 
 /// Appends a row, which is alive. Refused with `NoMemory` (1) alone, and then rows and answers are as before.
 pub fn insert_row(
@@ -68,7 +37,7 @@ pub fn insert_row(
     let place = rows.len();
     make_rooms(slots, (place / size as usize) as u32)?;
     rows.push(row)?;
-    match follow(alloc, slots, rows, size, place, &[]) {
+    match come_in(alloc, slots, rows, size, place) {
         Ok(()) => Ok(()),
         Err(refusal) => {
             rows.pop();
@@ -102,12 +71,17 @@ pub fn set_cell(
     ensures memory { IfErr result (λ e. e ≡ Refusal.NoMemory) }
 {
     let _fit = rows.len();
-    make_rooms(slots, (place / size as usize) as u32)?;
+    let group = place / size as usize;
+    make_rooms(slots, group as u32)?;
     let gone = changes(alloc, slots, rows, size, place)?;
     let old = rows.set(place, column, cell);
     let _still_fit = rows.len();
-    match follow(alloc, slots, rows, size, place, gone.as_slice()) {
-        Ok(()) => Ok(()),
+    match come_in(alloc, slots, rows, size, place) {
+        Ok(()) => {
+            // nothing from here on can fail
+            take_all(slots, rows, size, group as u32, gone.as_slice());
+            Ok(())
+        }
         Err(refusal) => {
             let _cell = rows.set(place, column, old);
             Err(refusal)
@@ -139,10 +113,9 @@ pub fn remove_row(
     let group = place / size as usize;
     make_rooms(slots, group as u32)?;
     let gone = changes(alloc, slots, rows, size, place)?;
-    let fresh = fresh_groups(alloc, slots, rows, size, group, Some(place))?;
     // nothing from here on can fail
     rows.clear(place);
-    take_until(slots, gone.as_slice(), gone.len());
-    refresh_all(slots, group as u32, fresh);
+    let _still_fit = rows.len();
+    take_all(slots, rows, size, group as u32, gone.as_slice());
     Ok(())
 }

@@ -5,7 +5,8 @@ ghost use Rattle.far_frame.specs.Columns.{lent_cell};
 ghost use Rattle.far_frame.specs.Readings.{has_left, plain_in};
 ghost use Rattle.far_types.specs.declared.edit.Edit.TheVariants as edit;
 ghost use Rattle.far_types.specs.Bounds.{AreLimits};
-ghost use Rattle.far_frame.specs.Steps.{Accepts, Refuses, aggregate_at, empty_state};
+ghost use Rattle.far_frame.specs.Aggregates.{aggregate_at};
+ghost use Rattle.far_frame.specs.Steps.{Accepts, Refuses, empty_state};
 ghost use Rattle.far_frame.specs.declared.step.Step.TheVariants as step;
 ghost use Rattle.far_frame.specs.declared.step.Reply.TheVariants as reply;
 
@@ -60,7 +61,7 @@ impl Frame {
         ensures bad { IfErr result (λ e. ((e ≡ Refusal.BadSchema) × ¬ (AreLimits limits)) ⊎ ((e ≡ Refusal.NoMemory) × AreLimits limits)) }
     {
         limits.check()?;
-        let rows = Rows::new(alloc, &schema)?;
+        let rows = Rows::new(alloc, &schema, limits.group)?;
         Ok(Frame {
             alloc,
             number,

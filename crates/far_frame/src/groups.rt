@@ -1,41 +1,18 @@
 // The rows of one row group, looked at in order.
-ghost use Rattle.std.specs.Prelude.{◌≡◌, ◌<◌, ◌≤◌, ◌*◌, ◌^◌, IfOk, IfErr, OnOk, Option, length, slice_get};
+ghost use Rattle.std.specs.Prelude.{◌≡◌, ◌<◌, ◌≤◌, ◌*◌, ◌^◌, IfOk, IfErr, OnOk, Option, Some, length};
 ghost use Rattle.far_types.specs.Answers.{totals, extrema};
-ghost use Rattle.far_frame.specs.Kept.{pair_if, group_pairs};
-ghost use Rattle.far_frame.specs.Deltas.{with_change, with_seen_change, without};
+ghost use Rattle.far_frame.specs.Kept.{group_pairs};
+ghost use Rattle.far_frame.specs.Changes.{with_change, with_seen_change, span_more};
 ghost use Rattle.far_types.specs.declared.key.Key.{Key};
 ghost use Rattle.far_types.specs.Changes.{count_in};
 ghost use Rattle.std.specs.FinMap as fin;
 
-use super::deltas::Pair;
+use super::changes::Pair;
 use super::rows::Rows;
-use far_extrema::GroupExtrema;
+use far_extrema::{GroupExtrema, Span};
 use far_groups::LiveTotals;
-use far_types::{Refusal, Spec};
+use far_types::{Key, Refusal, Spec};
 use std::alloc::Global;
-
-/// What a place gives to an aggregate; a place that is left out gives nothing.
-fn pair_without(
-    rows: &Rows,
-    spec: &Spec,
-    place: usize,
-    left_out: Option<usize>,
-) -> Result<Option<Pair>, Refusal>
-    requires { place < length rows.now.places }
-    ensures ok { IfOk result (λ pair. pair ≡ pair_if spec.now (slice_get (without left_out rows.now.places) place)) }
-    ensures memory { IfErr result (λ e. e ≡ Refusal.NoMemory) }
-{
-    match left_out {
-        None => rows.pair(spec, place),
-        Some(other) => {
-            if other == place {
-                Ok(None)
-            } else {
-                rows.pair(spec, place)
-            }
-        }
-    }
-}
 
 /// One pair more is seen, where there is one.
 fn see_pair(seen: &mut GroupExtrema, pair: Option<Pair>) -> Result<(), Refusal>
@@ -60,25 +37,24 @@ fn add_pair(live: &mut LiveTotals, pair: Option<Pair>) -> Result<(), Refusal>
     }
 }
 
-/// The extrema of the rows of a row group, without one that may be left out.
+/// The extrema of the rows of a row group.
 pub fn group_extrema(
     alloc: Global,
     rows: &Rows,
     spec: &Spec,
     size: u32,
     group: usize,
-    left_out: Option<usize>,
 ) -> Result<GroupExtrema, Refusal>
     requires few { length rows.now.places ≤ 2 ^ 24 }
     requires within { group * size ≤ length rows.now.places }
-    ensures ok { IfOk result (λ seen. seen ≡ extrema (group_pairs spec.now size group (without left_out rows.now.places))) }
+    ensures ok { IfOk result (λ seen. seen ≡ extrema (group_pairs spec.now size group rows.now.places)) }
     ensures memory { IfErr result (λ e. e ≡ Refusal.NoMemory) }
 {
     let from = group * size as usize;
     let to = rows.len().min(from + size as usize);
     let mut seen = GroupExtrema::new(alloc);
     for place in from..to {
-        let pair = pair_without(rows, spec, place, left_out)?;
+        let pair = rows.pair(spec, place)?;
         see_pair(&mut seen, pair)?;
     }
     Ok(seen)
@@ -105,4 +81,37 @@ pub fn group_totals(
         add_pair(&mut live, pair)?;
     }
     Ok(live)
+}
+
+/// A span with one value more, where there is one.
+fn with_value(span: Option<Span>, value: Option<i64>) -> Option<Span>
+    ensures { result ≡ span_more value span }
+{
+    match (span, value) {
+        (span, None) => span,
+        (None, Some(value)) => Some((value, value)),
+        (Some((least, greatest)), Some(value)) => Some((value.min(least), value.max(greatest))),
+    }
+}
+
+/// The least and the greatest value under a key among the rows of a row group, or `None` where none stands under it.
+/// Takes no memory.
+pub fn span_under(
+    rows: &Rows,
+    spec: &Spec,
+    size: u32,
+    group: usize,
+    key: &Option<Key>,
+) -> Option<Span>
+    requires few { length rows.now.places ≤ 2 ^ 24 }
+    requires within { group * size ≤ length rows.now.places }
+    ensures { result ≡ fin.get (extrema (group_pairs spec.now size group rows.now.places)) key.now }
+{
+    let from = group * size as usize;
+    let to = rows.len().min(from + size as usize);
+    let mut span = None;
+    for place in from..to {
+        span = with_value(span, rows.value_under(spec, key, place));
+    }
+    span
 }

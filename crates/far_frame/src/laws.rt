@@ -10,7 +10,8 @@ ghost use Rattle.far_frame.specs.declared.step.Reply.TheVariants as reply;
 ghost use Rattle.far_frame.specs.declared.step.Step.{Step};
 ghost use Rattle.far_frame.specs.declared.step.Step.TheVariants as step;
 ghost use Rattle.far_frame.specs.Runs.{plain_rows};
-ghost use Rattle.far_frame.specs.Steps.{State, aggregate_at, MayRefuse, IsStep, IsRun};
+ghost use Rattle.far_frame.specs.Aggregates.{aggregate_at};
+ghost use Rattle.far_frame.specs.Steps.{State, MayRefuse, IsStep, IsRun};
 
 /// After any list of steps the rows are those of the plain list under the edits that were accepted, whatever was
 /// registered, built in and asked between them.

@@ -4,22 +4,26 @@
 mod aggregate;
 mod answers;
 pub mod cell_ref;
+mod changes;
 mod column;
 mod columns;
-mod deltas;
+mod coming;
 mod edits;
+mod fill;
 pub mod frame;
+mod going;
 mod groups;
 pub mod laws;
 mod readings;
-mod refresh;
 mod refusals;
 mod registrations;
+mod rooms;
 pub mod rows;
 mod scans;
 pub mod step;
 #[cfg(test)]
 mod tests;
+mod text_column;
 mod text_form;
 mod unbuilt;
 pub mod world;

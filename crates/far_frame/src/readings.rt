@@ -4,7 +4,7 @@ ghost use Rattle.far_types.specs.Table.{Place};
 ghost use Rattle.far_frame.specs.Kept.{KeepsSlot, registered_in};
 ghost use Rattle.far_frame.specs.Readings.{plain_in};
 ghost use Rattle.far_frame.specs.Scans.{has_unbuilt};
-ghost use Rattle.far_frame.specs.Steps.{joined};
+ghost use Rattle.far_frame.specs.Aggregates.{joined};
 
 use super::aggregate::{Aggregate, Kept};
 

@@ -3,7 +3,7 @@ ghost use Rattle.std.specs.Prelude.{◌≡◌, ◌<◌, ◌≤◌, ◌+◌, ◌^
 ghost use Rattle.std.specs.Option.{option_copied};
 ghost use Rattle.far_types.specs.Table.{Place, groups, all_unbuilt, is_unbuilt};
 ghost use Rattle.far_frame.specs.Kept.{Keeps, KeepsSlot, KeepsNothing, fold_of, registered_in, registered_of};
-ghost use Rattle.far_frame.specs.Steps.{free_from, joined};
+ghost use Rattle.far_frame.specs.Aggregates.{free_from, joined};
 
 use super::aggregate::{Aggregate, Kept};
 use super::rows::Rows;

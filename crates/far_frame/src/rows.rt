@@ -6,12 +6,16 @@ ghost use Rattle.far_types.specs.declared.edit.Edit.TheVariants.{Insert, Set};
 ghost use Rattle.far_types.specs.Cells.{cell_at};
 ghost use Rattle.far_types.specs.Edits.{kinds_fit, is_of_other_kind, with_cell, removed, changed_at, overfills};
 ghost use Rattle.far_types.specs.Table.{Place, place_pair};
+ghost use Rattle.far_frame.specs.Changes.{value_if};
 ghost use Rattle.far_frame.specs.Columns.{lent_cell};
+ghost use Rattle.far_frame.specs.Kept.{pair_if};
 ghost use Rattle.far_frame.specs.Rows.{AreRows};
 
 use super::cell_ref::CellRef;
 use super::column::Column;
-use super::columns::{cell_of, overfills_any, pair_of, pop_all, push_all, reserve_all};
+use super::columns::{
+    cell_of, overfills_any, pair_of, pop_all, push_all, reserve_all, value_under,
+};
 use far_types::{Cell, Key, Limits, Refusal, Row, Schema, Spec};
 use std::alloc::Global;
 use std::marker::Model;
@@ -38,15 +42,16 @@ impl Model for Rows {
 }
 
 impl Rows {
-    /// No rows, for a table with this schema. Refused with `NoMemory` (1) alone.
-    pub fn new(alloc: Global, schema: &Schema) -> Result<Rows, Refusal>
+    /// No rows, for a table with this schema and row groups of `size` places. Refused with `NoMemory` (1) alone.
+    pub fn new(alloc: Global, schema: &Schema, size: u32) -> Result<Rows, Refusal>
+        requires { 0 < size }
         ensures kinds { IfOk result (λ rows. rows.kinds ≡ schema.now) }
         ensures places { IfOk result (λ rows. rows.places ≡ []) }
         ensures memory { IfErr result (λ e. e ≡ Refusal.NoMemory) }
     {
         let mut columns = Vec::with_capacity(alloc, schema.len())?;
         for kind in schema.as_slice() {
-            columns.push(Column::new(alloc, *kind))?;
+            columns.push(Column::new(alloc, *kind, size))?;
         }
         Ok(Rows {
             columns,
@@ -151,8 +156,21 @@ impl Rows {
         )
     }
 
+    /// The value that a place gives to an aggregate, where it gives one under this key. Takes no memory.
+    pub fn value_under(&self, spec: &Spec, key: &Option<Key>, place: usize) -> Option<i64>
+        requires { place < length self.now.places }
+        ensures { result ≡ value_if key.now (pair_if spec.now (slice_get self.now.places place)) }
+    {
+        if self.alive[place] {
+            value_under(self.columns.as_slice(), spec, key, place)
+        } else {
+            None
+        }
+    }
+
     /// Whether the row's insert would make a text object longer than a text segment. Each text column is looked at,
-    /// and a row that is too short has no value there. One pass over the texts of the last row group; takes no memory.
+    /// and a row that is too short has no value there. Costs no look at the texts that are there, for limits with these
+    /// row groups; takes no memory.
     pub fn overfills_insert(&self, limits: &Limits, row: &Row) -> bool
         requires { 1 ≤ limits.now.group }
         ensures { result ≡ overfills self.now.kinds limits.now (Insert row.now) self.now.places }
@@ -161,7 +179,7 @@ impl Rows {
     }
 
     /// Whether the cell's set would make its text object longer than a text segment; false where there is no such
-    /// column. One pass over the texts of the place's row group; takes no memory.
+    /// column. Costs no look at the other texts, for limits with these row groups; takes no memory.
     pub fn overfills_set(&self, limits: &Limits, place: usize, column: usize, cell: &Cell) -> bool
         requires group_low { 1 ≤ limits.now.group }
         requires place { place < length self.now.places }

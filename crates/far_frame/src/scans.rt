@@ -3,7 +3,7 @@ ghost use Rattle.std.specs.Prelude.{◌≡◌, ◌<◌, ◌≤◌, ◌*◌, ◌^
 ghost use Rattle.far_types.specs.Table.{groups};
 ghost use Rattle.far_frame.specs.Kept.{KeepsSlot, Keeps, registered_in, registered_of};
 ghost use Rattle.far_frame.specs.Scans.{built_slot, has_unbuilt, kept_scanned, KeptMayScan};
-ghost use Rattle.far_frame.specs.Steps.{joined};
+ghost use Rattle.far_frame.specs.Aggregates.{joined};
 
 use super::aggregate::{Aggregate, Kept};
 use super::groups::{group_extrema, group_totals};
@@ -33,7 +33,7 @@ fn scan(
             live.merge(&totals)
         }
         Kept::Extrema(live) => {
-            let extrema = group_extrema(alloc, rows, spec, size, group as usize, None)?;
+            let extrema = group_extrema(alloc, rows, spec, size, group as usize)?;
             live.make_room(group)?;
             live.merge(group, extrema);
             Ok(())

@@ -1,227 +1,10 @@
 // What no clause says: that steps succeed with ample memory, worked examples, and that a step refused for want of
 // memory is accepted when it is repeated.
-use super::*;
-use far_types::{
-    Answer, Cell, Edit, Filter, Fold, Key, Kind, Limits, Op, Refusal, Row, Schema, Spec, Test, Text,
-};
-use std::alloc::Global;
-use std::fmt::Write;
-use std::process::Abort;
+mod script;
+
+use far_types::Limits;
+use script::{INT, INT_TEXT, limits, play, serve, world};
 use std::test::Fail;
-
-const INT: &[Kind] = &[Kind::Int];
-
-const INT_TEXT: &[Kind] = &[Kind::Int, Kind::Text];
-
-fn limits(group: u32) -> Limits {
-    Limits {
-        group,
-        places: 16_777_216,
-        edits: 1_099_511_627_776,
-        int_segments: 64,
-        int_size: 4096,
-        text_segments: 64,
-        text_size: 65_536,
-    }
-}
-
-fn world(alloc: Global, kinds: &[Kind], limits: Limits) -> Result<World, Refusal> {
-    let schema = Schema::new(Vec::from_slice(alloc, kinds)?)?;
-    Ok(World::new(Frame::open(alloc, schema, limits, 0)?))
-}
-
-fn text(alloc: Global, bytes: &str) -> Result<Text, Refusal> {
-    Ok(Text::new(String::from_str(alloc, bytes)?))
-}
-
-/// A cell of a column of this kind, as a script writes it.
-fn cell(alloc: Global, kind: Option<&Kind>, field: &str) -> Result<Cell, Refusal> {
-    if field == "\\N" {
-        return Ok(Cell::Missing);
-    }
-    match (kind, field.parse::<i64>()) {
-        (Some(Kind::Int), Ok(number)) => Ok(Cell::Int(number)),
-        _ => Ok(Cell::Text(text(alloc, field)?)),
-    }
-}
-
-fn row(alloc: Global, kinds: &[Kind], fields: &str) -> Result<Row, Refusal> {
-    let mut cells = Vec::new(alloc);
-    for field in fields.split(',') {
-        let kind = kinds.get(cells.len());
-        cells.push(cell(alloc, kind, field)?)?;
-    }
-    Ok(Row::new(cells))
-}
-
-fn number(word: Option<&str>) -> u32 {
-    match word {
-        Some(digits) => digits.parse::<u32>().unwrap_or(0),
-        None => 0,
-    }
-}
-
-fn test(alloc: Global, column: u32, op: &str, word: &str) -> Result<Test, Refusal> {
-    let op = match op {
-        "^=" => {
-            let text = text(alloc, word)?;
-            return Ok(Test::TextBegins { column, text });
-        }
-        "=" => Op::Eq,
-        "!=" => Op::Ne,
-        "<" => Op::Lt,
-        "<=" => Op::Le,
-        ">" => Op::Gt,
-        _ => Op::Ge,
-    };
-    match word.parse::<i64>() {
-        Ok(value) => Ok(Test::Int { column, op, value }),
-        Err(_) => Ok(Test::TextIs {
-            column,
-            text: text(alloc, word)?,
-        }),
-    }
-}
-
-/// A test, as a script writes it: `C OP W`.
-fn test_of(alloc: Global, line: &str) -> Result<Test, Refusal> {
-    let mut words = line.split(' ');
-    let column = number(words.next());
-    let op = words.next().unwrap_or("");
-    test(alloc, column, op, words.next().unwrap_or(""))
-}
-
-/// An aggregate without tests, as a script writes it: `FOLD C [by C]`.
-fn plain_spec(alloc: Global, line: &str) -> Spec {
-    let mut words = line.split(' ');
-    let fold = match words.next() {
-        Some("extrema") => Fold::Extrema,
-        _ => Fold::Totals,
-    };
-    let value = number(words.next());
-    let key = match words.next() {
-        Some(_) => Some(number(words.next())),
-        None => None,
-    };
-    Spec {
-        fold,
-        value,
-        key,
-        filter: Filter::new(Vec::new(alloc)),
-    }
-}
-
-/// A specification, as a script writes it: `FOLD C [by C] [if C OP W]..`.
-fn spec(alloc: Global, line: &str) -> Result<Spec, Refusal> {
-    let mut parts = line.split(" if ");
-    let plain = plain_spec(alloc, parts.next().unwrap_or(""));
-    let mut tests = Vec::new(alloc);
-    for part in parts {
-        tests.push(test_of(alloc, part)?)?;
-    }
-    Ok(Spec {
-        filter: Filter::new(tests),
-        ..plain
-    })
-}
-
-/// A step, as a script writes it.
-fn step(alloc: Global, kinds: &[Kind], line: &str) -> Result<Step, Refusal> {
-    let (word, rest) = line.split_once(' ').unwrap_or((line, ""));
-    let mut words = rest.split(' ');
-    Ok(match word {
-        "insert" => Step::Edit(Edit::Insert(row(alloc, kinds, rest)?)),
-        "set" => {
-            let place = number(words.next());
-            let column = number(words.next());
-            let cell = cell(
-                alloc,
-                kinds.get(column as usize),
-                words.next().unwrap_or(""),
-            )?;
-            Step::Edit(Edit::Set {
-                place,
-                column,
-                cell,
-            })
-        }
-        "remove" => Step::Edit(Edit::Remove(number(words.next()))),
-        "watch" => Step::Watch(spec(alloc, rest)?),
-        "unwatch" => Step::Unwatch(number(words.next())),
-        "scan" => Step::ScanGroup(number(words.next()), number(words.next())),
-        _ => Step::Ask(number(words.next())),
-    })
-}
-
-fn tell_key(told: &mut String, key: &Option<Key>) -> Result<(), Refusal> {
-    match key {
-        None => {}
-        Some(Key::Int(number)) => write!(told, "{number} ")?,
-        Some(Key::Text(text)) => write!(told, "{} ", text.as_str())?,
-    }
-    Ok(())
-}
-
-/// A reply, as a script's reader sees it; lines are parted by a stroke.
-fn told(alloc: Global, reply: &Reply) -> Result<String, Refusal> {
-    let mut told = String::new(alloc);
-    match reply {
-        Reply::Place(place) => write!(told, "place {place}")?,
-        Reply::Done => write!(told, "ok")?,
-        Reply::Aggregate(a) => write!(told, "aggregate {a}")?,
-        Reply::Answer(Answer::Totals(lines)) => {
-            for (key, count, sum) in lines.as_slice() {
-                tell_key(&mut told, key)?;
-                write!(told, "count {count} sum {sum} | ")?;
-            }
-        }
-        Reply::Answer(Answer::Extrema(lines)) => {
-            for (key, least, greatest) in lines.as_slice() {
-                tell_key(&mut told, key)?;
-                write!(told, "min {least} max {greatest} | ")?;
-            }
-        }
-        Reply::Refused(refusal) => write!(told, "refused {} {refusal}", refusal.number())?,
-    }
-    if told.is_empty() {
-        write!(told, "none")?;
-    }
-    Ok(told)
-}
-
-/// Serves one line, and once more where it was refused for want of memory.
-fn serve(alloc: Global, world: &mut World, kinds: &[Kind], line: &str) -> Result<String, Refusal> {
-    let first = Vec::from_array(alloc, [step(alloc, kinds, line)?])?;
-    if let Ok(replies) = run(world, first) {
-        match replies.first() {
-            Some(Reply::Refused(Refusal::NoMemory)) => {}
-            Some(reply) => return told(alloc, reply),
-            None => {}
-        }
-    }
-    let again = Vec::from_array(alloc, [step(alloc, kinds, line)?])?;
-    let replies = run(world, again)?;
-    match replies.first() {
-        Some(reply) => told(alloc, reply),
-        None => Ok(String::new(alloc)),
-    }
-}
-
-/// Plays a script: in each pair a step and the reply that is due.
-fn play(
-    rt: &impl Abort,
-    alloc: Global,
-    kinds: &[Kind],
-    limits: Limits,
-    script: &[(&str, &str)],
-) -> Result<(), Refusal> {
-    let mut world = world(alloc, kinds, limits)?;
-    for (line, due) in script {
-        let reply = serve(alloc, &mut world, kinds, line)?;
-        assert_eq!(rt; reply.as_str().trim_end_matches(" | "), *due);
-    }
-    Ok(())
-}
 
 #[test]
 fn totals_follow_inserts_a_set_and_a_removal(rt: HostRuntime) -> Result<(), Fail> {
@@ -286,6 +69,29 @@ fn a_minimum_stays_until_its_last_holder_goes(rt: HostRuntime) -> Result<(), Fai
         ("ask 0", "min 3 max 9"),
         ("remove 1", "ok"),
         ("ask 0", "min 9 max 9"),
+    ];
+    Ok(play(&rt, rt.alloc(), INT_TEXT, limits(4), &script)?)
+}
+
+#[test]
+fn a_key_gets_the_extremes_of_the_rows_that_are_left(rt: HostRuntime) -> Result<(), Fail> {
+    let script = [
+        ("watch extrema 0 by 1 if 0 < 100", "aggregate 0"),
+        ("insert 3,a", "place 0"),
+        ("insert 8,a", "place 1"),
+        ("insert 5,b", "place 2"),
+        ("insert 6,a", "place 3"),
+        ("set 3 0 7", "ok"),
+        ("ask 0", "a min 3 max 8 | b min 5 max 5"),
+        ("set 1 0 100", "ok"),
+        ("ask 0", "a min 3 max 7 | b min 5 max 5"),
+        ("set 0 1 b", "ok"),
+        ("ask 0", "a min 7 max 7 | b min 3 max 5"),
+        ("remove 3", "ok"),
+        ("ask 0", "b min 3 max 5"),
+        ("set 2 0 2", "ok"),
+        ("set 0 0 \\N", "ok"),
+        ("ask 0", "b min 2 max 2"),
     ];
     Ok(play(&rt, rt.alloc(), INT_TEXT, limits(4), &script)?)
 }

@@ -13,7 +13,7 @@ fn no_rows(alloc: Global) -> Result<Rows, Refusal>
     ensures places { IfOk result (λ rows. length rows.places ≡ 0) }
 {
     let schema = Schema::new(Vec::from_array(alloc, [Kind::Int, Kind::Text])?)?;
-    Rows::new(alloc, &schema)
+    Rows::new(alloc, &schema, 4)
 }
 
 fn number_cell(number: Option<i64>) -> Cell

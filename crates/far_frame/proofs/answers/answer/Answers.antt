@@ -1,7 +1,7 @@
 use Rattle.std.proofs.Common.{◌≡◌, sym, ap, ◌∙◌}
 use Rattle.far_types.specs.declared.answer.Answer.TheVariants as answer
-use Rattle.far_types.specs.Answers.{or_zero, answer_over}
-use Rattle.far_types.specs.Table.{left, rows_of}
+use Rattle.far_types.specs.Answers.{or_zero}
+use Rattle.far_types.specs.Table.{left}
 use Rattle.far_frame.specs.Kept.{kept_answer, left_in}
 use Rattle.far_frame.proofs.AnswerLaws.{answers-now, left-now}
 use Rattle.far_frame.proofs.answers.answer.Goals as goal

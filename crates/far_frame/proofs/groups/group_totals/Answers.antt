@@ -2,9 +2,9 @@ use Rattle.std.proofs.Common.{ap, ◌∙◌, arith, ◌*◌}
 use Rattle.std.specs.FinMap as fin
 use Rattle.far_types.specs.Answers.{totals}
 use Rattle.far_types.specs.Changes.{count_in}
-use Rattle.far_frame.specs.Deltas.{with_change}
+use Rattle.far_frame.specs.Changes.{with_change}
 use Rattle.far_frame.proofs.PairLaws.{pair_is, totals-next, pairs_between, pairs_between-all, pairs_between-few}
-use Rattle.far_frame.proofs.SlotLaws.{few_under}
+use Rattle.far_frame.proofs.CountLaws.{few_under}
 use Rattle.far_frame.proofs.groups.group_totals.Goals as goal
 
 pub add_pair-requires : goal.add_pair-requires

@@ -1,6 +1,6 @@
 use Rattle.std.proofs.Common.{◌≡◌, ◌<◌, ℕ, false, slice_get}
 use Rattle.far_frame.specs.Scans.{has_unbuilt}
-use Rattle.far_frame.specs.Steps.{joined}
+use Rattle.far_frame.specs.Aggregates.{joined}
 use Rattle.far_frame.proofs.readings.first_unbuilt.Given as goal
 
 abbrev pub invariant-loop-i : goal.invariant-loop-i

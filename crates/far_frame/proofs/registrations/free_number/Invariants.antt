@@ -1,5 +1,5 @@
 use Rattle.std.proofs.Common.{◌≡◌, ◌++◌, ◌-◌, drop, map, length, replicate, None}
-use Rattle.far_frame.specs.Steps.{free_from}
+use Rattle.far_frame.specs.Aggregates.{free_from}
 use Rattle.far_frame.specs.Kept.{registered_in, registered_of}
 use Rattle.far_frame.proofs.registrations.free_number.Given as goal
 

@@ -2,7 +2,7 @@ use Rattle.std.proofs.Common.{◌<◌, sym, ap, ◌∙◌, refl, length, slice_s
 use Rattle.std.proofs.lemmas.Option.{slice_get_read}
 use Rattle.far_frame.specs.Kept.{registered_in, registered_of}
 use Rattle.far_frame.specs.Scans.{built_slot}
-use Rattle.far_frame.specs.Steps.{joined}
+use Rattle.far_frame.specs.Aggregates.{joined}
 use Rattle.far_frame.proofs.RegisterLaws.{registered-set}
 use Rattle.far_frame.proofs.ScanLaws.{has-below}
 use Rattle.far_frame.proofs.scans.build_at.Goals as goal

@@ -6,4 +6,4 @@ pub returns-in-Ints-clause-cells : goal.returns-in-Ints-clause-cells
 returns-in-Ints-clause-cells c = let e = map-set int_cell c.in-Ints.numbers.items c.args.place c.replace.new.dest in cc
 
 pub returns-in-Texts-clause-cells : goal.returns-in-Texts-clause-cells
-returns-in-Texts-clause-cells c = let e = map-set text_cell c.in-Texts.texts.items c.args.place c.replace-in-Texts.new.dest in cc
+returns-in-Texts-clause-cells c = let e = map-set text_cell c.in-Texts.texts.texts c.args.place c.text_of.result in cc

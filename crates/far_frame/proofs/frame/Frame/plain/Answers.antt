@@ -1,7 +1,7 @@
 use Rattle.std.proofs.Common.{◌≡◌, Some, sym, ap, ◌∙◌, slice_get}
 use Rattle.far_frame.specs.Kept.{KeepsSlot}
 use Rattle.far_frame.specs.Readings.{plain_in}
-use Rattle.far_frame.specs.Steps.{joined, aggregate_at}
+use Rattle.far_frame.specs.Aggregates.{joined, aggregate_at}
 use Rattle.far_frame.proofs.AskLaws.{seen, at_number, all-joined}
 use Rattle.far_frame.proofs.frame.Frame.plain.Goals as goal
 

@@ -1,6 +1,6 @@
 use Rattle.std.proofs.Common.{rules, ◌≡◌, Some, false, sym, ap, ◌∙◌, refl, arith, slice_get}
 use Rattle.far_types.specs.Table.{groups, is_unbuilt}
-use Rattle.far_frame.specs.Steps.{joined, aggregate_at, group_count, scan_refusal}
+use Rattle.far_frame.specs.Aggregates.{joined, aggregate_at, group_count, scan_refusal}
 use Rattle.far_frame.proofs.AskLaws.{seen, at_number, scan-out, scan-stale, due}
 use Rattle.far_frame.proofs.frame.Frame.scan_group.Goals as goal
 

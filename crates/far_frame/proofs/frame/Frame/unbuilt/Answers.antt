@@ -1,7 +1,7 @@
 use Rattle.std.proofs.Common.{◌≡◌, ℕ, false, sym, ap, ◌∙◌, slice_get}
 use Rattle.far_frame.specs.Readings.{has_left}
 use Rattle.far_frame.specs.Scans.{has_unbuilt}
-use Rattle.far_frame.specs.Steps.{joined}
+use Rattle.far_frame.specs.Aggregates.{joined}
 use Rattle.far_frame.proofs.ReadLaws.{if_none, left_there}
 use Rattle.far_frame.proofs.frame.Frame.unbuilt.Goals as goal
 

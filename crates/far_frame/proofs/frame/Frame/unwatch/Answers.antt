@@ -1,5 +1,6 @@
 use Rattle.std.proofs.Common.{◌≡◌, sym, ap, ◌∙◌, refl, arith, Some, None, slice_get}
-use Rattle.far_frame.specs.Steps.{State, joined, unwatch_refusal, aggregate_at, with_aggregate}
+use Rattle.far_frame.specs.Aggregates.{joined, unwatch_refusal, aggregate_at, with_aggregate}
+use Rattle.far_frame.specs.Steps.{State}
 use Rattle.far_frame.proofs.AskLaws.{seen, found_below, at_number}
 use Rattle.far_frame.proofs.frame.Frame.unwatch.Goals as goal
 
