@@ -1,0 +1,4 @@
+pub mod Recency
+pub mod Memory
+pub mod Placing
+pub mod Lending
