@@ -28,9 +28,14 @@ pub record ChangesList {X : Type 0} (old new : ℕ → Option (List X)) (o : ℕ
   pub here : new o ≡ now
   pub others : (p : ℕ) → p ≢ o → new p ≡ old p
 
+-- objects by number, of which some have a place, and what lies at a place: each object that has one has it alone,
+-- something lies there, and nothing lies elsewhere
+pub record OwnPlaces {X : Type 0} (place : ℕ → Option At) (part : At → Option (List X)) : Type 0 where
+  pub placed : (o : ℕ) (at : At) → place o ≡ Some at → IsSome (part at)
+  pub apart : (o p : ℕ) (at : At) → place o ≡ Some at → place p ≡ Some at → o ≡ p
+  pub only : (at : At) → IsSome (part at) → (o : ℕ) × (place o ≡ Some at)
+
 -- each local object has one part of the room, which is no other's, and there is no other part
 pub record IsMemory {X : Type 0} (words : List Pointer) (room : Room X) : Type 0 where
   pub region : IsRegion room
-  pub placed : (o : ℕ) (at : At) → place_of words o ≡ Some at → IsSome (part_of room at)
-  pub apart : (o p : ℕ) (at : At) → place_of words o ≡ Some at → place_of words p ≡ Some at → o ≡ p
-  pub only : (at : At) → IsSome (part_of room at) → (o : ℕ) × (place_of words o ≡ Some at)
+  pub own : OwnPlaces (place_of words) (part_of room)

@@ -72,3 +72,10 @@ module _ {X : Type 0} where
   overwritten memory o i ws = record memory {
     room = option_map_or (λ at. written_at memory.room at i ws) (place_of memory.words o) memory.room
   }
+
+  -- object o, which is local, has another list, placed while the old one was still there
+  abbrev pub replaced : Memory X → ℕ → List X → Memory X
+  replaced memory o list = record {
+    words = (with_word memory o (λ word. with_at word (spot memory.room (length list)))).words;
+    room = without_at (with_new memory.room list) (place_of memory.words o)
+  }

@@ -1,12 +1,14 @@
 // The local memory of objects.
-ghost use Rattle.std.specs.Prelude.{◌≡◌, ℕ, ◌<◌, ◌≤◌, ◌^◌, ◌↔◌, ◌⊎◌, List, [], length, replicate, true, false, Some, None, IsSome, IsTrue, IfOk, IfErr, OnOk, OnErr, IsErrOf, slice_get, is_some};
+ghost use Rattle.std.specs.Prelude.{◌≡◌, ℕ, ◌-◌, ◌<◌, ◌≤◌, ◌^◌, ◌↔◌, ◌⊎◌, List, [], length, replicate, true, false, Some, None, IsSome, IsTrue, IfOk, IfErr, OnOk, OnErr, IsErrOf, slice_get, is_some};
 ghost use Rattle.std.specs.Borrow.{sem};
 ghost use Rattle.far_pointer.specs.Layout.{HasWord};
 ghost use Rattle.far_log.specs.Room.{fits_in};
 ghost use Rattle.far_scopes.specs.Memory.{at_of as word_at, place_of, list_in, ChangesList};
 ghost use Rattle.far_pointer.specs.declared.pointer.Pointer.{Pointer};
 ghost use Rattle.std.specs.Prelude.{not};
-ghost use Rattle.far_scopes.specs.Placing.{added, removed, marked, heated, sent_away, brought};
+ghost use Rattle.far_scopes.specs.Placing.{added, removed, marked, heated, sent_away, brought, replaced};
+
+mod lending;
 
 use far_codec::Elem;
 use far_log::Region;
@@ -93,7 +95,69 @@ impl<T: Elem> LocalMemory<T> {
         self.region.drop_at(at);
     }
 
-    /// Object `o` is written: it is dirty and hot.
+    /// Takes the last object away, which is local.
+    pub fn remove_last(&mut self)
+        requires { IsSome (list_in self.old (length self.old.words - 1)) }
+        ensures removed { self.new ≡ removed self.old }
+        ensures list { ChangesList (list_in self.old) (list_in self.new) (length self.old.words - 1) None }
+    {
+        let Some(word) = self.words.pop() else {
+            unreachable!()
+        };
+        self.region.drop_at(at_of(word));
+    }
+
+    /// Object `o`, which is away, is local with this list from now on: clean and hot. Refused, nothing is changed.
+    pub fn bring(&mut self, o: usize, items: &[T]) -> Result<(), Refusal>
+        requires some { 0 < length items.now }
+        requires away { slice_get self.old.words o ≡ Some Pointer.Remote }
+        ensures ok { OnOk result (self.new ≡ brought self.old o items.now) }
+        ensures list { OnOk result (ChangesList (list_in self.old) (list_in self.new) o (Some items.now)) }
+        ensures full { IsErrOf result Refusal.RegionFull ↔ (fits_in self.old.room (length items.now) ≡ false) }
+        ensures refused { IfErr result (λ e. (e ≡ Refusal.RegionFull) ⊎ (e ≡ Refusal.NoMemory)) }
+        ensures err { OnErr result (self.new ≡ self.old) }
+    {
+        let at = self.region.place(items)?;
+        self.words[o] = local_word(at, false);
+        Ok(())
+    }
+
+    /// Gives object `o`, which is local, another list: places the new one before it drops the old one. Refused, nothing
+    /// is changed.
+    pub fn replace(&mut self, o: usize, items: &[T]) -> Result<(), Refusal>
+        requires some { 0 < length items.now }
+        requires local { IsSome (list_in self.old o) }
+        ensures ok { OnOk result (self.new ≡ replaced self.old o items.now) }
+        ensures list { OnOk result (ChangesList (list_in self.old) (list_in self.new) o (Some items.now)) }
+        ensures full { IsErrOf result Refusal.RegionFull ↔ (fits_in self.old.room (length items.now) ≡ false) }
+        ensures refused { IfErr result (λ e. (e ≡ Refusal.RegionFull) ⊎ (e ≡ Refusal.NoMemory)) }
+        ensures err { OnErr result (self.new ≡ self.old) }
+    {
+        let word = self.words[o];
+        let at = self.region.place(items)?;
+        self.words[o] = word.with_at(at);
+        self.region.drop_at(at_of(word));
+        Ok(())
+    }
+
+    /// Whether a list of so many elements can be placed.
+    pub fn fits(&self, len: usize) -> bool
+        ensures { result ≡ fits_in self.now.room len }
+    {
+        self.region.fits(len)
+    }
+
+    /// Object `o` is used: it is hot where it is local.
+    pub fn heat(&mut self, o: usize)
+        requires { o < length self.old.words }
+        ensures heated { self.new ≡ heated self.old o }
+        ensures lists { (p : ℕ) → list_in self.new p ≡ list_in self.old p }
+    {
+        let word = self.words[o];
+        self.words[o] = word.with_hot(true);
+    }
+
+    /// Object `o` is written: it is dirty and hot where it is local.
     pub fn mark(&mut self, o: usize)
         requires { o < length self.old.words }
         ensures marked { self.new ≡ marked self.old o }
@@ -101,25 +165,6 @@ impl<T: Elem> LocalMemory<T> {
     {
         let word = self.words[o];
         self.words[o] = word.with_dirty().with_hot(true);
-    }
-}
-
-impl<T: Elem> LocalMemory<T> {
-    ghost use Rattle.far_scopes.specs.Lending.{lends_part};
-    ghost use Rattle.std.specs.Prelude.{IsSomeAnd, slice_range, take, drop, ◌++◌, ◌-◌};
-    ghost use Rattle.far_scopes.specs.Placing.{overwritten};
-
-    /// The elements `from` to `to` of an object that is local, lent to be written.
-    pub fn lend_range_mut(&mut self, o: usize, from: usize, to: usize) -> &mut [T]
-        requires ordered { from ≤ to }
-        requires within { IsSomeAnd (list_in self.old o) (λ list. to ≤ length list) }
-        ensures* writes_back { sem 𝓛 (lends_part T.row self.entry o from result) }
-        ensures lent { IsSomeAnd (list_in self.old o) (λ list. result.now ≡ slice_range list from to) }
-        ensures alone { IsSomeAnd (list_in self.old o) (λ list. (range : List T) → length range ≡ to - from → ChangesList (list_in self.old) (list_in (overwritten self.old o from range)) o (Some (take from list ++ (range ++ drop to list)))) }
-    {
-        let at = at_of(self.words[o]);
-        let region = &mut self.region;
-        region.range_mut(at, from, to)
     }
 }
 

@@ -1,0 +1,4 @@
+pub mod Places
+pub mod WordPlaces
+pub mod MemoryLaws
+pub mod KeyLaws
