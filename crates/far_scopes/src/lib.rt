@@ -1,8 +1,10 @@
 #![tactic(auto)]
 //! Objects that move between local memory and a far store.
 
+mod entry;
 mod memory;
+mod objects;
 mod recency;
 
-use memory::LocalMemory;
-use recency::Recency;
+pub use entry::Entry;
+pub use objects::Objects;
