@@ -59,9 +59,9 @@ last-of xs ys y is = omega (arith, ap (λ l. length l) is, length-append ys (y �
 pub take-last : {X : Type 0} (xs ys : List X) (y : X) → xs ≡ ys ++ y ∷ [] → take (length xs - 1) xs ≡ ys
 take-last xs ys y is = rw (last-of xs ys y is, is) (take-append_seam ys (y ∷ []))
 
--- the word that was read is there
-pub word-read : (words : List Pointer) (o : ℕ) (word : Pointer) → o < length words → word ≡ get_or words o word → slice_get words o ≡ Some word
-word-read words o word h read = slice_get-get_or words o word h ∙ ap Some (sym read)
+-- what was read is there
+pub word-read : {X : Type 0} (xs : List X) (o : ℕ) (x : X) → o < length xs → x ≡ get_or xs o x → slice_get xs o ≡ Some x
+word-read xs o x h read = slice_get-get_or xs o x h ∙ ap Some (sym read)
 
 -- where the word that was read says that the object is
 pub place-read : (words : List Pointer) (o : ℕ) (word : Pointer) (at : At) → o < length words → word ≡ get_or words o word → at_of word ≡ Some at → place_of words o ≡ Some at

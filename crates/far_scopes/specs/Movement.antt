@@ -7,7 +7,7 @@ use Rattle.far_pointer.specs.declared.pointer.Pointer.{Pointer}
 use Rattle.far_pointer.specs.declared.pointer.Pointer.TheVariants.{Local, Remote}
 use Rattle.far_pointer.specs.Layout.{is_dirty, is_hot}
 use Rattle.far_scopes.specs.declared.entry.Entry.{Entry}
-use Rattle.far_scopes.specs.Recency.{has}
+use Rattle.far_scopes.specs.Recency.{has, Once}
 use Rattle.far_scopes.specs.Memory.{Memory, place_of, list_in}
 
 -- objects of lists over X, with far copies under tickets of the type K: the number that they were given, how often each
@@ -66,7 +66,7 @@ module _ {X K : Type 0} where
 
     -- the list of each object that is clean is what its ticket means
     abbrev pub AreClean : Movement X K → Type 0
-    AreClean m = (o : ℕ) → o < length m.entries → dirty m o ≡ false → list_of m o ≡ option_map meant (ticket_of m o)
+    AreClean m = (o : ℕ) → dirty m o ≡ false → list_of m o ≡ option_map meant (ticket_of m o)
 
     module _ (spelled : List X → List ℕ → Type 0) where
       -- what holds of one object, by its word, its list if it is local, and its record
@@ -84,4 +84,5 @@ module _ {X K : Type 0} where
         pub even : length m.entries ≡ length m.memory.words
         pub few : length m.entries ≤ 2 ^ 28
         pub each : (o : ℕ) (word : Pointer) (entry : Entry K) → word_of m o ≡ Some word → entry_of m o ≡ Some entry → IsTracked m.changes m.leavings word (list_in m.memory o) entry
+        pub once : Once m.order
         pub ordered : (o : ℕ) → has m.order o ≡ is_local m o

@@ -7,7 +7,7 @@ pub struct Entry<K> {
     /// The column and the row group that the object is.
     pub(crate) name: Name,
     /// How many elements its list has.
-    pub(crate) len: u32,
+    pub(crate) len: usize,
     /// How often it was written.
     pub(crate) version: u64,
     /// How often it went away.

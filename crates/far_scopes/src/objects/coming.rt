@@ -39,7 +39,7 @@ impl<T: Elem, S: FarRead> Objects<T, S> {
         }
         self.entries.push_reserved(Entry {
             name,
-            len: items.len() as u32,
+            len: items.len(),
             version: 0,
             leavings: 0,
             pins: 0,

@@ -1,0 +1,10 @@
+use Rattle.far_scopes.proofs.objects.Objects.uncreate.Goals as goal
+
+pub remove_last-requires-after_bounds : goal.remove_last-requires-after_bounds
+remove_last-requires-after_bounds g c = ?
+
+pub invariant_of-self : goal.invariant_of-self
+invariant_of-self g c = ?
+
+pub returns-clause-clean : goal.returns-clause-clean
+returns-clause-clean g c = ?
