@@ -5,4 +5,6 @@ pub mod KeyLaws
 pub mod RecencyLaws
 pub mod Tracked
 pub mod Transitions
+pub mod Touched
+pub mod Refused
 pub mod Written
