@@ -7,4 +7,5 @@ pub mod Tracked
 pub mod Transitions
 pub mod Touched
 pub mod Refused
+pub mod Overwritten
 pub mod Written

@@ -104,7 +104,7 @@ module _ {X K : Type 0} (meaning : List ℕ → List X) (content : K → List �
         (λ word is. let w = words-same m.memory o mark at-dirty_hot word is in let t = tracked.each o w.0 entry w.1 was in
           record { version = omega (arith, left); left = t.left; some = t.some; long = t.long; away = λ gone. t.away (remote-mark w.0 (sym w.2 ∙ gone)); copy = ap has_copy w.2 ∙ copy-mark w.0 ∙ t.copy; far = t.far })
 
-    dirty-written : dirty written_m o ≡ true
+    pub dirty-written : dirty written_m o ≡ true
     dirty-written = elim (cases_option (slice_get m.memory.words o)) [
       | inl none ↦ absurd (no-place (slice_get m.memory.words o) none local)
       | inr (word, is) ↦ rw (is) (ap (λ w. option_map_or is_dirty w false) (slice_get-set_same m.memory.words o (mark word) (slice_get_within m.memory.words o word is)) ∙ dirty-mark word (place-local (slice_get m.memory.words o) word is local))
@@ -115,3 +115,6 @@ module _ {X K : Type 0} (meaning : List ℕ → List X) (content : K → List �
 
     pub lists-same : (p : ℕ) → list_of meaning content written_m p ≡ list_of meaning content m p
     lists-same = lists-changed meaning content spelled m tracked o entry now was (marked m.memory o) (used m.order o) (words-other m.memory o mark at-dirty_hot) lists refl
+
+    pub local-still : is_local written_m o ≡ true
+    local-still = ap is_some (places-kept m.memory o mark at-dirty_hot o) ∙ local
