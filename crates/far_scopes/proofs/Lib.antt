@@ -8,4 +8,5 @@ pub mod Transitions
 pub mod Touched
 pub mod Refused
 pub mod Overwritten
+pub mod Pins
 pub mod Written
