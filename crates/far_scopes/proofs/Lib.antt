@@ -9,4 +9,5 @@ pub mod Touched
 pub mod Refused
 pub mod Overwritten
 pub mod Pins
+pub mod Listed
 pub mod Written
