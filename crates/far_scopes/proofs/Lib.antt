@@ -6,3 +6,4 @@ pub mod RecencyLaws
 pub mod Tracked
 pub mod Transitions
 pub mod Written
+pub mod Comings

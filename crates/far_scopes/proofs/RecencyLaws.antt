@@ -34,10 +34,10 @@ or-right false b e = e
 
 -- who is not in an order, is not in it without another
 not-without : (order : List ℕ) (o p : ℕ) → has order p ≡ false → has (without order o) p ≡ false
-not-without [] o p no = refl
-not-without (q ∷ order) o p no = elim (cases_eq o q) [
-  | inl same ↦ rw (eq-eqb o q same) (or-right (nat_eq p q) (has order p) no)
-  | inr differ ↦ rw (ne_eqb o q differ, or-left (nat_eq p q) (has order p) no) (not-without order o p (or-right (nat_eq p q) (has order p) no))
+not-without [] o p absent = absent
+not-without (q ∷ order) o p absent = elim (cases_eq o q) [
+  | inl same ↦ rw (eq-eqb o q same) (or-right (nat_eq p q) (has order p) absent)
+  | inr differ ↦ rw (ne_eqb o q differ, or-left (nat_eq p q) (has order p) absent) (not-without order o p (or-right (nat_eq p q) (has order p) absent))
 ]
 
 pub once-without : (order : List ℕ) (o : ℕ) → Once order → Once (without order o)
@@ -54,13 +54,13 @@ has-used order o p = elim (cases_Bool (has order o)) [
     | inl same ↦ ap (has (o ∷ without order o)) same ∙ has-cons_same (without order o) o ∙ sym there ∙ ap (has order) (sym same)
     | inr ne ↦ has-cons_other (without order o) o p ne ∙ has-without_other order o p ne
   ]
-  | inr not ↦ ap (λ b. has (cond b (o ∷ without order o) order) p) not
+  | inr gone ↦ ap (λ b. has (cond b (o ∷ without order o) order) p) gone
 ]
 
 pub once-used : (order : List ℕ) (o : ℕ) → Once order → Once (used order o)
 once-used order o once = elim (cases_Bool (has order o)) [
   | inl there ↦ rw there (has-without_same order o once, once-without order o once)
-  | inr not ↦ rw not once
+  | inr gone ↦ rw gone once
 ]
 
 -- an object that came and goes again
