@@ -1,6 +1,6 @@
 -- Where the words say that objects are, once one of them changes.
-use Rattle.std.proofs.Common.{inl, inr, ◌≡◌, ◌≢◌, ℕ, zero, suc, ◌+◌, ◌<◌, List, [], ◌∷◌, ◌++◌, length, Option, Some, None, refl, ap, sym, subst, ◌∙◌, ◌-◌, length-append, arith, IsSome, get_or}
-use Rattle.std.specs.Prelude.{slice_get, slice_set, take}
+use Rattle.std.proofs.Common.{inl, inr, true, ◌≡◌, ◌≢◌, ℕ, zero, suc, ◌+◌, ◌<◌, List, [], ◌∷◌, ◌++◌, length, Option, Some, None, refl, ap, sym, subst, ◌∙◌, ◌-◌, length-append, arith, IsSome, get_or}
+use Rattle.std.specs.Prelude.{is_some, slice_get, slice_set, take}
 use Rattle.std.specs.Option.{option_and_then}
 use Rattle.far_pointer.specs.declared.pointer.At.{At}
 use Rattle.far_pointer.specs.declared.pointer.Pointer.{Pointer}
@@ -73,3 +73,13 @@ list-within memory o h = elim (cases_lt o (length memory.words)) [
   | inl within ↦ within
   | inr past ↦ absurd (let none : list_in memory o ≡ None = rw (slice_get_past memory.words o past) refl in let k = subst IsSome none h in cc)
 ]
+
+pub place-within : (words : List Pointer) (o : ℕ) → IsSome (place_of words o) → o < length words
+place-within words o h = elim (cases_lt o (length words)) [
+  | inl within ↦ within
+  | inr past ↦ absurd (let none : place_of words o ≡ None = rw (slice_get_past words o past) refl in let k = subst IsSome none h in cc)
+]
+
+pub some-true : {A : Type 0} (o : Option A) → is_some o ≡ true → IsSome o
+some-true None h = cc
+some-true (Some x) h = refl

@@ -1,5 +1,5 @@
 // Objects that are made, and the last one unmade.
-ghost use Rattle.std.specs.Prelude.{◌≡◌, ◌-◌, ◌<◌, ◌^◌, ◌↔◌, ◌⊎◌, length, false, true, Some, OnOk, OnErr, IfOk, IfErr, IsErrOf};
+ghost use Rattle.std.specs.Prelude.{◌≡◌, ◌-◌, ◌<◌, ◌^◌, ◌↔◌, ◌⊎◌, length, false, true, Some, None, OnOk, OnErr, IfOk, IfErr, IsErrOf};
 ghost use Rattle.far_log.specs.Room.{fits_in};
 ghost use Rattle.far_scopes.specs.Memory.{ChangesList};
 ghost use Rattle.far_scopes.specs.Movement.{list_of, AreClean, is_local, pins_of};
@@ -53,6 +53,7 @@ impl<T: Elem, S: FarRead> Objects<T, S> {
         requires local { is_local self.old (length self.old.entries - 1) ≡ true }
         requires unpinned { pins_of self.old (length self.old.entries - 1) ≡ 0 }
         ensures uncreated { self.new ≡ uncreated self.old }
+        ensures list { ChangesList (list_of T.meaning S.content self.old) (list_of T.meaning S.content self.new) (length self.old.entries - 1) None }
         ensures clean { AreClean T.meaning S.content self.old → AreClean T.meaning S.content self.new }
     {
         self.memory.remove_last();

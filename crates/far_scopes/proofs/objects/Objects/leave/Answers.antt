@@ -1,7 +1,7 @@
 use Rattle.far_scopes.proofs.objects.Objects.leave.Goals as goal
 
 pub invariant_of-self : goal.invariant_of-self
-invariant_of-self g c = ?
+invariant_of-self g c = let a = c.requires.here in let b = c.again.ensures in ?
 
 pub returns-clause-departed : goal.returns-clause-departed
 returns-clause-departed g c = ?
