@@ -7,3 +7,5 @@ pub mod Tracked
 pub mod Transitions
 pub mod Written
 pub mod Comings
+pub mod Departures
+pub mod Arrivals
