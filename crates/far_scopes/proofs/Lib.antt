@@ -5,6 +5,9 @@ pub mod KeyLaws
 pub mod RecencyLaws
 pub mod Tracked
 pub mod Transitions
+pub mod Touched
+pub mod Refused
+pub mod Overwritten
 pub mod Written
 pub mod Comings
 pub mod Departures

@@ -1,6 +1,6 @@
 -- What holds of all objects, once one of them is pinned, used, written, goes away or comes back.
 use Rattle.std.proofs.Common.{◌≡◌, ◌≢◌, ℕ, ◌+◌, ◌-◌, ◌≤◌, ◌<◌, ◌^◌, Bool, true, false, inl, inr, List, [], ◌∷◌, ◌++◌, length, Option, Some, None, IsSome, refl, sym, ap, subst, ◌∙◌, arith}
-use Rattle.std.specs.Prelude.{is_some, slice_get, slice_set, option_map, IsSomeAnd, IfSome}
+use Rattle.std.specs.Prelude.{not, is_some, slice_get, slice_set, option_map, IsSomeAnd, IfSome}
 use Rattle.std.specs.Option.{option_map_or, option_and_then, option_or}
 use Rattle.std.proofs.lemmas.Bool.{cases_eq}
 use Rattle.std.proofs.lemmas.List.{length-set}
@@ -10,13 +10,19 @@ use Rattle.far_pointer.specs.declared.pointer.Pointer.TheVariants.{Remote}
 use Rattle.far_pointer.specs.Layout.{is_dirty}
 use Rattle.far_scopes.specs.declared.entry.Entry.{Entry}
 use Rattle.far_scopes.specs.Recency.{has, Once}
-use Rattle.far_scopes.specs.Memory.{Memory, place_of, list_in, ChangesList}
+use Rattle.far_scopes.specs.Placing.{with_word}
+use Rattle.far_scopes.proofs.Places.{cases_option, none_or_some}
+use Rattle.far_scopes.specs.Memory.{Memory, at_of, place_of, list_in, ChangesList}
 use Rattle.far_scopes.specs.Movement.{Movement, word_of, entry_of, is_local, dirty, ticket_of, list_of, AreClean, IsTracked, AreTracked}
 use Rattle.far_scopes.proofs.WordPlaces.{slice_get-set_other, slice_get-set_same}
 use Rattle.far_scopes.proofs.Tracked.{Others, clean-one, list-one, lists-kept, each-one}
 
 pub some-one : {A : Type 0} {x y : A} (o : Option A) → o ≡ Some x → o ≡ Some y → y ≡ x
 some-one o e f = cc
+
+pub true-or-false : (b : Bool) → not b ≡ false → b ≡ false → ⊥
+true-or-false true local away = cc
+true-or-false false local away = cc
 
 module _ {X K : Type 0} (meaning : List ℕ → List X) (content : K → List ℕ) (spelled : List X → List ℕ → Type 0) (m : Movement X K) (tracked : AreTracked meaning content spelled m) (o : ℕ) (entry now : Entry K) (was : entry_of m o ≡ Some entry) where
   -- the records once that of object o is another
@@ -72,3 +78,32 @@ pub tracked-pins : {X K : Type 0} (meaning : List ℕ → List X) (content : K �
     → IsTracked meaning content spelled changes leavings word list entry → (word ≡ Remote → pins ≡ 0) → IsTracked meaning content spelled changes leavings word list record entry { pins = pins }
 tracked-pins meaning content spelled changes leavings word list entry pins t away =
     record { version = t.version; left = t.left; some = t.some; long = t.long; away = λ is. (away is, (t.away is).1); copy = t.copy; far = t.far }
+
+-- the words once one of them is marked as it is used or written: which objects are local stays
+module _ {X : Type 0} (memory : Memory X) (o : ℕ) (change : Pointer → Pointer) (same : (word : Pointer) → at_of (change word) ≡ at_of word) where
+  pub words-other : (p : ℕ) → p ≢ o → slice_get (with_word memory o change).words p ≡ slice_get memory.words p
+  words-other p ne = elim (cases_option (slice_get memory.words o)) [
+    | inl none ↦ rw none refl
+    | inr (word, is) ↦ rw is (slice_get-set_other memory.words o p (change word) ne)
+  ]
+
+  pub words-same : (word : Pointer) → slice_get (with_word memory o change).words o ≡ Some word → (old : Pointer) × (slice_get memory.words o ≡ Some old) × (word ≡ change old)
+  words-same word now = elim (cases_option (slice_get memory.words o)) [
+    | inl none ↦ absurd (none_or_some (slice_get memory.words o) none (subst (λ (words : List Pointer). slice_get words o ≡ Some word) (rw none refl) now))
+    | inr (old, is) ↦ (old, is, some-one (slice_get (slice_set memory.words o (change old)) o) (slice_get-set_same memory.words o (change old) (slice_get_within memory.words o old is)) (subst (λ (words : List Pointer). slice_get words o ≡ Some word) (rw is refl) now))
+  ]
+
+  pub words-length : length (with_word memory o change).words ≡ length memory.words
+  words-length = elim (cases_option (slice_get memory.words o)) [
+    | inl none ↦ rw none refl
+    | inr (old, is) ↦ rw is (length-set memory.words o (change old))
+  ]
+
+  pub places-kept : (p : ℕ) → place_of (with_word memory o change).words p ≡ place_of memory.words p
+  places-kept p = elim (cases_option (slice_get memory.words o)) [
+    | inl none ↦ rw none refl
+    | inr (old, is) ↦ rw is (elim (cases_eq p o) [
+      | inl e ↦ subst (λ k. place_of (slice_set memory.words o (change old)) k ≡ place_of memory.words k) (sym e) (ap (option_and_then at_of) (slice_get-set_same memory.words o (change old) (slice_get_within memory.words o old is)) ∙ same old ∙ sym (ap (option_and_then at_of) is))
+      | inr ne ↦ ap (option_and_then at_of) (slice_get-set_other memory.words o p (change old) ne)
+    ])
+  ]

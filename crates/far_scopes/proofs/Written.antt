@@ -22,7 +22,7 @@ pub some-within : {A : Type 0} (P : A → Type 0) (o : Option A) → IsSomeAnd o
 some-within P None h = absurd h
 some-within P (Some x) h = refl
 
-some-and : {A : Type 0} (P Q : A → Type 0) (o : Option A) → ((x : A) → P x → Q x) → IsSomeAnd o P → IsSomeAnd o Q
+pub some-and : {A : Type 0} (P Q : A → Type 0) (o : Option A) → ((x : A) → P x → Q x) → IsSomeAnd o P → IsSomeAnd o Q
 some-and P Q None f h = absurd h
 some-and P Q (Some x) f h = f x h
 

@@ -60,7 +60,7 @@ impl<T: Elem> LocalMemory<T> {
 
     /// The list of an object that is local.
     pub fn lend(&self, o: usize) -> &[T]
-        requires { IsSome (list_in self.now o) }
+        requires { IsSome (place_of self.now.words o) }
         ensures { list_in self.now o ≡ Some result.now }
     {
         self.region.part(at_of(self.words[o]))

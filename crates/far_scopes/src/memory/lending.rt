@@ -1,7 +1,7 @@
 // Lists lent to be written.
 ghost use Rattle.std.specs.Prelude.{◌≡◌, ℕ, ◌-◌, ◌≤◌, ◌++◌, List, length, take, drop, slice_range, Some, IsSome, IsSomeAnd};
 ghost use Rattle.std.specs.Borrow.{sem};
-ghost use Rattle.far_scopes.specs.Memory.{list_in, ChangesList};
+ghost use Rattle.far_scopes.specs.Memory.{place_of, list_in, ChangesList};
 ghost use Rattle.far_scopes.specs.Placing.{overwritten};
 ghost use Rattle.far_scopes.specs.Lending.{lends_part};
 
@@ -11,7 +11,7 @@ use far_codec::Elem;
 impl<T: Elem> LocalMemory<T> {
     /// The list of object `o`, which is local, lent to be written.
     pub fn lend_mut(&mut self, o: usize) -> &mut [T]
-        requires { IsSome (list_in self.old o) }
+        requires { IsSome (place_of self.old.words o) }
         ensures* writes_back { sem 𝓛 (lends_part T.row self.entry o 0 result) }
         ensures lent { list_in self.old o ≡ Some result.now }
         ensures alone { (list : List T) → length list ≡ length result.now → ChangesList (list_in self.old) (list_in (overwritten self.old o 0 list)) o (Some list) }

@@ -1,8 +1,8 @@
 // Lists lent in place.
-ghost use Rattle.std.specs.Prelude.{◌≡◌, ℕ, ◌-◌, ◌<◌, ◌≤◌, ◌++◌, List, length, take, drop, slice_range, Some, None, IfOk, IsSomeAnd};
+ghost use Rattle.std.specs.Prelude.{◌≡◌, ℕ, ◌-◌, ◌<◌, ◌≤◌, ◌++◌, List, length, take, drop, slice_range, true, Some, None, IfOk, IsSomeAnd};
 ghost use Rattle.std.specs.Borrow.{sem};
 ghost use Rattle.far_scopes.specs.Memory.{list_in, ChangesList};
-ghost use Rattle.far_scopes.specs.Movement.{list_of, is_local, AreClean};
+ghost use Rattle.far_scopes.specs.Movement.{list_of, dirty, is_local, AreClean};
 ghost use Rattle.std.specs.Prelude.{not};
 ghost use Rattle.far_scopes.specs.Refusing.{refusal_in, absent, lend_refusal, write_refusal};
 ghost use Rattle.far_scopes.specs.Effects.{written, overwritten};
@@ -63,11 +63,32 @@ impl<T: Elem, S: FarRead> Objects<T, S> {
         memory.lend_mut(o as usize)
     }
 
+    /// The elements `from` to `to` of an object that may be written, lent in place to be written. Takes no memory.
+    ///
+    /// The object counts as written, as with `lend_mut`.
+    pub fn lend_range_mut(&mut self, o: u32, from: usize, to: usize) -> &mut [T]
+        requires within { o < length self.old.entries }
+        requires free { write_refusal self.old o ≡ None }
+        requires ordered { from ≤ to }
+        requires there { IsSomeAnd (list_in self.old.memory o) (λ list. to ≤ length list) }
+        ensures* writes_back { sem 𝓛 (lends_written T.row S.row S.Ticket.row T.Elem S.FarRead self.entry o from result) }
+        ensures lent { IsSomeAnd (list_in self.old.memory o) (λ list. result.now ≡ slice_range list from to) }
+        ensures alone { IsSomeAnd (list_in self.old.memory o) (λ list. (range : List T) → length range ≡ to - from → ChangesList (list_of T.meaning S.content self.old) (list_of T.meaning S.content (overwritten (written self.old o) o from range)) o (Some (take from list ++ (range ++ drop to list)))) }
+        ensures clean { (range : List T) → length range ≡ to - from → AreClean T.meaning S.content self.old → AreClean T.meaning S.content (overwritten (written self.old o) o from range) }
+    {
+        self.mark(o);
+        let memory = &mut self.memory;
+        memory.lend_range_mut(o as usize, from, to)
+    }
+
     // The object counts as written.
     pub(super) fn mark(&mut self, o: u32)
         requires within { o < length self.old.entries }
         requires free { write_refusal self.old o ≡ None }
         ensures written { self.new ≡ written self.old o }
+        ensures dirty { dirty self.new o ≡ true }
+        ensures local { is_local self.new o ≡ true }
+        ensures parts { (p : ℕ) → list_in self.new.memory p ≡ list_in self.old.memory p }
         ensures lists { (p : ℕ) → list_of T.meaning S.content self.new p ≡ list_of T.meaning S.content self.old p }
         ensures clean { AreClean T.meaning S.content self.old → AreClean T.meaning S.content self.new }
     {

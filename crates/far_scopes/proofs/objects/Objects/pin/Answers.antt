@@ -3,7 +3,7 @@ use Rattle.std.proofs.lemmas.Bool.{ne_eqb}
 use Rattle.far_pointer.specs.declared.pointer.Pointer.TheVariants.{Remote}
 use Rattle.far_scopes.specs.Movement.{entry_of, is_local, pins_of, AreTracked, AreClean}
 use Rattle.far_scopes.proofs.WordPlaces.{word-read}
-use Rattle.far_scopes.proofs.Transitions.{tracked-recorded, tracked-pins, clean-recorded}
+use Rattle.far_scopes.proofs.Transitions.{tracked-recorded, tracked-pins, clean-recorded, true-or-false}
 use Rattle.far_scopes.proofs.objects.Objects.pin.Goals as goal
 
 pub invariant_of-self-2 : goal.invariant_of-self-2
@@ -11,7 +11,7 @@ invariant_of-self-2 g c =
     let within = subst (λ m. c.args.o < length m.entries) (sym c.self.view_is) c.requires in
     let was = word-read c.self.inside.entries.items c.args.o c.index_mut-entry.result.now within c.index_mut-entry.ensures.value in
     tracked-recorded g.T.Elem.meaning g.S.FarRead.content _ _ c.self.invariant c.args.o c.index_mut-entry.result.now _ was
-      (λ word is. tracked-pins g.T.Elem.meaning g.S.FarRead.content _ _ _ word _ c.index_mut-entry.result.now _ (c.self.invariant.each c.args.o word c.index_mut-entry.result.now is was) ?)
+      (λ word is. tracked-pins g.T.Elem.meaning g.S.FarRead.content _ _ _ word _ c.index_mut-entry.result.now _ (c.self.invariant.each c.args.o word c.index_mut-entry.result.now is was) (λ away. absurd (true-or-false (is_local c.args.self.now c.args.o) (sym c.if-is_away.ensures) (rw (← c.self.view_is, is, away) refl))))
 
 pub returns-clause-pinned : goal.returns-clause-pinned
 returns-clause-pinned g c =
