@@ -12,3 +12,4 @@ pub mod Written
 pub mod Comings
 pub mod Departures
 pub mod Arrivals
+pub mod Replacements

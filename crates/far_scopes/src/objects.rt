@@ -8,6 +8,7 @@ mod coming;
 mod lending;
 mod moving;
 mod pins;
+mod replacing;
 
 use super::entry::Entry;
 use super::memory::LocalMemory;
