@@ -13,3 +13,4 @@ pub mod Comings
 pub mod Departures
 pub mod Arrivals
 pub mod Replacements
+pub mod Undone

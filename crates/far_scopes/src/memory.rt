@@ -71,6 +71,7 @@ impl<T: Elem> LocalMemory<T> {
         requires some { 0 < length items.now }
         ensures ok { OnOk result (self.new ≡ added self.old items.now) }
         ensures list { OnOk result (ChangesList (list_in self.old) (list_in self.new) (length self.old.words) (Some items.now)) }
+        ensures undone { OnOk result (removed self.new ≡ self.old) }
         ensures full { IsErrOf result Refusal.RegionFull ↔ (fits_in self.old.room (length items.now) ≡ false) }
         ensures refused { IfErr result (λ e. (e ≡ Refusal.RegionFull) ⊎ (e ≡ Refusal.NoMemory)) }
         ensures err { OnErr result (self.new ≡ self.old) }

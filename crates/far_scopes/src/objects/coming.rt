@@ -12,7 +12,7 @@ use far_types::{Name, Refusal};
 
 impl<T: Elem, S: FarRead> Objects<T, S> {
     /// Makes an object of this list, and answers its number, which is the next: it is local, dirty, hot and used last,
-    /// and was never written, away or pinned.
+    /// and was never written, away or pinned. `uncreate` undoes it (`undone`).
     ///
     /// Refused with `RegionFull` (17) exactly where no segment has the space, else with `NoMemory` (1) alone; then nothing
     /// is changed.
@@ -22,6 +22,7 @@ impl<T: Elem, S: FarRead> Objects<T, S> {
         ensures number { IfOk result (λ o. o ≡ length self.old.entries) }
         ensures created { OnOk result (self.new ≡ created self.old name items.now) }
         ensures list { OnOk result (ChangesList (list_of T.meaning S.content self.old) (list_of T.meaning S.content self.new) (length self.old.entries) (Some items.now)) }
+        ensures undone { OnOk result (uncreated self.new ≡ self.old) }
         ensures clean { AreClean T.meaning S.content self.old → AreClean T.meaning S.content self.new }
         ensures full { IsErrOf result Refusal.RegionFull ↔ (fits_in self.old.memory.room (length items.now) ≡ false) }
         ensures refused { IfErr result (λ e. (e ≡ Refusal.RegionFull) ⊎ (e ≡ Refusal.NoMemory)) }

@@ -1,6 +1,8 @@
 use Rattle.std.proofs.Common.{◌≡◌, ◌<◌, ◌^◌, ◌++◌, ◌∷◌, [], length, true, false, refl, sym, ap, subst, ◌∙◌}
 use Rattle.far_pointer.specs.declared.pointer.Pointer.TheVariants.{Local}
 use Rattle.far_scopes.specs.Movement.{list_of, AreClean}
+use Rattle.far_scopes.specs.Placing.{removed}
+use Rattle.far_scopes.proofs.Undone.{uncreated-created}
 use Rattle.far_scopes.proofs.Comings.{tracked-made, lists-made, clean-made}
 use Rattle.far_scopes.proofs.objects.Objects.create.Goals as goal
 
@@ -12,3 +14,8 @@ returns-clause-list g c = rw (← c.self.view_is, c.push_reserved.ensures.items,
 
 pub returns-clause-clean : goal.returns-clause-clean
 returns-clause-clean g c = rw (← c.self.view_is, c.push_reserved.ensures.items, c.reserve.ensures.items) (clean-made g.T.Elem.meaning g.S.FarRead.content _ _ c.self.invariant c.add-2.new.self _ c.args.name c.args.items.now (ap (λ m. m.words) c.in_default.ensures.ok) c.in_default.ensures.list)
+
+pub returns-clause-undone : goal.returns-clause-undone
+returns-clause-undone g c =
+    let back = subst (λ memory. removed memory ≡ c.self.inside.memory) c.in_default.ensures.ok c.in_default.ensures.undone in
+    rw (← c.self.view_is, c.push_reserved.ensures.items, c.in_ok-add.ensures.ok, c.len-o.ensures, c.reserve.new.self.ok.0, c.reserve.ensures.items, c.in_default.ensures.ok) (uncreated-created _ c.args.name c.args.items.now back)
