@@ -8,8 +8,10 @@ pub mod Transitions
 pub mod Touched
 pub mod Refused
 pub mod Overwritten
+pub mod Pins
 pub mod Written
 pub mod Comings
+pub mod Unmade
 pub mod Departures
 pub mod Arrivals
 pub mod Replacements

@@ -29,3 +29,7 @@ module _ {X K : Type 0} (m : Movement X K) (o : ℕ) where
 
   pub left-written : write_refusal m o ≡ None → version_of m o < m.changes
   left-written free = ltb-true (version_of m o) m.changes (not-not (nat_lt (version_of m o) m.changes) (none-two (not (is_local m o)) (written_out m o).0 (absent m o).1 (written_out m o).1 free).1)
+
+pub away-is : (b : Bool) → true ≡ not b → b ≡ false
+away-is true is = cc
+away-is false is = refl

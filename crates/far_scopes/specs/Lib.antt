@@ -6,3 +6,4 @@ pub mod Movement
 pub mod Refusing
 pub mod Effects
 pub mod ObjectsLending
+pub mod Entering

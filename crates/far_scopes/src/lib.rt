@@ -5,6 +5,8 @@ mod entry;
 mod memory;
 mod objects;
 mod recency;
+mod scope;
 
 pub use entry::Entry;
 pub use objects::Objects;
+pub use scope::Scope;

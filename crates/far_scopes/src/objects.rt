@@ -9,6 +9,7 @@ mod lending;
 mod moving;
 mod pins;
 mod replacing;
+mod scopes;
 
 use super::entry::Entry;
 use super::memory::LocalMemory;
