@@ -11,3 +11,9 @@ pub mod Overwritten
 pub mod Pins
 pub mod Listed
 pub mod Written
+pub mod Comings
+pub mod Unmade
+pub mod Departures
+pub mod Arrivals
+pub mod Replacements
+pub mod Undone

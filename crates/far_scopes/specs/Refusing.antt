@@ -5,6 +5,7 @@ use Rattle.std.specs.Option.{option_map_or}
 use Rattle.far_types.specs.declared.refusal.Refusal.{Refusal}
 use Rattle.far_types.specs.declared.refusal.Refusal.TheVariants as refusal
 use Rattle.far_types.specs.FirstOf.{first_of}
+use Rattle.far_log.specs.Room.{fits_in}
 use Rattle.far_scopes.specs.Movement.{Movement, entry_of, is_local, version_of, pins_of}
 
 -- the refusal that a call answered
@@ -36,3 +37,10 @@ module _ {X K : Type 0} (m : Movement X K) (o : ℕ) where
 
   abbrev pub unpin_refusal : Option Refusal
   unpin_refusal = first_of ((pins_of m o == 0, refusal.NotPinned) ∷ [])
+
+  -- no segment takes a list of n elements
+  abbrev pub no_room : ℕ → Bool × Refusal
+  no_room n = (not (fits_in m.memory.room n), refusal.RegionFull)
+
+  abbrev pub replace_refusal : ℕ → Option Refusal
+  replace_refusal n = first_of (absent ∷ no_room n ∷ written_out ∷ [])

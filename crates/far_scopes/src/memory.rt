@@ -71,6 +71,7 @@ impl<T: Elem> LocalMemory<T> {
         requires some { 0 < length items.now }
         ensures ok { OnOk result (self.new ≡ added self.old items.now) }
         ensures list { OnOk result (ChangesList (list_in self.old) (list_in self.new) (length self.old.words) (Some items.now)) }
+        ensures undone { OnOk result (removed self.new ≡ self.old) }
         ensures full { IsErrOf result Refusal.RegionFull ↔ (fits_in self.old.room (length items.now) ≡ false) }
         ensures refused { IfErr result (λ e. (e ≡ Refusal.RegionFull) ⊎ (e ≡ Refusal.NoMemory)) }
         ensures err { OnErr result (self.new ≡ self.old) }
@@ -86,7 +87,7 @@ impl<T: Elem> LocalMemory<T> {
 
     /// Object `o` is away from now on, and its part is gone.
     pub fn send_away(&mut self, o: usize)
-        requires { IsSome (list_in self.old o) }
+        requires { IsSome (place_of self.old.words o) }
         ensures away { self.new ≡ sent_away self.old o }
         ensures list { ChangesList (list_in self.old) (list_in self.new) o None }
     {
@@ -97,7 +98,7 @@ impl<T: Elem> LocalMemory<T> {
 
     /// Takes the last object away, which is local.
     pub fn remove_last(&mut self)
-        requires { IsSome (list_in self.old (length self.old.words - 1)) }
+        requires { IsSome (place_of self.old.words (length self.old.words - 1)) }
         ensures removed { self.new ≡ removed self.old }
         ensures list { ChangesList (list_in self.old) (list_in self.new) (length self.old.words - 1) None }
     {
@@ -126,7 +127,7 @@ impl<T: Elem> LocalMemory<T> {
     /// is changed.
     pub fn replace(&mut self, o: usize, items: &[T]) -> Result<(), Refusal>
         requires some { 0 < length items.now }
-        requires local { IsSome (list_in self.old o) }
+        requires local { IsSome (place_of self.old.words o) }
         ensures ok { OnOk result (self.new ≡ replaced self.old o items.now) }
         ensures list { OnOk result (ChangesList (list_in self.old) (list_in self.new) o (Some items.now)) }
         ensures full { IsErrOf result Refusal.RegionFull ↔ (fits_in self.old.room (length items.now) ≡ false) }

@@ -8,6 +8,7 @@ mod coming;
 mod lending;
 mod moving;
 mod pins;
+mod replacing;
 mod scopes;
 
 use super::entry::Entry;

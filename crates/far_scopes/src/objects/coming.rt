@@ -1,5 +1,5 @@
 // Objects that are made, and the last one unmade.
-ghost use Rattle.std.specs.Prelude.{◌≡◌, ◌-◌, ◌<◌, ◌^◌, ◌↔◌, ◌⊎◌, length, false, true, Some, OnOk, OnErr, IfOk, IfErr, IsErrOf};
+ghost use Rattle.std.specs.Prelude.{◌≡◌, ◌-◌, ◌<◌, ◌^◌, ◌↔◌, ◌⊎◌, length, false, true, Some, None, OnOk, OnErr, IfOk, IfErr, IsErrOf};
 ghost use Rattle.far_log.specs.Room.{fits_in};
 ghost use Rattle.far_scopes.specs.Memory.{ChangesList};
 ghost use Rattle.far_scopes.specs.Movement.{list_of, AreClean, is_local, pins_of};
@@ -12,7 +12,7 @@ use far_types::{Name, Refusal};
 
 impl<T: Elem, S: FarRead> Objects<T, S> {
     /// Makes an object of this list, and answers its number, which is the next: it is local, dirty, hot and used last,
-    /// and was never written, away or pinned.
+    /// and was never written, away or pinned. `uncreate` undoes it (`undone`).
     ///
     /// Refused with `RegionFull` (17) exactly where no segment has the space, else with `NoMemory` (1) alone; then nothing
     /// is changed.
@@ -22,6 +22,7 @@ impl<T: Elem, S: FarRead> Objects<T, S> {
         ensures number { IfOk result (λ o. o ≡ length self.old.entries) }
         ensures created { OnOk result (self.new ≡ created self.old name items.now) }
         ensures list { OnOk result (ChangesList (list_of T.meaning S.content self.old) (list_of T.meaning S.content self.new) (length self.old.entries) (Some items.now)) }
+        ensures undone { OnOk result (uncreated self.new ≡ self.old) }
         ensures clean { AreClean T.meaning S.content self.old → AreClean T.meaning S.content self.new }
         ensures full { IsErrOf result Refusal.RegionFull ↔ (fits_in self.old.memory.room (length items.now) ≡ false) }
         ensures refused { IfErr result (λ e. (e ≡ Refusal.RegionFull) ⊎ (e ≡ Refusal.NoMemory)) }
@@ -53,6 +54,7 @@ impl<T: Elem, S: FarRead> Objects<T, S> {
         requires local { is_local self.old (length self.old.entries - 1) ≡ true }
         requires unpinned { pins_of self.old (length self.old.entries - 1) ≡ 0 }
         ensures uncreated { self.new ≡ uncreated self.old }
+        ensures list { ChangesList (list_of T.meaning S.content self.old) (list_of T.meaning S.content self.new) (length self.old.entries - 1) None }
         ensures clean { AreClean T.meaning S.content self.old → AreClean T.meaning S.content self.new }
     {
         self.memory.remove_last();
