@@ -1,0 +1,115 @@
+-- What holds of all objects once one comes back.
+use Rattle.std.proofs.Common.{◌≡◌, ◌≢◌, ℕ, zero, suc, ◌+◌, ◌<◌, get_or, Bool, true, false, inl, inr, List, [], ◌∷◌, ◌++◌, length, Option, Some, None, IsSome, refl, sym, ap, subst, ◌∙◌, arith}
+use Rattle.std.specs.Prelude.{is_some, slice_get, slice_set, option_map, All, IsSomeAnd, IfSome}
+use Rattle.std.specs.Option.{option_map_or, option_and_then}
+use Rattle.std.proofs.lemmas.Bool.{cases_eq}
+use Rattle.std.proofs.lemmas.List.{length-set}
+use Rattle.std.proofs.lemmas.Option.{slice_get-get_or}
+use Rattle.far_pointer.specs.declared.pointer.At.{At}
+use Rattle.far_pointer.specs.declared.pointer.Pointer.{Pointer}
+use Rattle.far_pointer.specs.declared.pointer.Pointer.TheVariants.{Local, Remote}
+use Rattle.far_codec.specs.Spelling.{IsSpelled}
+use Rattle.far_scopes.specs.declared.entry.Entry.{Entry}
+use Rattle.far_scopes.specs.Recency.{has, without, Once}
+use Rattle.far_scopes.specs.Memory.{Memory, at_of, place_of, list_in, ChangesList}
+use Rattle.far_scopes.specs.Movement.{Movement, word_of, entry_of, is_local, dirty, pins_of, leavings_of, ticket_of, list_of, AreClean, IsTracked, AreTracked}
+use Rattle.far_scopes.proofs.WordPlaces.{word-read, list-within, slice_get-set_same, slice_get-set_other, place-set_same, place-set_other}
+use Rattle.far_scopes.proofs.RecencyLaws.{has-cons_same, has-cons_other, has-without_same, has-without_other, once-without}
+use Rattle.far_scopes.proofs.Tracked.{Others, clean-one, lists-kept, each-one}
+use Rattle.far_scopes.proofs.Places.{cases_option}
+use Rattle.far_scopes.proofs.Departures.{word-there}
+use Rattle.far_scopes.proofs.Transitions.{some-one}
+
+remote-is : (word : Pointer) → is_some (at_of word) ≡ false → word ≡ Remote
+remote-is (Local at d h f) away = cc
+remote-is Remote away = refl
+
+-- an object that has a number and is away has the word that says so
+pub word-away : (words : List Pointer) (o : ℕ) → o < length words → is_some (place_of words o) ≡ false → slice_get words o ≡ Some Remote
+word-away words o within away =
+    let (word, is) = word-there words o within in
+    is ∙ ap Some (remote-is word (sym (ap (λ w. is_some (option_and_then at_of w)) is) ∙ away))
+
+pub not-within : {A : Type 0} (xs : List A) (i : ℕ) → i < length xs → slice_get xs i ≡ None → ⊥
+not-within [] i within none = absurd (omega (arith, within))
+not-within (x ∷ xs) zero within none = cc
+not-within (x ∷ xs) (suc i) within none = not-within xs i (omega (arith, within)) none
+
+module _ {X K : Type 0} (meaning : List ℕ → List X) (content : K → List ℕ) (spelled : List X → List ℕ → Type 0) (m : Movement X K) (tracked : AreTracked meaning content spelled m) (o : ℕ) where
+  -- an object that is away comes back with the list that its ticket means
+  module _ (within : o < length m.entries) (list : List X) (away : is_local m o ≡ false) (means : list_of meaning content m o ≡ Some list) where
+    abbrev entry-there : (e : Entry K) × (entry_of m o ≡ Some e)
+    entry-there = elim (cases_option (entry_of m o)) [
+      | inl none ↦ absurd (not-within m.entries o within none)
+      | inr some ↦ some
+    ]
+
+    abbrev entry : Entry K
+    entry = entry-there.0
+
+    was : entry_of m o ≡ Some entry
+    was = entry-there.1
+
+    its-word : o < length m.memory.words
+    its-word = subst (λ n. o < n) tracked.even within
+
+    pub word-was : word_of m o ≡ Some Remote
+    word-was = word-away m.memory.words o its-word away
+
+    list-was : list_in m.memory o ≡ None
+    list-was = rw word-was refl
+
+    ticket-was : option_map (λ ticket. meaning (content ticket)) entry.ticket ≡ Some list
+    ticket-was = rw (← means, list-was, was) refl
+
+    long-was : (ticket : Option K) → option_map (λ k. meaning (content k)) ticket ≡ Some list → IsSomeAnd ticket (λ k. length (meaning (content k)) ≡ entry.len) → length list ≡ entry.len
+    long-was None is h = cc
+    long-was (Some k) is h = let same : Some (meaning (content k)) ≡ Some list = is in cc
+
+    pub long-back : length list ≡ entry.len
+    long-back = long-was entry.ticket ticket-was ((tracked.each o Remote entry word-was was).away refl).1
+
+    pub some-back : 0 < length list
+    some-back = subst (λ n. 0 < n) (sym long-back) (tracked.each o Remote entry word-was was).some
+
+    module _ (memory : Memory X) (at : At) (words : memory.words ≡ slice_set m.memory.words o (Local at false true true)) (change : ChangesList (list_in m.memory) (list_in memory) o (Some list)) where
+      -- the objects once it is back
+      abbrev back : Movement X K
+      back = record m { memory = memory; order = o ∷ m.order }
+
+      word-back : word_of back o ≡ Some (Local at false true true)
+      word-back = rw words (slice_get-set_same m.memory.words o (Local at false true true) its-word)
+
+      words-back : (p : ℕ) → p ≢ o → word_of back p ≡ word_of m p
+      words-back p ne = rw words (slice_get-set_other m.memory.words o p (Local at false true true) ne)
+
+      others-back : Others meaning content m back o
+      others-back = record { words = words-back; entries = λ p ne. refl; lists = change.others }
+
+      pub lists-back : (p : ℕ) → list_of meaning content back p ≡ list_of meaning content m p
+      lists-back = lists-kept meaning content m back o others-back (rw (change.here, means) refl)
+
+      pub clean-back : AreClean meaning content m → AreClean meaning content back
+      clean-back clean = clean-one meaning content m back o others-back clean (λ c. rw (change.here, was, ticket-was) refl)
+
+      ordered-back : (p : ℕ) → has (o ∷ m.order) p ≡ is_local back p
+      ordered-back p = elim (cases_eq p o) [
+        | inl same ↦ subst (λ k. has (o ∷ m.order) k ≡ is_local back k) (sym same) (has-cons_same m.order o ∙ rw word-back refl)
+        | inr ne ↦ has-cons_other m.order o p ne ∙ tracked.ordered p ∙ rw (words-back p ne) refl
+      ]
+
+      tracked-one-back : IsTracked meaning content spelled m.changes m.leavings (Local at false true true) (Some list) entry
+      tracked-one-back =
+          let old = tracked.each o Remote entry word-was was in
+          record { version = old.version; left = old.left; some = old.some; long = long-back; away = λ is. cc; copy = old.copy; far = old.far }
+
+      pub tracked-back : AreTracked meaning content spelled back
+      tracked-back = record {
+        even = tracked.even ∙ sym (ap (λ l. length l) words ∙ length-set m.memory.words o (Local at false true true));
+        few = tracked.few;
+        each = each-one meaning content m back o others-back spelled tracked refl refl
+          (λ word e w there. rw change.here (subst (λ (k : Pointer). IsTracked meaning content spelled m.changes m.leavings k (Some list) e) (some-one (word_of back o) w word-back)
+            (subst (IsTracked meaning content spelled m.changes m.leavings (Local at false true true) (Some list)) (some-one (entry_of m o) there was) tracked-one-back)));
+        once = (tracked.ordered o ∙ away, tracked.once);
+        ordered = ordered-back
+      }

@@ -1,0 +1,151 @@
+-- What holds of all objects once one gets another list.
+use Rattle.std.proofs.Common.{◌≡◌, ◌≢◌, ℕ, ◌+◌, ◌<◌, get_or, nat_lt, cond, Bool, true, false, inl, inr, List, [], ◌∷◌, length, Option, Some, None, IsSome, refl, sym, ap, subst, ◌∙◌, arith}
+use Rattle.std.specs.Prelude.{not, is_some, slice_get, slice_set, option_map}
+use Rattle.std.specs.Option.{option_map_or, option_and_then}
+use Rattle.std.proofs.lemmas.Bool.{cases_eq}
+use Rattle.std.proofs.lemmas.List.{length-set}
+use Rattle.far_types.specs.declared.refusal.Refusal.{Refusal}
+use Rattle.far_types.specs.FirstOf.{first_of}
+use Rattle.far_pointer.specs.declared.pointer.At.{At}
+use Rattle.far_pointer.specs.declared.pointer.Pointer.{Pointer}
+use Rattle.far_pointer.specs.declared.pointer.Pointer.TheVariants.{Local, Remote}
+use Rattle.far_pointer.specs.Layout.{with_dirty, with_hot, with_at}
+use Rattle.far_scopes.specs.declared.entry.Entry.{Entry}
+use Rattle.far_scopes.specs.Recency.{has}
+use Rattle.far_scopes.specs.Memory.{Memory, at_of, place_of, list_in, ChangesList}
+use Rattle.far_scopes.specs.Placing.{spot, replaced as replaced_in}
+use Rattle.far_scopes.specs.Movement.{Movement, has_copy, word_of, entry_of, is_local, dirty, version_of, list_of, AreClean, IsTracked, AreTracked}
+use Rattle.far_scopes.specs.Refusing.{absent, no_room, written_out, write_refusal, replace_refusal}
+use Rattle.far_scopes.specs.Effects.{written}
+use Rattle.far_scopes.proofs.WordPlaces.{word-read, slice_get-set_same, slice_get-set_other}
+use Rattle.far_scopes.proofs.MemoryLaws.{at-dirty_hot}
+use Rattle.far_scopes.proofs.Tracked.{Others, clean-one, list-one, each-one}
+use Rattle.far_scopes.proofs.Transitions.{some-one, words-other}
+use Rattle.far_scopes.proofs.Refused.{not-not}
+use Rattle.std.proofs.lemmas.Option.{slice_get-get_or}
+
+-- a word of an object that was local and lies elsewhere
+local-at : (word : Pointer) (to : At) → is_some (at_of word) ≡ true → is_some (at_of (with_at word to)) ≡ true
+local-at (Local at d h f) to local = refl
+local-at Remote to local = cc
+
+not-remote : (word : Pointer) → is_some (at_of word) ≡ true → word ≡ Remote → ⊥
+not-remote (Local at d h f) local is = cc
+not-remote Remote local is = cc
+
+copy-at : (word : Pointer) (to : At) → has_copy (with_at word to) ≡ has_copy word
+copy-at (Local at d h f) to = refl
+copy-at Remote to = refl
+
+none-three : (a b c : Bool) (r s t : Refusal) → first_of ((a, r) ∷ (b, s) ∷ (c, t) ∷ []) ≡ None → (a ≡ false) × (c ≡ false)
+none-three true b c r s t is = cc
+none-three false true c r s t is = cc
+none-three false false true r s t is = cc
+none-three false false false r s t is = (refl, refl)
+
+two-none : (a b : Bool) (r s : Refusal) → a ≡ false → b ≡ false → first_of ((a, r) ∷ (b, s) ∷ []) ≡ None
+two-none a b r s e f = rw (e, f) refl
+
+true-false : (b : Bool) → b ≡ true → b ≡ false → ⊥
+true-false b one other = cc
+
+module _ {X K : Type 0} (m : Movement X K) (o n : ℕ) (free : replace_refusal m o n ≡ None) where
+  free-parts : (not (is_local m o) ≡ false) × (not (nat_lt (version_of m o) m.changes) ≡ false)
+  free-parts = none-three (absent m o).0 (no_room m o n).0 (written_out m o).0 (absent m o).1 (no_room m o n).1 (written_out m o).1 free
+
+  pub local-replaced : is_local m o ≡ true
+  local-replaced = not-not (is_local m o) free-parts.0
+
+module _ {X K : Type 0} (meaning : List ℕ → List X) (content : K → List ℕ) (spelled : List X → List ℕ → Type 0) (m : Movement X K) (tracked : AreTracked meaning content spelled m) (o : ℕ) (within : o < length m.entries) (entry : Entry K) (read : entry ≡ get_or m.entries o entry) (list : List X) (free : replace_refusal m o (length list) ≡ None)
+  (memory : Memory X) (is : memory ≡ replaced_in m.memory o list) (change : ChangesList (list_in m.memory) (list_in memory) o (Some list)) where
+  pub entry-was : entry_of m o ≡ Some entry
+  entry-was = word-read m.entries o entry within read
+
+  its-word : o < length m.memory.words
+  its-word = subst (λ k. o < k) tracked.even within
+
+  abbrev pub word : Pointer
+  word = get_or m.memory.words o Remote
+
+  word-was : word_of m o ≡ Some word
+  word-was = slice_get-get_or m.memory.words o Remote its-word
+
+  its-place : is_some (at_of word) ≡ true
+  its-place = sym (ap (λ w. is_some (option_and_then at_of w)) word-was) ∙ local-replaced m o (length list) free
+
+  -- where the new part lies
+  abbrev to : At
+  to = spot m.memory.room (length list)
+
+  words-are : memory.words ≡ slice_set m.memory.words o (with_at word to)
+  words-are = ap (λ k. k.words) is ∙ rw word-was refl
+
+  abbrev now : Entry K
+  now = record entry { len = length list }
+
+  -- the objects once the list is another, before the object is marked as written
+  abbrev mid : Movement X K
+  mid = record m { memory = memory; entries = slice_set m.entries o now }
+
+  entry-mid : entry_of mid o ≡ Some now
+  entry-mid = slice_get-set_same m.entries o now within
+
+  word-mid : word_of mid o ≡ Some (with_at word to)
+  word-mid = rw words-are (slice_get-set_same m.memory.words o (with_at word to) its-word)
+
+  words-mid : (p : ℕ) → p ≢ o → word_of mid p ≡ word_of m p
+  words-mid p ne = rw words-are (slice_get-set_other m.memory.words o p (with_at word to) ne)
+
+  entries-mid : (p : ℕ) → p ≢ o → entry_of mid p ≡ entry_of m p
+  entries-mid p ne = slice_get-set_other m.entries o p now ne
+
+  others-mid : Others meaning content m mid o
+  others-mid = record { words = words-mid; entries = entries-mid; lists = change.others }
+
+  local-mid : is_local mid o ≡ true
+  local-mid = ap (λ w. is_some (option_and_then at_of w)) word-mid ∙ local-at word to its-place
+
+  ordered-mid : (p : ℕ) → has m.order p ≡ is_local mid p
+  ordered-mid p = elim (cases_eq p o) [
+    | inl same ↦ subst (λ k. has m.order k ≡ is_local mid k) (sym same) (tracked.ordered o ∙ local-replaced m o (length list) free ∙ sym local-mid)
+    | inr ne ↦ tracked.ordered p ∙ rw (words-mid p ne) refl
+  ]
+
+  tracked-one-mid : 0 < length list → IsTracked meaning content spelled m.changes m.leavings (with_at word to) (Some list) now
+  tracked-one-mid some =
+      let old = tracked.each o word entry word-was entry-was in
+      record { version = old.version; left = old.left; some = some; long = refl; away = λ gone. absurd (not-remote (with_at word to) (local-at word to its-place) gone); copy = copy-at word to ∙ old.copy; far = old.far }
+
+  pub tracked-mid : 0 < length list → AreTracked meaning content spelled mid
+  tracked-mid some = record {
+    even = length-set m.entries o now ∙ tracked.even ∙ sym (ap (λ l. length l) words-are ∙ length-set m.memory.words o (with_at word to));
+    few = rw (length-set m.entries o now) tracked.few;
+    each = each-one meaning content m mid o others-mid spelled tracked refl refl
+      (λ w e ws es. rw change.here (subst (λ (k : Pointer). IsTracked meaning content spelled m.changes m.leavings k (Some list) e) (some-one (word_of mid o) ws word-mid)
+        (subst (IsTracked meaning content spelled m.changes m.leavings (with_at word to) (Some list)) (some-one (entry_of mid o) es entry-mid) (tracked-one-mid some))));
+    once = tracked.once;
+    ordered = ordered-mid
+  }
+
+  version-mid : version_of mid o ≡ version_of m o
+  version-mid = rw (entry-mid, entry-was) refl
+
+  pub free-mid : write_refusal mid o ≡ None
+  free-mid = two-none (absent mid o).0 (written_out mid o).0 (absent mid o).1 (written_out mid o).1 (ap not local-mid) (ap (λ v. not (nat_lt v m.changes)) version-mid ∙ (free-parts m o (length list) free).1)
+
+  -- the objects once it is marked
+  module _ (new : Movement X K) (marks : new ≡ written mid o) where
+    pub lists-new : ((p : ℕ) → list_of meaning content new p ≡ list_of meaning content mid p) → ChangesList (list_of meaning content m) (list_of meaning content new) o (Some list)
+    lists-new same =
+        let changes = list-one meaning content m mid o others-mid (Some list) (rw change.here refl) in
+        record { here = same o ∙ changes.here; others = λ p ne. same p ∙ changes.others p ne }
+
+    others-new : ((p : ℕ) → list_in new.memory p ≡ list_in memory p) → Others meaning content m new o
+    others-new parts = record {
+      words = λ p ne. ap (λ k. word_of k p) marks ∙ words-other memory o (λ w. with_hot (with_dirty w) true) at-dirty_hot p ne ∙ words-mid p ne;
+      entries = λ p ne. ap (λ k. entry_of k p) marks ∙ rw entry-mid (slice_get-set_other (slice_set m.entries o now) o p (record now { version = now.version + 1 }) ne) ∙ entries-mid p ne;
+      lists = λ p ne. parts p ∙ change.others p ne
+    }
+
+    pub clean-new : ((p : ℕ) → list_in new.memory p ≡ list_in memory p) → dirty new o ≡ true → AreClean meaning content m → AreClean meaning content new
+    clean-new parts is_dirty clean = clean-one meaning content m new o (others-new parts) clean (λ c. absurd (true-false (dirty new o) is_dirty c))

@@ -1,0 +1,120 @@
+-- What holds of all objects, once one of them is used or written.
+use Rattle.std.proofs.Common.{◌≡◌, ◌≢◌, ℕ, ◌+◌, ◌-◌, ◌≤◌, ◌<◌, ◌^◌, Bool, true, false, inl, inr, List, [], ◌∷◌, ◌++◌, length, Option, Some, None, IsSome, refl, sym, ap, subst, ◌∙◌, arith}
+use Rattle.std.specs.Prelude.{is_some, slice_get, slice_set, option_map, IfSome}
+use Rattle.std.specs.Option.{option_map_or, option_and_then, option_or}
+use Rattle.far_pointer.specs.declared.pointer.Pointer.{Pointer}
+use Rattle.far_pointer.specs.declared.pointer.Pointer.TheVariants.{Local, Remote}
+use Rattle.far_pointer.specs.Layout.{is_dirty, is_hot, with_dirty, with_hot}
+use Rattle.far_scopes.specs.declared.entry.Entry.{Entry}
+use Rattle.far_scopes.specs.Recency.{has, used, Once}
+use Rattle.far_scopes.specs.Memory.{Memory, at_of, place_of, list_in, ChangesList}
+use Rattle.far_scopes.specs.Placing.{with_word, heated, marked}
+use Rattle.far_scopes.specs.Movement.{Movement, has_copy, word_of, entry_of, is_local, dirty, ticket_of, list_of, AreClean, IsTracked, AreTracked}
+use Rattle.far_scopes.proofs.RecencyLaws.{has-used, once-used}
+use Rattle.far_scopes.proofs.MemoryLaws.{at-dirty_hot, at-hot}
+use Rattle.far_scopes.proofs.Tracked.{Others, clean-one, lists-kept, each-one}
+use Rattle.far_scopes.proofs.Transitions.{words-other, words-same, words-length, places-kept, some-one, tracked-changed, clean-changed, lists-changed}
+use Rattle.far_scopes.proofs.Places.{cases_option}
+use Rattle.far_scopes.proofs.WordPlaces.{slice_get-set_same}
+use Rattle.std.proofs.lemmas.Option.{slice_get_within}
+
+-- a mark sends no object away, and makes no far copy
+remote-hot : (word : Pointer) → with_hot word true ≡ Remote → word ≡ Remote
+remote-hot (Local at dirty hot far) is = cc
+remote-hot Remote is = refl
+
+copy-hot : (word : Pointer) → has_copy (with_hot word true) ≡ has_copy word
+copy-hot (Local at dirty hot far) = refl
+copy-hot Remote = refl
+
+dirty-hot : (word : Pointer) → is_dirty (with_hot word true) ≡ is_dirty word
+dirty-hot (Local at dirty hot far) = refl
+dirty-hot Remote = refl
+
+remote-mark : (word : Pointer) → with_hot (with_dirty word) true ≡ Remote → word ≡ Remote
+remote-mark (Local at dirty hot far) is = cc
+remote-mark Remote is = refl
+
+copy-mark : (word : Pointer) → has_copy (with_hot (with_dirty word) true) ≡ has_copy word
+copy-mark (Local at dirty hot far) = refl
+copy-mark Remote = refl
+
+-- a word that was marked as written is dirty, if it is local
+dirty-mark : (word : Pointer) → is_some (at_of word) ≡ true → is_dirty (with_hot (with_dirty word) true) ≡ true
+dirty-mark (Local at dirty hot far) local = refl
+dirty-mark Remote local = cc
+
+no-place : (word : Option Pointer) → word ≡ None → is_some (option_and_then at_of word) ≡ true → ⊥
+no-place None none there = cc
+no-place (Some word) none there = cc
+
+place-local : (found : Option Pointer) (word : Pointer) → found ≡ Some word → is_some (option_and_then at_of found) ≡ true → is_some (at_of word) ≡ true
+place-local None word is there = cc
+place-local (Some other) word is there = subst (λ w. is_some (at_of w) ≡ true) (some-one (Some other) is refl) there
+
+true-is-not-false : (b : Bool) → b ≡ true → b ≡ false → ⊥
+true-is-not-false b one other = cc
+
+module _ {X K : Type 0} (meaning : List ℕ → List X) (content : K → List ℕ) (spelled : List X → List ℕ → Type 0) (m : Movement X K) (tracked : AreTracked meaning content spelled m) (o : ℕ) where
+  -- it is used
+  module _ (lists : (p : ℕ) → list_in (heated m.memory o) p ≡ list_in m.memory p) where
+    abbrev heat : Pointer → Pointer
+    heat word = with_hot word true
+
+    abbrev touched_m : Movement X K
+    touched_m = record m { memory = heated m.memory o; order = used m.order o }
+
+    others-touched : Others meaning content m touched_m o
+    others-touched = record { words = words-other m.memory o heat at-hot; entries = λ p ne. refl; lists = λ p ne. lists p }
+
+    pub tracked-touched : AreTracked meaning content spelled touched_m
+    tracked-touched = record {
+      even = tracked.even ∙ sym (words-length m.memory o heat at-hot);
+      few = tracked.few;
+      each = each-one meaning content m touched_m o others-touched spelled tracked refl refl
+        (λ word entry now was. let w = words-same m.memory o heat at-hot word now in let t = tracked.each o w.0 entry w.1 was in
+          record { version = t.version; left = t.left; some = t.some; long = subst (λ l. IfSome l (λ xs. length xs ≡ entry.len)) (sym (lists o)) t.long; away = λ is. t.away (remote-hot w.0 (sym w.2 ∙ is)); copy = ap has_copy w.2 ∙ copy-hot w.0 ∙ t.copy; far = t.far });
+      once = once-used m.order o tracked.once;
+      ordered = λ p. has-used m.order o p ∙ tracked.ordered p ∙ sym (ap is_some (places-kept m.memory o heat at-hot p))
+    }
+
+    dirty-touched : dirty touched_m o ≡ dirty m o
+    dirty-touched = elim (cases_option (slice_get m.memory.words o)) [
+      | inl none ↦ rw none (ap (λ w. option_map_or is_dirty w false) none)
+      | inr (word, is) ↦ rw is (ap (λ w. option_map_or is_dirty w false) (slice_get-set_same m.memory.words o (with_hot word true) (slice_get_within m.memory.words o word is)) ∙ dirty-hot word)
+    ]
+
+    pub clean-touched : AreClean meaning content m → AreClean meaning content touched_m
+    clean-touched clean = clean-one meaning content m touched_m o others-touched clean (λ c. rw (lists o) (clean o (sym dirty-touched ∙ c)))
+
+  -- it is written
+  module _ (entry : Entry K) (was : entry_of m o ≡ Some entry) (local : is_local m o ≡ true) (left : entry.version < m.changes) (lists : (p : ℕ) → list_in (marked m.memory o) p ≡ list_in m.memory p) where
+    abbrev mark : Pointer → Pointer
+    mark word = with_hot (with_dirty word) true
+
+    abbrev now : Entry K
+    now = record entry { version = entry.version + 1 }
+
+    abbrev pub written_m : Movement X K
+    written_m = record m { memory = marked m.memory o; entries = slice_set m.entries o now; order = used m.order o }
+
+    pub tracked-written : AreTracked meaning content spelled written_m
+    tracked-written = tracked-changed meaning content spelled m tracked o entry now was (marked m.memory o) (used m.order o) (words-other m.memory o mark at-dirty_hot) lists (words-length m.memory o mark at-dirty_hot) (once-used m.order o tracked.once)
+        (λ p. has-used m.order o p ∙ tracked.ordered p ∙ sym (ap is_some (places-kept m.memory o mark at-dirty_hot p)))
+        (λ word is. let w = words-same m.memory o mark at-dirty_hot word is in let t = tracked.each o w.0 entry w.1 was in
+          record { version = omega (arith, left); left = t.left; some = t.some; long = t.long; away = λ gone. t.away (remote-mark w.0 (sym w.2 ∙ gone)); copy = ap has_copy w.2 ∙ copy-mark w.0 ∙ t.copy; far = t.far })
+
+    pub dirty-written : dirty written_m o ≡ true
+    dirty-written = elim (cases_option (slice_get m.memory.words o)) [
+      | inl none ↦ absurd (no-place (slice_get m.memory.words o) none local)
+      | inr (word, is) ↦ rw (is) (ap (λ w. option_map_or is_dirty w false) (slice_get-set_same m.memory.words o (mark word) (slice_get_within m.memory.words o word is)) ∙ dirty-mark word (place-local (slice_get m.memory.words o) word is local))
+    ]
+
+    pub clean-written : AreClean meaning content m → AreClean meaning content written_m
+    clean-written = clean-changed meaning content spelled m tracked o entry now was (marked m.memory o) (used m.order o) (words-other m.memory o mark at-dirty_hot) lists refl (λ clean. absurd (true-is-not-false (dirty written_m o) dirty-written clean))
+
+    pub lists-same : (p : ℕ) → list_of meaning content written_m p ≡ list_of meaning content m p
+    lists-same = lists-changed meaning content spelled m tracked o entry now was (marked m.memory o) (used m.order o) (words-other m.memory o mark at-dirty_hot) lists refl
+
+    pub local-still : is_local written_m o ≡ true
+    local-still = ap is_some (places-kept m.memory o mark at-dirty_hot o) ∙ local

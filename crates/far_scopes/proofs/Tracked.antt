@@ -1,0 +1,48 @@
+-- One object changes: what holds of all objects then.
+use Rattle.std.proofs.Common.{◌≡◌, ◌≢◌, ℕ, ◌+◌, ◌-◌, ◌≤◌, ◌<◌, ◌^◌, Bool, true, false, inl, inr, List, [], ◌∷◌, ◌++◌, length, Option, Some, None, IsSome, refl, sym, ap, subst, ◌∙◌, arith}
+use Rattle.std.specs.Prelude.{is_some, slice_get, slice_set, option_map}
+use Rattle.std.specs.Option.{option_map_or, option_and_then, option_or}
+use Rattle.std.proofs.lemmas.Bool.{cases_eq}
+use Rattle.far_pointer.specs.declared.pointer.Pointer.{Pointer}
+use Rattle.far_pointer.specs.Layout.{is_dirty}
+use Rattle.far_scopes.specs.declared.entry.Entry.{Entry}
+use Rattle.far_scopes.specs.Recency.{has, Once}
+use Rattle.far_scopes.specs.Memory.{Memory, place_of, list_in, ChangesList}
+use Rattle.far_scopes.specs.Movement.{Movement, word_of, entry_of, is_local, dirty, ticket_of, list_of, AreClean, IsTracked, AreTracked}
+
+module _ {X K : Type 0} (meaning : List ℕ → List X) (content : K → List ℕ) where
+  -- all but object o stay as they are
+  pub record Others (old new : Movement X K) (o : ℕ) : Type 0 where
+    pub words : (p : ℕ) → p ≢ o → word_of new p ≡ word_of old p
+    pub entries : (p : ℕ) → p ≢ o → entry_of new p ≡ entry_of old p
+    pub lists : (p : ℕ) → p ≢ o → list_in new.memory p ≡ list_in old.memory p
+
+  module _ (old new : Movement X K) (o : ℕ) (others : Others old new o) where
+    list-other : (p : ℕ) → p ≢ o → list_of meaning content new p ≡ list_of meaning content old p
+    list-other p ne = rw (others.lists p ne, others.entries p ne) refl
+
+    -- what the object is, if it is clean, is what its ticket means
+    pub clean-one : AreClean meaning content old → (dirty new o ≡ false → list_of meaning content new o ≡ option_map (λ ticket. meaning (content ticket)) (ticket_of new o)) → AreClean meaning content new
+    clean-one clean here p = elim (cases_eq p o) [
+      | inl same ↦ subst (λ k. dirty new k ≡ false → list_of meaning content new k ≡ option_map (λ ticket. meaning (content ticket)) (ticket_of new k)) (sym same) here
+      | inr ne ↦ λ c. list-other p ne ∙ clean p (ap (λ w. option_map_or is_dirty w false) (sym (others.words p ne)) ∙ c) ∙ ap (λ e. option_map (λ ticket. meaning (content ticket)) (option_and_then (λ (x : Entry K). x.ticket) e)) (sym (others.entries p ne))
+    ]
+
+    pub list-one : (now : Option (List X)) → list_of meaning content new o ≡ now → ChangesList (list_of meaning content old) (list_of meaning content new) o now
+    list-one now here = record { here = here; others = list-other }
+
+    pub lists-kept : list_of meaning content new o ≡ list_of meaning content old o → (p : ℕ) → list_of meaning content new p ≡ list_of meaning content old p
+    lists-kept here p = elim (cases_eq p o) [
+      | inl same ↦ subst (λ k. list_of meaning content new k ≡ list_of meaning content old k) (sym same) here
+      | inr ne ↦ list-other p ne
+    ]
+
+    module _ (spelled : List X → List ℕ → Type 0) (tracked : AreTracked meaning content spelled old) where
+      -- what holds of each object, where it holds of the one that changes
+      pub each-one : new.changes ≡ old.changes → new.leavings ≡ old.leavings
+          → ((word : Pointer) (entry : Entry K) → word_of new o ≡ Some word → entry_of new o ≡ Some entry → IsTracked meaning content spelled new.changes new.leavings word (list_in new.memory o) entry)
+          → (p : ℕ) (word : Pointer) (entry : Entry K) → word_of new p ≡ Some word → entry_of new p ≡ Some entry → IsTracked meaning content spelled new.changes new.leavings word (list_in new.memory p) entry
+      each-one changes leavings here p word entry w e = elim (cases_eq p o) [
+        | inl same ↦ subst (λ k. IsTracked meaning content spelled new.changes new.leavings word (list_in new.memory k) entry) (sym same) (here word entry (subst (λ k. word_of new k ≡ Some word) same w) (subst (λ k. entry_of new k ≡ Some entry) same e))
+        | inr ne ↦ rw (changes, leavings, others.lists p ne) (tracked.each p word entry (sym (others.words p ne) ∙ w) (sym (others.entries p ne) ∙ e))
+      ]

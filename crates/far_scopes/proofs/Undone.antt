@@ -1,0 +1,69 @@
+-- What was just placed or made, taken away again, leaves all as it was.
+use Rattle.std.proofs.Common.{◌≡◌, ℕ, zero, suc, ◌+◌, ◌-◌, ◌<◌, ◌≤◌, nat_eq, cond, Bool, true, false, inl, inr, List, [], ◌∷◌, ◌++◌, length, get_or, take, filter, unwrap_or, Option, Some, None, refl, sym, ap, subst, ◌∙◌, arith, append-nil}
+use Rattle.std.specs.Prelude.{not, slice_set}
+use Rattle.std.proofs.Math.Seq.{take-append_seam}
+use Rattle.std.proofs.lemmas.Bool.{cases_Bool, cases_lt, eq-eqb}
+use Rattle.std.proofs.lemmas.List.{get_or-set_same, set-get_or}
+use Rattle.std.proofs.lemmas.List.Elements.{filter-append}
+use Rattle.far_types.specs.declared.name.Name.{Name}
+use Rattle.far_pointer.specs.declared.pointer.Pointer.{Pointer}
+use Rattle.far_pointer.specs.declared.pointer.Pointer.TheVariants.{Local}
+use Rattle.far_log.specs.Room.{Part, SegmentRoom, Room, IsLaid, fill_of, list_at, segment_of, target_of, IsRegion}
+use Rattle.far_log.specs.Changes.{with_part, without_part}
+use Rattle.far_log.proofs.Laid.{no-list-at-fill}
+use Rattle.far_log.proofs.RoomLaws.{laid-segment}
+use Rattle.far_scopes.specs.Recency.{without}
+use Rattle.far_scopes.specs.Memory.{Memory}
+use Rattle.far_scopes.specs.Placing.{spot, with_new, without_at, added, removed}
+use Rattle.far_scopes.specs.Movement.{Movement}
+use Rattle.far_scopes.specs.Effects.{new_entry, created, uncreated}
+use Rattle.far_scopes.proofs.WordPlaces.{last-of, take-last, place-push_last}
+use Rattle.far_scopes.proofs.RecencyLaws.{without-cons}
+
+module _ {A : Type 0} where
+  set-twice : (xs : List A) (k : ℕ) (a b : A) → slice_set (slice_set xs k a) k b ≡ slice_set xs k b
+  set-twice [] k a b = refl
+  set-twice (x ∷ xs) zero a b = refl
+  set-twice (x ∷ xs) (suc k) a b = ap (λ l. x ∷ l) (set-twice xs k a b)
+
+  set-past : (xs : List A) (k : ℕ) (a : A) → length xs ≤ k → slice_set xs k a ≡ xs
+  set-past [] k a past = refl
+  set-past (x ∷ xs) zero a past = absurd (omega (arith, past))
+  set-past (x ∷ xs) (suc k) a past = ap (λ l. x ∷ l) (set-past xs k a (omega (arith, past)))
+
+module _ {X : Type 0} where
+  filter-free : (ps : List (Part X)) (k : ℕ) → list_at ps k ≡ None → filter (λ p. not (nat_eq p.offset k)) ps ≡ ps
+  filter-free [] k free = refl
+  filter-free (p ∷ ps) k free = elim (cases_Bool (nat_eq p.offset k)) [
+    | inl same ↦ (let found = subst (λ b. cond b (Some p.list) (list_at ps k) ≡ None) same free in cc)
+    | inr ne ↦ rw ne (ap (λ l. p ∷ l) (filter-free ps k (subst (λ b. cond b (Some p.list) (list_at ps k) ≡ None) ne free)))
+  ]
+
+  part-dropped : (s : SegmentRoom X) (list : List X) → IsLaid s → without_part (with_part s list) (fill_of s) ≡ s
+  part-dropped s list laid =
+      let q : Part X = record { offset = fill_of s; list = list } in
+      let rest : filter (λ p. not (nat_eq p.offset (fill_of s))) (s.parts ++ q ∷ []) ≡ s.parts =
+          filter-append (λ p. not (nat_eq p.offset (fill_of s))) s.parts (q ∷ []) ∙ rw (eq-eqb (fill_of s) (fill_of s) refl, filter-free s.parts (fill_of s) (no-list-at-fill 0 s.size s.parts laid)) (append-nil s.parts) in
+      ap (λ (parts : List (Part X)). let t : SegmentRoom X = record { parts = parts; size = s.size } in t) rest
+
+  room-back : (room : Room X) (list : List X) → IsRegion room → without_at (with_new room list) (Some (spot room (length list))) ≡ room
+  room-back room list region =
+      let k : ℕ = unwrap_or (target_of room (length list)) 0 in
+      let none : SegmentRoom X = record { parts = []; size = 0 } in
+      elim (cases_lt k (length room)) [
+        | inl within ↦ rw (get_or-set_same room k (with_part (segment_of room k) list) none within, part-dropped (segment_of room k) list (laid-segment room k region within))
+            (set-twice room k (with_part (segment_of room k) list) (segment_of room k) ∙ set-get_or room k none)
+        | inr past ↦ set-twice room k _ _ ∙ set-past room k _ past
+      ]
+
+  -- the local memory
+  pub removed-added : (memory : Memory X) (list : List X) → IsRegion memory.room → removed (added memory list) ≡ memory
+  removed-added memory list region =
+      let word : Pointer = Local (spot memory.room (length list)) true true false in
+      rw (take-last (memory.words ++ word ∷ []) memory.words word refl, last-of (memory.words ++ word ∷ []) memory.words word refl, place-push_last memory.words word, room-back memory.room list region) refl
+
+-- all objects, where it is so of the local memory
+pub uncreated-created : {X K : Type 0} (m : Movement X K) (name : Name) (list : List X) → removed (added m.memory list) ≡ m.memory → uncreated (created m name list) ≡ m
+uncreated-created {K = K} m name list back =
+    let entry = new_entry {K = K} name (length list) in
+    rw (back, take-last (m.entries ++ entry ∷ []) m.entries entry refl, last-of (m.entries ++ entry ∷ []) m.entries entry refl, without-cons m.order (length m.entries)) refl

@@ -1,0 +1,14 @@
+use Rattle.std.proofs.Common.{◌≡◌, ◌<◌, ◌-◌, length, Some, None, refl, sym, ap, subst, ◌∙◌}
+use Rattle.far_scopes.specs.Memory.{list_in, ChangesList}
+use Rattle.far_scopes.proofs.WordPlaces.{last-of, take-last}
+use Rattle.far_scopes.proofs.MemoryLaws.{memory-removed, list-removed, place-last}
+use Rattle.far_scopes.proofs.memory.LocalMemory.remove_last.Goals as goal
+
+pub invariant_of-self : goal.invariant_of-self
+invariant_of-self g c = memory-removed c.self.inside.words.items c.self.inside.region c.drop_at.new.self c.self.invariant c.pop.new.self.items c.in-Some.word c.at_of.result c.in-Some.ensures.items c.at_of.ensures c.drop_at.ensures.change c.drop_at.ensures.sound
+
+pub returns-clause-removed : goal.returns-clause-removed
+returns-clause-removed g c = rw (← c.self.view_is, take-last c.self.inside.words.items c.pop.new.self.items c.in-Some.word c.in-Some.ensures.items, last-of c.self.inside.words.items c.pop.new.self.items c.in-Some.word c.in-Some.ensures.items, place-last c.self.inside.words.items c.self.inside.region c.drop_at.new.self c.self.invariant c.pop.new.self.items c.in-Some.word c.at_of.result c.in-Some.ensures.items c.at_of.ensures c.drop_at.ensures.change, c.drop_at.ensures.room) refl
+
+pub returns-clause-list : goal.returns-clause-list
+returns-clause-list g c = rw (← c.self.view_is, last-of c.self.inside.words.items c.pop.new.self.items c.in-Some.word c.in-Some.ensures.items) (list-removed c.self.inside.words.items c.self.inside.region c.drop_at.new.self c.self.invariant c.pop.new.self.items c.in-Some.word c.at_of.result c.in-Some.ensures.items c.at_of.ensures c.drop_at.ensures.change)

@@ -1,0 +1,21 @@
+use Rattle.std.proofs.Common.{◌≡◌, ◌<◌, ◌^◌, ◌++◌, ◌∷◌, [], length, true, false, refl, sym, ap, subst, ◌∙◌}
+use Rattle.far_pointer.specs.declared.pointer.Pointer.TheVariants.{Local}
+use Rattle.far_scopes.specs.Movement.{list_of, AreClean}
+use Rattle.far_scopes.specs.Placing.{removed}
+use Rattle.far_scopes.proofs.Undone.{uncreated-created}
+use Rattle.far_scopes.proofs.Comings.{tracked-made, lists-made, clean-made}
+use Rattle.far_scopes.proofs.objects.Objects.create.Goals as goal
+
+pub invariant_of-self-2 : goal.invariant_of-self-2
+invariant_of-self-2 g c = rw (c.push_reserved.ensures.items, c.in_ok-add.ensures.ok, c.len-o.ensures, c.reserve.new.self.ok.0, c.reserve.ensures.items) (tracked-made g.T.Elem.meaning g.S.FarRead.content _ _ c.self.invariant c.add-2.new.self _ c.args.name c.args.items.now (ap (λ m. m.words) c.in_default.ensures.ok) c.in_default.ensures.list c.requires.some (subst (λ m. length m.entries < 2 ^ 28) (sym c.self.view_is) c.requires.few))
+
+pub returns-clause-list : goal.returns-clause-list
+returns-clause-list g c = rw (← c.self.view_is, c.push_reserved.ensures.items, c.reserve.ensures.items) (lists-made g.T.Elem.meaning g.S.FarRead.content _ _ c.self.invariant c.add-2.new.self _ c.args.name c.args.items.now (ap (λ m. m.words) c.in_default.ensures.ok) c.in_default.ensures.list)
+
+pub returns-clause-clean : goal.returns-clause-clean
+returns-clause-clean g c = rw (← c.self.view_is, c.push_reserved.ensures.items, c.reserve.ensures.items) (clean-made g.T.Elem.meaning g.S.FarRead.content _ _ c.self.invariant c.add-2.new.self _ c.args.name c.args.items.now (ap (λ m. m.words) c.in_default.ensures.ok) c.in_default.ensures.list)
+
+pub returns-clause-undone : goal.returns-clause-undone
+returns-clause-undone g c =
+    let back = subst (λ memory. removed memory ≡ c.self.inside.memory) c.in_default.ensures.ok c.in_default.ensures.undone in
+    rw (← c.self.view_is, c.push_reserved.ensures.items, c.in_ok-add.ensures.ok, c.len-o.ensures, c.reserve.new.self.ok.0, c.reserve.ensures.items, c.in_default.ensures.ok) (uncreated-created _ c.args.name c.args.items.now back)

@@ -1,0 +1,77 @@
+-- How objects change.
+use Rattle.std.specs.Prelude.{ℕ, ◌+◌, ◌-◌, List, [], ◌∷◌, ◌++◌, length, take, Option, None, Some, slice_get, slice_set}
+use Rattle.std.specs.Option.{option_map_or}
+use Rattle.far_types.specs.declared.name.Name.{Name}
+use Rattle.far_scopes.specs.declared.entry.Entry.{Entry}
+use Rattle.far_scopes.specs.Recency.{without, used}
+use Rattle.far_scopes.specs.Memory.{Memory}
+use Rattle.far_scopes.specs.Placing.{added, removed, marked, heated, sent_away, brought, replaced as replaced_in, overwritten as overwritten_in}
+use Rattle.far_scopes.specs.Movement.{Movement}
+
+-- the record of a new object
+abbrev pub new_entry : {K : Type 0} → Name → ℕ → Entry K
+new_entry name len = record { name = name; len = len; version = 0; leavings = 0; pins = 0; ticket = None }
+
+-- another record for object o, made of its record
+abbrev pub with_entry : {K : Type 0} → List (Entry K) → ℕ → (Entry K → Entry K) → List (Entry K)
+with_entry entries o change = option_map_or (λ entry. slice_set entries o (change entry)) (slice_get entries o) entries
+
+module _ {X K : Type 0} where
+  -- one object more: local, dirty and hot, never written, away or pinned, without a far copy, used last
+  abbrev pub created : Movement X K → Name → List X → Movement X K
+  created m name list = record m {
+    memory = added m.memory list;
+    entries = m.entries ++ new_entry name (length list) ∷ [];
+    order = length m.entries ∷ m.order
+  }
+
+  -- without the last object
+  abbrev pub uncreated : Movement X K → Movement X K
+  uncreated m = record m {
+    memory = removed m.memory;
+    entries = take (length m.entries - 1) m.entries;
+    order = without m.order (length m.entries - 1)
+  }
+
+  -- object o is used: it is hot, and used last, if it is local
+  abbrev pub touched : Movement X K → ℕ → Movement X K
+  touched m o = record m { memory = heated m.memory o; order = used m.order o }
+
+  -- object o, which is local, counts as written: it is dirty, hot and used last, and written once more
+  abbrev pub written : Movement X K → ℕ → Movement X K
+  written m o = record m {
+    memory = marked m.memory o;
+    entries = with_entry m.entries o (λ entry. record entry { version = entry.version + 1 });
+    order = used m.order o
+  }
+
+  -- ws is written over the elements of object o from the i-th on
+  abbrev pub overwritten : Movement X K → ℕ → ℕ → List X → Movement X K
+  overwritten m o i ws = record m { memory = overwritten_in m.memory o i ws }
+
+  -- object o has another list
+  abbrev pub replaced : Movement X K → ℕ → List X → Movement X K
+  replaced m o list = written (record m {
+    memory = replaced_in m.memory o list;
+    entries = with_entry m.entries o (λ entry. record entry { len = length list })
+  }) o
+
+  -- object o is pinned once more
+  abbrev pub pinned : Movement X K → ℕ → Movement X K
+  pinned m o = record m { entries = with_entry m.entries o (λ entry. record entry { pins = entry.pins + 1 }) }
+
+  -- object o is pinned once less
+  abbrev pub unpinned : Movement X K → ℕ → Movement X K
+  unpinned m o = record m { entries = with_entry m.entries o (λ entry. record entry { pins = entry.pins - 1 }) }
+
+  -- object o goes away, with this far copy
+  abbrev pub departed : Movement X K → ℕ → K → Movement X K
+  departed m o ticket = record m {
+    memory = sent_away m.memory o;
+    entries = with_entry m.entries o (λ entry. record entry { leavings = entry.leavings + 1; ticket = Some ticket });
+    order = without m.order o
+  }
+
+  -- object o comes back, with this list
+  abbrev pub arrived : Movement X K → ℕ → List X → Movement X K
+  arrived m o list = record m { memory = brought m.memory o list; order = o ∷ m.order }

@@ -1,0 +1,88 @@
+-- The movement record: all that is known of objects and of where they are. Objects are told apart by their numbers, 0,
+-- 1, 2 and so on in the order in which they were made.
+use Rattle.std.specs.Prelude.{◌≡◌, ℕ, ◌+◌, ◌≤◌, ◌<◌, ◌^◌, Bool, true, false, List, length, Option, None, Some, is_some, IfSome, IsSomeAnd, option_map, slice_get}
+use Rattle.std.specs.Option.{option_map_or, option_and_then, option_or}
+use Rattle.far_types.specs.declared.name.Name.{Name}
+use Rattle.far_pointer.specs.declared.pointer.Pointer.{Pointer}
+use Rattle.far_pointer.specs.declared.pointer.Pointer.TheVariants.{Local, Remote}
+use Rattle.far_pointer.specs.Layout.{is_dirty, is_hot}
+use Rattle.far_scopes.specs.declared.entry.Entry.{Entry}
+use Rattle.far_scopes.specs.Recency.{has, Once}
+use Rattle.far_scopes.specs.Memory.{Memory, place_of, list_in}
+
+-- objects of lists over X, with far copies under tickets of the type K: the number that they were given, how often each
+-- may be written and may go away, the local memory, the record of each, and the local ones in the order of their last
+-- use, the last used first
+pub record Movement (X K : Type 0) : Type 0 where
+  pub number : ℕ
+  pub changes : ℕ
+  pub leavings : ℕ
+  pub memory : Memory X
+  pub entries : List (Entry K)
+  pub order : List ℕ
+
+-- whether the far store has a copy, however old
+abbrev pub has_copy : Pointer → Bool
+has_copy (Local at dirty hot far) = far
+has_copy Remote = true
+
+module _ {X K : Type 0} where
+  abbrev pub word_of : Movement X K → ℕ → Option Pointer
+  word_of m o = slice_get m.memory.words o
+
+  abbrev pub entry_of : Movement X K → ℕ → Option (Entry K)
+  entry_of m o = slice_get m.entries o
+
+  abbrev pub is_local : Movement X K → ℕ → Bool
+  is_local m o = is_some (place_of m.memory.words o)
+
+  -- whether an object was written since its far copy was made, or never had one
+  abbrev pub dirty : Movement X K → ℕ → Bool
+  dirty m o = option_map_or is_dirty (word_of m o) false
+
+  abbrev pub hot : Movement X K → ℕ → Bool
+  hot m o = option_map_or is_hot (word_of m o) false
+
+  abbrev pub version_of : Movement X K → ℕ → ℕ
+  version_of m o = option_map_or (λ e. e.version) (entry_of m o) 0
+
+  abbrev pub leavings_of : Movement X K → ℕ → ℕ
+  leavings_of m o = option_map_or (λ e. e.leavings) (entry_of m o) 0
+
+  abbrev pub pins_of : Movement X K → ℕ → ℕ
+  pins_of m o = option_map_or (λ e. e.pins) (entry_of m o) 0
+
+  abbrev pub ticket_of : Movement X K → ℕ → Option K
+  ticket_of m o = option_and_then (λ e. e.ticket) (entry_of m o)
+
+  module _ (meaning : List ℕ → List X) (content : K → List ℕ) where
+    -- what a ticket means
+    abbrev pub meant : K → List X
+    meant ticket = meaning (content ticket)
+
+    -- the list of an object, local or away
+    abbrev pub list_of : Movement X K → ℕ → Option (List X)
+    list_of m o = option_or (list_in m.memory o) (option_map meant (ticket_of m o))
+
+    -- the list of each object that is clean is what its ticket means
+    abbrev pub AreClean : Movement X K → Type 0
+    AreClean m = (o : ℕ) → dirty m o ≡ false → list_of m o ≡ option_map meant (ticket_of m o)
+
+    module _ (spelled : List X → List ℕ → Type 0) where
+      -- what holds of one object, by its word, its list if it is local, and its record
+      pub record IsTracked (changes leavings : ℕ) (word : Pointer) (list : Option (List X)) (entry : Entry K) : Type 0 where
+        pub version : entry.version ≤ changes
+        pub left : entry.leavings ≤ leavings
+        pub some : 0 < entry.len
+        pub long : IfSome list (λ xs. length xs ≡ entry.len)
+        pub away : word ≡ Remote → (entry.pins ≡ 0) × IsSomeAnd entry.ticket (λ ticket. length (meant ticket) ≡ entry.len)
+        pub copy : has_copy word ≡ is_some entry.ticket
+        pub far : IfSome entry.ticket (λ ticket. spelled (meant ticket) (content ticket))
+
+      -- what holds of all objects: each has a word and a record, and those in the order of use are the local ones
+      pub record AreTracked (m : Movement X K) : Type 0 where
+        pub even : length m.entries ≡ length m.memory.words
+        pub few : length m.entries ≤ 2 ^ 28
+        pub each : (o : ℕ) (word : Pointer) (entry : Entry K) → word_of m o ≡ Some word → entry_of m o ≡ Some entry → IsTracked m.changes m.leavings word (list_in m.memory o) entry
+        pub once : Once m.order
+        pub ordered : (o : ℕ) → has m.order o ≡ is_local m o

@@ -1,0 +1,46 @@
+-- Why calls on objects are refused.
+use Rattle.std.specs.Prelude.{ℕ, ◌<◌, ◌==◌, nat_lt, not, Bool, List, [], ◌∷◌, ◌++◌, map, Option, None, Some, Result}
+use Rattle.std.specs.declared.result.Result.TheVariants.{Ok, Err}
+use Rattle.std.specs.Option.{option_map_or}
+use Rattle.far_types.specs.declared.refusal.Refusal.{Refusal}
+use Rattle.far_types.specs.declared.refusal.Refusal.TheVariants as refusal
+use Rattle.far_types.specs.FirstOf.{first_of}
+use Rattle.far_log.specs.Room.{fits_in}
+use Rattle.far_scopes.specs.Movement.{Movement, entry_of, is_local, version_of, pins_of}
+
+-- the refusal that a call answered
+abbrev pub refusal_in : {A : Type 0} → Result A Refusal → Option Refusal
+refusal_in (Ok x) = None
+refusal_in (Err refusal) = Some refusal
+
+module _ {X K : Type 0} (m : Movement X K) (o : ℕ) where
+  -- the object is away
+  abbrev pub absent : Bool × Refusal
+  absent = (not (is_local m o), option_map_or (λ e. refusal.Absent e.name.column e.name.group) (entry_of m o) refusal.StaleJob)
+
+  -- its writes are used up
+  abbrev pub written_out : Bool × Refusal
+  written_out = (not (nat_lt (version_of m o) m.changes), refusal.EditsUsedUp)
+
+  -- its pins are
+  abbrev pub pinned_out : Bool × Refusal
+  pinned_out = (pins_of m o == 65535, refusal.EditsUsedUp)
+
+  abbrev pub lend_refusal : Option Refusal
+  lend_refusal = first_of (absent ∷ [])
+
+  abbrev pub write_refusal : Option Refusal
+  write_refusal = first_of (absent ∷ written_out ∷ [])
+
+  abbrev pub pin_refusal : Option Refusal
+  pin_refusal = first_of (absent ∷ pinned_out ∷ [])
+
+  abbrev pub unpin_refusal : Option Refusal
+  unpin_refusal = first_of ((pins_of m o == 0, refusal.NotPinned) ∷ [])
+
+  -- no segment takes a list of n elements
+  abbrev pub no_room : ℕ → Bool × Refusal
+  no_room n = (not (fits_in m.memory.room n), refusal.RegionFull)
+
+  abbrev pub replace_refusal : ℕ → Option Refusal
+  replace_refusal n = first_of (absent ∷ no_room n ∷ written_out ∷ [])

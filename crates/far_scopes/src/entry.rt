@@ -1,0 +1,19 @@
+// What is known of an object beside its word and its list.
+use far_types::Name;
+
+/// The record of an object: it is always in local memory, wherever the object's list is.
+#[derive(Drop)]
+pub struct Entry<K> {
+    /// The column and the row group that the object is.
+    pub(crate) name: Name,
+    /// How many elements its list has.
+    pub(crate) len: usize,
+    /// How often it was written.
+    pub(crate) version: u64,
+    /// How often it went away.
+    pub(crate) leavings: u64,
+    /// How often it is pinned.
+    pub(crate) pins: u16,
+    /// Its far copy, the newest that there is. Of an object that was written since, it is an old one.
+    pub(crate) ticket: Option<K>,
+}

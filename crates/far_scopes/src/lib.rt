@@ -1,0 +1,12 @@
+#![tactic(auto)]
+//! Objects that move between local memory and a far store.
+
+mod entry;
+mod memory;
+mod objects;
+mod recency;
+mod scope;
+
+pub use entry::Entry;
+pub use objects::Objects;
+pub use scope::Scope;

@@ -1,0 +1,191 @@
+// The local memory of objects.
+ghost use Rattle.std.specs.Prelude.{◌≡◌, ℕ, ◌-◌, ◌<◌, ◌≤◌, ◌^◌, ◌↔◌, ◌⊎◌, List, [], length, replicate, true, false, Some, None, IsSome, IsTrue, IfOk, IfErr, OnOk, OnErr, IsErrOf, slice_get, is_some};
+ghost use Rattle.std.specs.Borrow.{sem};
+ghost use Rattle.far_pointer.specs.Layout.{HasWord};
+ghost use Rattle.far_log.specs.Room.{fits_in};
+ghost use Rattle.far_scopes.specs.Memory.{at_of as word_at, place_of, list_in, ChangesList};
+ghost use Rattle.far_pointer.specs.declared.pointer.Pointer.{Pointer};
+ghost use Rattle.std.specs.Prelude.{not};
+ghost use Rattle.far_scopes.specs.Placing.{added, removed, marked, heated, sent_away, brought, replaced};
+
+mod lending;
+
+use far_codec::Elem;
+use far_log::Region;
+use far_pointer::{At, Pointer, Word};
+use far_types::Refusal;
+use std::alloc::Global;
+use std::marker::Model;
+
+/// The pointer words of objects, and the region in which the lists of the local ones lie.
+#[derive(Drop)]
+pub(crate) struct LocalMemory<T> {
+    words: Vec<Word>,
+    region: Region<T>,
+}
+
+impl<T> Model for LocalMemory<T> {
+    ghost use Rattle.far_scopes.specs.Memory.{Memory, IsMemory};
+
+    ghost Value = { Memory T };
+
+    ghost view = { λ m. record { words = m.words.items; room = m.region } };
+
+    ghost invariant = { λ m. IsMemory m.words.items m.region };
+}
+
+impl<T: Elem> LocalMemory<T> {
+    /// No object, and all memory for elements.
+    pub fn new(alloc: Global, segments: u32, size: u32) -> Result<LocalMemory<T>, Refusal>
+        requires { segments ≤ 65536 }
+        ensures empty { IfOk result (λ m. m ≡ record { words = []; room = replicate segments record { parts = []; size = size } }) }
+        ensures memory { IfErr result (λ e. e ≡ Refusal.NoMemory) }
+    {
+        Ok(LocalMemory {
+            words: Vec::new(alloc),
+            region: Region::new(alloc, segments, size)?,
+        })
+    }
+
+    /// The pointer word of an object.
+    pub fn word(&self, o: usize) -> Word
+        requires { o < length self.now.words }
+        ensures word { slice_get self.now.words o ≡ Some result }
+        ensures valid { HasWord result }
+    {
+        let word = self.words[o];
+        word.read();
+        word
+    }
+
+    /// The list of an object that is local.
+    pub fn lend(&self, o: usize) -> &[T]
+        requires { IsSome (place_of self.now.words o) }
+        ensures { list_in self.now o ≡ Some result.now }
+    {
+        self.region.part(at_of(self.words[o]))
+    }
+
+    /// One object more, with this list: dirty and hot. Refused, nothing is changed.
+    pub fn add(&mut self, items: &[T]) -> Result<(), Refusal>
+        requires some { 0 < length items.now }
+        ensures ok { OnOk result (self.new ≡ added self.old items.now) }
+        ensures list { OnOk result (ChangesList (list_in self.old) (list_in self.new) (length self.old.words) (Some items.now)) }
+        ensures undone { OnOk result (removed self.new ≡ self.old) }
+        ensures full { IsErrOf result Refusal.RegionFull ↔ (fits_in self.old.room (length items.now) ≡ false) }
+        ensures refused { IfErr result (λ e. (e ≡ Refusal.RegionFull) ⊎ (e ≡ Refusal.NoMemory)) }
+        ensures err { OnErr result (self.new ≡ self.old) }
+    {
+        if !self.region.fits(items.len()) {
+            return Err(Refusal::RegionFull);
+        }
+        self.words.reserve(1)?;
+        let at = self.region.place(items)?;
+        self.words.push_reserved(local_word(at, true));
+        Ok(())
+    }
+
+    /// Object `o` is away from now on, and its part is gone.
+    pub fn send_away(&mut self, o: usize)
+        requires { IsSome (place_of self.old.words o) }
+        ensures away { self.new ≡ sent_away self.old o }
+        ensures list { ChangesList (list_in self.old) (list_in self.new) o None }
+    {
+        let at = at_of(self.words[o]);
+        self.words[o] = Word::remote();
+        self.region.drop_at(at);
+    }
+
+    /// Takes the last object away, which is local.
+    pub fn remove_last(&mut self)
+        requires { IsSome (place_of self.old.words (length self.old.words - 1)) }
+        ensures removed { self.new ≡ removed self.old }
+        ensures list { ChangesList (list_in self.old) (list_in self.new) (length self.old.words - 1) None }
+    {
+        let Some(word) = self.words.pop() else {
+            unreachable!()
+        };
+        self.region.drop_at(at_of(word));
+    }
+
+    /// Object `o`, which is away, is local with this list from now on: clean and hot. Refused, nothing is changed.
+    pub fn bring(&mut self, o: usize, items: &[T]) -> Result<(), Refusal>
+        requires some { 0 < length items.now }
+        requires away { slice_get self.old.words o ≡ Some Pointer.Remote }
+        ensures ok { OnOk result (self.new ≡ brought self.old o items.now) }
+        ensures list { OnOk result (ChangesList (list_in self.old) (list_in self.new) o (Some items.now)) }
+        ensures full { IsErrOf result Refusal.RegionFull ↔ (fits_in self.old.room (length items.now) ≡ false) }
+        ensures refused { IfErr result (λ e. (e ≡ Refusal.RegionFull) ⊎ (e ≡ Refusal.NoMemory)) }
+        ensures err { OnErr result (self.new ≡ self.old) }
+    {
+        let at = self.region.place(items)?;
+        self.words[o] = local_word(at, false);
+        Ok(())
+    }
+
+    /// Gives object `o`, which is local, another list: places the new one before it drops the old one. Refused, nothing
+    /// is changed.
+    pub fn replace(&mut self, o: usize, items: &[T]) -> Result<(), Refusal>
+        requires some { 0 < length items.now }
+        requires local { IsSome (place_of self.old.words o) }
+        ensures ok { OnOk result (self.new ≡ replaced self.old o items.now) }
+        ensures list { OnOk result (ChangesList (list_in self.old) (list_in self.new) o (Some items.now)) }
+        ensures full { IsErrOf result Refusal.RegionFull ↔ (fits_in self.old.room (length items.now) ≡ false) }
+        ensures refused { IfErr result (λ e. (e ≡ Refusal.RegionFull) ⊎ (e ≡ Refusal.NoMemory)) }
+        ensures err { OnErr result (self.new ≡ self.old) }
+    {
+        let word = self.words[o];
+        let at = self.region.place(items)?;
+        self.words[o] = word.with_at(at);
+        self.region.drop_at(at_of(word));
+        Ok(())
+    }
+
+    /// Whether a list of so many elements can be placed.
+    pub fn fits(&self, len: usize) -> bool
+        ensures { result ≡ fits_in self.now.room len }
+    {
+        self.region.fits(len)
+    }
+
+    /// Object `o` is used: it is hot where it is local.
+    pub fn heat(&mut self, o: usize)
+        requires { o < length self.old.words }
+        ensures heated { self.new ≡ heated self.old o }
+        ensures lists { (p : ℕ) → list_in self.new p ≡ list_in self.old p }
+    {
+        let word = self.words[o];
+        self.words[o] = word.with_hot(true);
+    }
+
+    /// Object `o` is written: it is dirty and hot where it is local.
+    pub fn mark(&mut self, o: usize)
+        requires { o < length self.old.words }
+        ensures marked { self.new ≡ marked self.old o }
+        ensures lists { (p : ℕ) → list_in self.new p ≡ list_in self.old p }
+    {
+        let word = self.words[o];
+        self.words[o] = word.with_dirty().with_hot(true);
+    }
+}
+
+// Where the word of a local object says that it is.
+fn at_of(word: Word) -> At
+    requires { IsSome (word_at word) }
+    ensures { word_at word ≡ Some result }
+{
+    let Pointer::Local { at, .. } = word.read() else {
+        unreachable!()
+    };
+    at
+}
+
+// The word of a local object that is hot: dirty and without a far copy, or clean and with one.
+fn local_word(at: At, dirty: bool) -> Word
+    ensures { result ≡ Pointer.Local at dirty true (not dirty) }
+{
+    let Some(word) = Word::local(at, dirty, true, !dirty) else {
+        unreachable!()
+    };
+    word
+}

@@ -1,0 +1,122 @@
+// Objects that are local or away.
+ghost use Rattle.std.specs.Prelude.{◌≡◌, ℕ, ◌<◌, ◌≤◌, ◌^◌, List, [], length, replicate, IfOk, IfErr, Some, option_map};
+ghost use Rattle.far_pointer.specs.Layout.{HasWord};
+ghost use Rattle.far_codec.specs.Spelling.{IsSpelled};
+ghost use Rattle.far_scopes.specs.Movement.{AreTracked, word_of, version_of, leavings_of, pins_of, ticket_of};
+
+mod coming;
+mod lending;
+mod moving;
+mod pins;
+mod replacing;
+mod scopes;
+
+use super::entry::Entry;
+use super::memory::LocalMemory;
+use super::recency::Recency;
+use far_codec::Elem;
+use far_pointer::Word;
+use far_store::FarRead;
+use far_types::Refusal;
+use std::alloc::Global;
+use std::marker::Model;
+
+/// Objects, each a list of elements, that move between local memory and the far store of `S`.
+#[derive(Drop)]
+pub struct Objects<T: Elem, S: FarRead> {
+    number: u32,
+    changes: u64,
+    leavings: u64,
+    memory: LocalMemory<T>,
+    entries: Vec<Entry<S::Ticket>>,
+    order: Recency,
+}
+
+impl<T: Elem, S: FarRead> Model for Objects<T, S> {
+    ghost use Rattle.far_scopes.specs.Movement.{Movement};
+
+    ghost Value = { Movement T S.Ticket };
+
+    ghost use Rattle.far_codec.specs.Spelling.{IsSpelled};
+    ghost use Rattle.far_scopes.specs.Movement.{AreTracked};
+
+    ghost view = { λ a. record { number = a.number; changes = a.changes; leavings = a.leavings; memory = a.memory; entries = a.entries.items; order = a.order } };
+
+    ghost invariant = { λ a. AreTracked T.meaning S.content (IsSpelled T.in_range T.has_spelling T.spelling) record { number = a.number; changes = a.changes; leavings = a.leavings; memory = a.memory; entries = a.entries.items; order = a.order } };
+}
+
+impl<T: Elem, S: FarRead> Objects<T, S> {
+    /// No object. The frame's number is kept with them, which tells the jobs of one frame from those of another.
+    ///
+    /// All memory for elements is taken here. Refused with `NoMemory` (1) alone.
+    pub fn new(
+        alloc: Global,
+        number: u32,
+        segments: u32,
+        size: u32,
+        changes: u64,
+        leavings: u64,
+    ) -> Result<Objects<T, S>, Refusal>
+        requires { segments ≤ 65536 }
+        ensures empty { IfOk result (λ m. m ≡ record { number = number; changes = changes; leavings = leavings; memory = record { words = []; room = replicate segments record { parts = []; size = size } }; entries = []; order = [] }) }
+        ensures memory { IfErr result (λ e. e ≡ Refusal.NoMemory) }
+    {
+        Ok(Objects {
+            number,
+            changes,
+            leavings,
+            memory: LocalMemory::new(alloc, segments, size)?,
+            entries: Vec::new(alloc),
+            order: Recency::new(alloc)?,
+        })
+    }
+
+    /// The number that was given to `new`. Takes no memory.
+    pub fn number(&self) -> u32
+        ensures number { result ≡ self.now.number }
+        ensures tracked { AreTracked T.meaning S.content (IsSpelled T.in_range T.has_spelling T.spelling) self.now }
+    {
+        self.number
+    }
+
+    /// The pointer word of an object. Takes no memory.
+    pub fn word(&self, o: u32) -> Word
+        requires { o < length self.now.entries }
+        ensures word { word_of self.now o ≡ Some result }
+        ensures valid { HasWord result }
+    {
+        self.memory.word(o as usize)
+    }
+
+    /// How often an object was written. Takes no memory.
+    pub fn version(&self, o: u32) -> u64
+        requires { o < length self.now.entries }
+        ensures { result ≡ version_of self.now o }
+    {
+        self.entries[o as usize].version
+    }
+
+    /// How often an object went away. Takes no memory.
+    pub fn leavings(&self, o: u32) -> u64
+        requires { o < length self.now.entries }
+        ensures { result ≡ leavings_of self.now o }
+    {
+        self.entries[o as usize].leavings
+    }
+
+    /// How many pins an object has. Takes no memory.
+    pub fn pins(&self, o: u32) -> u32
+        requires { o < length self.now.entries }
+        ensures { result ≡ pins_of self.now o }
+    {
+        u32::from(self.entries[o as usize].pins)
+    }
+
+    /// The newest far copy that there is of an object. Takes no memory.
+    pub fn ticket(&self, o: u32) -> Option<&S::Ticket>
+        requires { o < length self.now.entries }
+        ensures { option_map (λ ticket. ticket.now) result ≡ ticket_of self.now o }
+    {
+        self.entries[o as usize].ticket.as_ref()
+    }
+}

@@ -1,0 +1,64 @@
+// Objects that are made, and the last one unmade.
+ghost use Rattle.std.specs.Prelude.{◌≡◌, ◌-◌, ◌<◌, ◌^◌, ◌↔◌, ◌⊎◌, length, false, true, Some, None, OnOk, OnErr, IfOk, IfErr, IsErrOf};
+ghost use Rattle.far_log.specs.Room.{fits_in};
+ghost use Rattle.far_scopes.specs.Memory.{ChangesList};
+ghost use Rattle.far_scopes.specs.Movement.{list_of, AreClean, is_local, pins_of};
+ghost use Rattle.far_scopes.specs.Effects.{created, uncreated};
+
+use super::{Entry, Objects};
+use far_codec::Elem;
+use far_store::FarRead;
+use far_types::{Name, Refusal};
+
+impl<T: Elem, S: FarRead> Objects<T, S> {
+    /// Makes an object of this list, and answers its number, which is the next: it is local, dirty, hot and used last,
+    /// and was never written, away or pinned. `uncreate` undoes it (`undone`).
+    ///
+    /// Refused with `RegionFull` (17) exactly where no segment has the space, else with `NoMemory` (1) alone; then nothing
+    /// is changed.
+    pub fn create(&mut self, name: Name, items: &[T]) -> Result<u32, Refusal>
+        requires some { 0 < length items.now }
+        requires few { length self.old.entries < 2 ^ 28 }
+        ensures number { IfOk result (λ o. o ≡ length self.old.entries) }
+        ensures created { OnOk result (self.new ≡ created self.old name items.now) }
+        ensures list { OnOk result (ChangesList (list_of T.meaning S.content self.old) (list_of T.meaning S.content self.new) (length self.old.entries) (Some items.now)) }
+        ensures undone { OnOk result (uncreated self.new ≡ self.old) }
+        ensures clean { AreClean T.meaning S.content self.old → AreClean T.meaning S.content self.new }
+        ensures full { IsErrOf result Refusal.RegionFull ↔ (fits_in self.old.memory.room (length items.now) ≡ false) }
+        ensures refused { IfErr result (λ e. (e ≡ Refusal.RegionFull) ⊎ (e ≡ Refusal.NoMemory)) }
+        ensures err { OnErr result (self.new ≡ self.old) }
+    {
+        if !self.memory.fits(items.len()) {
+            return Err(Refusal::RegionFull);
+        }
+        self.entries.reserve(1)?;
+        let o = self.entries.len() as u32;
+        self.order.add(o)?;
+        if let Err(refusal) = self.memory.add(items) {
+            self.order.remove(o);
+            return Err(refusal);
+        }
+        self.entries.push_reserved(Entry {
+            name,
+            len: items.len(),
+            version: 0,
+            leavings: 0,
+            pins: 0,
+            ticket: None,
+        });
+        Ok(o)
+    }
+
+    /// Unmakes the last object, which is local and has no pin. Takes no memory.
+    pub fn uncreate(&mut self)
+        requires local { is_local self.old (length self.old.entries - 1) ≡ true }
+        requires unpinned { pins_of self.old (length self.old.entries - 1) ≡ 0 }
+        ensures uncreated { self.new ≡ uncreated self.old }
+        ensures list { ChangesList (list_of T.meaning S.content self.old) (list_of T.meaning S.content self.new) (length self.old.entries - 1) None }
+        ensures clean { AreClean T.meaning S.content self.old → AreClean T.meaning S.content self.new }
+    {
+        self.memory.remove_last();
+        self.entries.pop();
+        self.order.remove(self.entries.len() as u32);
+    }
+}

@@ -1,0 +1,122 @@
+// Lists lent in place.
+ghost use Rattle.std.specs.Prelude.{◌≡◌, ℕ, ◌-◌, ◌<◌, ◌≤◌, ◌++◌, List, length, take, drop, slice_range, true, Some, None, IfOk, IsSomeAnd};
+ghost use Rattle.std.specs.Borrow.{sem};
+ghost use Rattle.far_scopes.specs.Memory.{list_in, ChangesList};
+ghost use Rattle.far_scopes.specs.Movement.{list_of, dirty, is_local, AreClean};
+ghost use Rattle.std.specs.Prelude.{not};
+ghost use Rattle.far_scopes.specs.Refusing.{refusal_in, absent, lend_refusal, write_refusal};
+ghost use Rattle.far_scopes.specs.Effects.{written, overwritten};
+ghost use Rattle.far_scopes.specs.ObjectsLending.{lends_written};
+
+use super::Objects;
+use far_codec::Elem;
+use far_pointer::Pointer;
+use far_store::FarRead;
+use far_types::Refusal;
+
+impl<T: Elem, S: FarRead> Objects<T, S> {
+    /// The list of an object, lent in place. Takes no memory.
+    ///
+    /// Refused with `Absent` (16) exactly where the object is away.
+    pub fn lend(&self, o: u32) -> Result<&[T], Refusal>
+        requires { o < length self.now.entries }
+        ensures lent { IfOk result (λ list. list_in self.now.memory o ≡ Some list.now) }
+        ensures refused { refusal_in result ≡ lend_refusal self.now o }
+    {
+        if self.is_away(o) {
+            return Err(self.absent(o));
+        }
+        Ok(self.memory.lend(o as usize))
+    }
+
+    /// Whether an object may be written. Takes no memory.
+    ///
+    /// Refused with `Absent` (16) exactly where the object is away, and with `EditsUsedUp` (24) exactly where it is local
+    /// and was written as often as objects may be.
+    pub fn may_write(&self, o: u32) -> Result<(), Refusal>
+        requires { o < length self.now.entries }
+        ensures { refusal_in result ≡ write_refusal self.now o }
+    {
+        if self.is_away(o) {
+            return Err(self.absent(o));
+        }
+        if self.entries[o as usize].version >= self.changes {
+            return Err(Refusal::EditsUsedUp);
+        }
+        Ok(())
+    }
+
+    /// The list of an object that may be written, lent in place to be written. Takes no memory.
+    ///
+    /// Before it is lent, the object counts as written: it is dirty, hot and used last, and its version is one more. What
+    /// the borrow leaves is the object's list, and no other list changes (`alone`).
+    pub fn lend_mut(&mut self, o: u32) -> &mut [T]
+        requires within { o < length self.old.entries }
+        requires free { write_refusal self.old o ≡ None }
+        ensures* writes_back { sem 𝓛 (lends_written T.row S.row S.Ticket.row T.Elem S.FarRead self.entry o 0 result) }
+        ensures lent { list_in self.old.memory o ≡ Some result.now }
+        ensures alone { (list : List T) → length list ≡ length result.now → ChangesList (list_of T.meaning S.content self.old) (list_of T.meaning S.content (overwritten (written self.old o) o 0 list)) o (Some list) }
+        ensures clean { (list : List T) → length list ≡ length result.now → AreClean T.meaning S.content self.old → AreClean T.meaning S.content (overwritten (written self.old o) o 0 list) }
+    {
+        self.mark(o);
+        let memory = &mut self.memory;
+        memory.lend_mut(o as usize)
+    }
+
+    /// The elements `from` to `to` of an object that may be written, lent in place to be written. Takes no memory.
+    ///
+    /// The object counts as written, as with `lend_mut`.
+    pub fn lend_range_mut(&mut self, o: u32, from: usize, to: usize) -> &mut [T]
+        requires within { o < length self.old.entries }
+        requires free { write_refusal self.old o ≡ None }
+        requires ordered { from ≤ to }
+        requires there { IsSomeAnd (list_in self.old.memory o) (λ list. to ≤ length list) }
+        ensures* writes_back { sem 𝓛 (lends_written T.row S.row S.Ticket.row T.Elem S.FarRead self.entry o from result) }
+        ensures lent { IsSomeAnd (list_in self.old.memory o) (λ list. result.now ≡ slice_range list from to) }
+        ensures alone { IsSomeAnd (list_in self.old.memory o) (λ list. (range : List T) → length range ≡ to - from → ChangesList (list_of T.meaning S.content self.old) (list_of T.meaning S.content (overwritten (written self.old o) o from range)) o (Some (take from list ++ (range ++ drop to list)))) }
+        ensures clean { (range : List T) → length range ≡ to - from → AreClean T.meaning S.content self.old → AreClean T.meaning S.content (overwritten (written self.old o) o from range) }
+    {
+        self.mark(o);
+        let memory = &mut self.memory;
+        memory.lend_range_mut(o as usize, from, to)
+    }
+
+    // The object counts as written.
+    pub(super) fn mark(&mut self, o: u32)
+        requires within { o < length self.old.entries }
+        requires free { write_refusal self.old o ≡ None }
+        ensures written { self.new ≡ written self.old o }
+        ensures dirty { dirty self.new o ≡ true }
+        ensures local { is_local self.new o ≡ true }
+        ensures parts { (p : ℕ) → list_in self.new.memory p ≡ list_in self.old.memory p }
+        ensures lists { (p : ℕ) → list_of T.meaning S.content self.new p ≡ list_of T.meaning S.content self.old p }
+        ensures clean { AreClean T.meaning S.content self.old → AreClean T.meaning S.content self.new }
+    {
+        self.memory.mark(o as usize);
+        self.entries[o as usize].version += 1;
+        self.order.touch(o);
+    }
+
+    // Whether an object is away.
+    pub(super) fn is_away(&self, o: u32) -> bool
+        requires { o < length self.now.entries }
+        ensures { result ≡ not (is_local self.now o) }
+    {
+        match self.memory.word(o as usize).read() {
+            Pointer::Remote => true,
+            Pointer::Local { .. } => false,
+        }
+    }
+
+    // The refusal that says that an object is away.
+    pub(super) fn absent(&self, o: u32) -> Refusal
+        requires { o < length self.now.entries }
+        ensures { result ≡ (absent self.now o).1 }
+    {
+        let name = self.entries[o as usize].name;
+        Refusal::Absent {
+            column: name.column,
+            group: name.group,
+        }
+    }
+}

@@ -1,0 +1,62 @@
+// Pins, which keep objects from going away.
+ghost use Rattle.std.specs.Prelude.{◌≡◌, ◌<◌, length, OnOk, OnErr};
+ghost use Rattle.far_scopes.specs.Refusing.{refusal_in, pin_refusal, unpin_refusal};
+ghost use Rattle.far_scopes.specs.Effects.{pinned, unpinned, touched};
+ghost use Rattle.far_scopes.specs.Movement.{AreClean};
+
+use super::Objects;
+use far_codec::Elem;
+use far_store::FarRead;
+use far_types::Refusal;
+
+impl<T: Elem, S: FarRead> Objects<T, S> {
+    /// Pins an object once more. Takes no memory.
+    ///
+    /// Refused with `Absent` (16) exactly where the object is away, and with `EditsUsedUp` (24) exactly where it has 65,535
+    /// pins; then nothing is changed.
+    pub fn pin(&mut self, o: u32) -> Result<(), Refusal>
+        requires { o < length self.old.entries }
+        ensures pinned { OnOk result (self.new ≡ pinned self.old o) }
+        ensures clean { AreClean T.meaning S.content self.old → AreClean T.meaning S.content self.new }
+        ensures refused { refusal_in result ≡ pin_refusal self.old o }
+        ensures err { OnErr result (self.new ≡ self.old) }
+    {
+        if self.is_away(o) {
+            return Err(self.absent(o));
+        }
+        let entry = &mut self.entries[o as usize];
+        if entry.pins == u16::MAX {
+            return Err(Refusal::EditsUsedUp);
+        }
+        entry.pins += 1;
+        Ok(())
+    }
+
+    /// Pins an object once less. Takes no memory.
+    ///
+    /// Refused with `NotPinned` (18) exactly where it has no pin; then nothing is changed.
+    pub fn unpin(&mut self, o: u32) -> Result<(), Refusal>
+        requires { o < length self.old.entries }
+        ensures unpinned { OnOk result (self.new ≡ unpinned self.old o) }
+        ensures clean { AreClean T.meaning S.content self.old → AreClean T.meaning S.content self.new }
+        ensures refused { refusal_in result ≡ unpin_refusal self.old o }
+        ensures err { OnErr result (self.new ≡ self.old) }
+    {
+        let entry = &mut self.entries[o as usize];
+        if entry.pins == 0 {
+            return Err(Refusal::NotPinned);
+        }
+        entry.pins -= 1;
+        Ok(())
+    }
+
+    /// Uses an object: it is hot and used last, if it is local. Takes no memory.
+    pub fn touch(&mut self, o: u32)
+        requires { o < length self.old.entries }
+        ensures touched { self.new ≡ touched self.old o }
+        ensures clean { AreClean T.meaning S.content self.old → AreClean T.meaning S.content self.new }
+    {
+        self.memory.heat(o as usize);
+        self.order.touch(o);
+    }
+}

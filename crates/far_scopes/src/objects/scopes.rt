@@ -1,0 +1,114 @@
+// Objects that are pinned together, and the object that is used least.
+ghost use Rattle.std.specs.Prelude.{◌≡◌, ◌⊎◌, ◌==◌, not, false, IsTrue, ◌<◌, ◌≤◌, ◌^◌, ℕ, List, length, take, All, Some, None, OnOk, OnErr, IfOk, IfErr};
+ghost use Rattle.far_scopes.specs.Movement.{Movement, AreClean, pins_of};
+ghost use Rattle.far_scopes.specs.Effects.{unpinned};
+ghost use Rattle.far_scopes.specs.Refusing.{refusal_in};
+ghost use Rattle.far_scopes.specs.Entering.{pinned_all, first_absent, enter_refusal, pins_overflow, closed};
+
+use super::Objects;
+use crate::scope::Scope;
+use far_codec::Elem;
+use far_store::FarRead;
+use far_types::Refusal;
+use std::alloc::Global;
+
+impl<T: Elem, S: FarRead> Objects<T, S> {
+    /// Pins objects together, one pin for each listing, all or none. The scope must be spent by `close`.
+    ///
+    /// Refused with `Absent` (16) exactly where a listed object is away, naming the first such; with `EditsUsedUp` (24)
+    /// exactly where none is and one would get more than 65,535 pins; else with `NoMemory` (1) alone. Then nothing is
+    /// changed.
+    pub fn enter(&mut self, alloc: Global, objects: &[u32]) -> Result<Scope, Refusal>
+        requires within { All (λ o. o < length self.old.entries) objects.now }
+        requires few { length objects.now < 2 ^ 32 }
+        ensures scope { IfOk result (λ scope. scope ≡ objects.now) }
+        ensures pinned { OnOk result (self.new ≡ pinned_all self.old objects.now) }
+        ensures clean { AreClean T.meaning S.content self.old → AreClean T.meaning S.content self.new }
+        ensures free { OnOk result (enter_refusal self.old objects.now ≡ None) }
+        ensures refused { IfErr result (λ e. (enter_refusal self.old objects.now ≡ Some e) ⊎ ((enter_refusal self.old objects.now ≡ None) × (e ≡ Refusal.NoMemory))) }
+        ensures err { OnErr result (self.new ≡ self.old) }
+    {
+        self.all_local(objects)?;
+        self.pin_all(objects)?;
+        match objects.to_vec(alloc) {
+            Ok(objects) => Ok(Scope { objects }),
+            Err(_) => {
+                self.unpin_all(objects);
+                Err(Refusal::NoMemory)
+            }
+        }
+    }
+
+    // Whether listed objects are local; the refusal names the first that is away.
+    fn all_local(&self, objects: &[u32]) -> Result<(), Refusal>
+        requires { All (λ o. o < length self.now.entries) objects.now }
+        ensures { refusal_in result ≡ first_absent self.now objects.now }
+    {
+        for o in objects {
+            if self.is_away(*o) {
+                return Err(self.absent(*o));
+            }
+        }
+        Ok(())
+    }
+
+    // Pins listed objects, which are local, all or none.
+    fn pin_all(&mut self, objects: &[u32]) -> Result<(), Refusal>
+        requires within { All (λ o. o < length self.old.entries) objects.now }
+        requires local { first_absent self.old objects.now ≡ None }
+        ensures pinned { OnOk result (self.new ≡ pinned_all self.old objects.now) }
+        ensures clean { AreClean T.meaning S.content self.old → AreClean T.meaning S.content self.new }
+        ensures refused { refusal_in result ≡ pins_overflow self.old objects.now }
+        ensures err { OnErr result (self.new ≡ self.old) }
+    {
+        for k in 0..objects.len() {
+            if let Err(refusal) = self.pin(objects[k]) {
+                self.unpin_all(&objects[..k]);
+                return Err(refusal);
+            }
+        }
+        Ok(())
+    }
+
+    // Takes the pins back that `pin_all` took.
+    fn unpin_all(&mut self, objects: &[u32])
+        requires { All (λ o. o < length self.old.entries) objects.now }
+        ensures undone { (m : Movement T S.Ticket) → self.old ≡ pinned_all m objects.now → self.new ≡ m }
+    {
+        let mut left = objects.len();
+        while left > 0 {
+            left -= 1;
+            self.take_pin(objects[left]);
+        }
+    }
+
+    // Takes a pin back that an object has, and answers whether it had one.
+    fn take_pin(&mut self, o: u32) -> bool
+        requires { o < length self.old.entries }
+        ensures taken { IsTrue result → self.new ≡ unpinned self.old o }
+        ensures none { result ≡ not (pins_of self.old o == 0) }
+        ensures kept { result ≡ false → self.new ≡ self.old }
+        ensures long { length self.new.entries ≡ length self.old.entries }
+        ensures clean { AreClean T.meaning S.content self.old → AreClean T.meaning S.content self.new }
+    {
+        self.unpin(o).is_ok()
+    }
+
+    /// Takes back one pin for each listing of an object in a scope, where there is one, and answers how many that were.
+    /// Takes no memory.
+    pub fn close(&mut self, scope: Scope) -> u32
+        requires { All (λ o. o < length self.old.entries) scope }
+        ensures closed { self.new ≡ (closed self.old scope).0 }
+        ensures count { result ≡ (closed self.old scope).1 }
+        ensures clean { AreClean T.meaning S.content self.old → AreClean T.meaning S.content self.new }
+    {
+        let Scope { objects } = scope;
+        let mut taken = 0;
+        for o in &objects {
+            if self.take_pin(*o) {
+                taken += 1;
+            }
+        }
+        taken
+    }
+}

@@ -1,0 +1,63 @@
+// The order in which objects were used.
+ghost use Rattle.std.specs.Prelude.{◌≡◌, [], ◌∷◌, IfOk, IfErr, OnOk, OnErr, false};
+ghost use Rattle.far_scopes.specs.Recency.{has, without, used};
+
+use far_types::Refusal;
+use lru::LruCache;
+use std::alloc::Global;
+use std::marker::Model;
+
+/// An order of use, kept by an LRU cache that never evicts. Contracts see the object numbers, the last used first.
+#[derive(Drop)]
+pub(crate) struct Recency {
+    cache: LruCache<u32, ()>,
+}
+
+impl Model for Recency {
+    ghost use Rattle.std.specs.Prelude.{List, ℕ, ◌≡◌, ◌-◌, ◌^◌};
+    ghost use Rattle.std.specs.Map.{keys_of};
+
+    ghost Value = { List ℕ };
+
+    ghost view = { λ r. keys_of r.cache.entries };
+
+    ghost invariant = { λ r. r.cache.cap ≡ 2 ^ 64 - 1 };
+}
+
+impl Recency {
+    /// An order of use without objects.
+    pub fn new(alloc: Global) -> Result<Recency, Refusal>
+        ensures empty { IfOk result (λ r. r ≡ []) }
+        ensures memory { IfErr result (λ e. e ≡ Refusal.NoMemory) }
+    {
+        Ok(Recency {
+            cache: LruCache::unbounded(alloc)?,
+        })
+    }
+
+    /// Puts an object first that is not in the order.
+    pub fn add(&mut self, o: u32) -> Result<(), Refusal>
+        requires { has self.old o ≡ false }
+        ensures ok { OnOk result (self.new ≡ o ∷ self.old) }
+        ensures memory { IfErr result (λ e. e ≡ Refusal.NoMemory) }
+        ensures err { OnErr result (self.new ≡ self.old) }
+    {
+        let _len = self.cache.len();
+        self.cache.put(o, ())?;
+        Ok(())
+    }
+
+    /// Takes an object out. Takes no memory.
+    pub fn remove(&mut self, o: u32)
+        ensures { self.new ≡ without self.old o }
+    {
+        self.cache.pop(&o);
+    }
+
+    /// Puts an object first that is in the order. Takes no memory.
+    pub fn touch(&mut self, o: u32)
+        ensures { self.new ≡ used self.old o }
+    {
+        self.cache.promote(&o);
+    }
+}
