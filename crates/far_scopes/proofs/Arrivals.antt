@@ -1,20 +1,18 @@
 -- What holds of all objects once one comes back.
-use Rattle.std.proofs.Common.{◌≡◌, ◌≢◌, ℕ, zero, suc, ◌+◌, ◌<◌, get_or, Bool, true, false, inl, inr, List, [], ◌∷◌, ◌++◌, length, Option, Some, None, IsSome, refl, sym, ap, subst, ◌∙◌, arith}
-use Rattle.std.specs.Prelude.{is_some, slice_get, slice_set, option_map, All, IsSomeAnd, IfSome}
-use Rattle.std.specs.Option.{option_map_or, option_and_then}
+use Rattle.std.proofs.Common.{◌≡◌, ◌≢◌, ℕ, zero, suc, ◌<◌, true, false, inl, inr, List, [], ◌∷◌, length, Option, Some, None, refl, sym, ap, subst, ◌∙◌, arith}
+use Rattle.std.specs.Prelude.{is_some, slice_get, slice_set, option_map, IsSomeAnd}
+use Rattle.std.specs.Option.{option_and_then}
 use Rattle.std.proofs.lemmas.Bool.{cases_eq}
 use Rattle.std.proofs.lemmas.List.{length-set}
-use Rattle.std.proofs.lemmas.Option.{slice_get-get_or}
 use Rattle.far_pointer.specs.declared.pointer.At.{At}
 use Rattle.far_pointer.specs.declared.pointer.Pointer.{Pointer}
 use Rattle.far_pointer.specs.declared.pointer.Pointer.TheVariants.{Local, Remote}
-use Rattle.far_codec.specs.Spelling.{IsSpelled}
 use Rattle.far_scopes.specs.declared.entry.Entry.{Entry}
-use Rattle.far_scopes.specs.Recency.{has, without, Once}
+use Rattle.far_scopes.specs.Recency.{has}
 use Rattle.far_scopes.specs.Memory.{Memory, at_of, place_of, list_in, ChangesList}
-use Rattle.far_scopes.specs.Movement.{Movement, word_of, entry_of, is_local, dirty, pins_of, leavings_of, ticket_of, list_of, AreClean, IsTracked, AreTracked}
-use Rattle.far_scopes.proofs.WordPlaces.{word-read, list-within, slice_get-set_same, slice_get-set_other, place-set_same, place-set_other}
-use Rattle.far_scopes.proofs.RecencyLaws.{has-cons_same, has-cons_other, has-without_same, has-without_other, once-without}
+use Rattle.far_scopes.specs.Movement.{Movement, word_of, entry_of, is_local, list_of, AreClean, IsTracked, AreTracked}
+use Rattle.far_scopes.proofs.WordPlaces.{slice_get-set_same, slice_get-set_other}
+use Rattle.far_scopes.proofs.RecencyLaws.{has-cons_same, has-cons_other}
 use Rattle.far_scopes.proofs.Tracked.{Others, clean-one, lists-kept, each-one}
 use Rattle.far_scopes.proofs.Places.{cases_option}
 use Rattle.far_scopes.proofs.Departures.{word-there}
@@ -108,8 +106,8 @@ module _ {X K : Type 0} (meaning : List ℕ → List X) (content : K → List �
         even = tracked.even ∙ sym (ap (λ l. length l) words ∙ length-set m.memory.words o (Local at false true true));
         few = tracked.few;
         each = each-one meaning content m back o others-back spelled tracked refl refl
-          (λ word e w there. rw change.here (subst (λ (k : Pointer). IsTracked meaning content spelled m.changes m.leavings k (Some list) e) (some-one (word_of back o) w word-back)
+            (λ word e w there. rw change.here (subst (λ (k : Pointer). IsTracked meaning content spelled m.changes m.leavings k (Some list) e) (some-one (word_of back o) w word-back)
             (subst (IsTracked meaning content spelled m.changes m.leavings (Local at false true true) (Some list)) (some-one (entry_of m o) there was) tracked-one-back)));
         once = (tracked.ordered o ∙ away, tracked.once);
-        ordered = ordered-back
+        ordered = ordered-back;
       }

@@ -1,22 +1,19 @@
 -- What holds of all objects once one is made.
-use Rattle.std.proofs.Common.{zero, suc, take, ◌≡◌, ◌≢◌, ℕ, ◌+◌, ◌-◌, ◌≤◌, ◌<◌, ◌^◌, Bool, true, false, inl, inr, List, [], ◌∷◌, ◌++◌, length, length-append, Option, Some, None, IsSome, refl, sym, ap, subst, ◌∙◌, arith}
-use Rattle.std.specs.Prelude.{is_some, slice_get, option_map}
-use Rattle.std.specs.Option.{option_map_or, option_and_then}
+use Rattle.std.proofs.Common.{◌≡◌, ◌≢◌, ℕ, ◌<◌, ◌^◌, true, false, inl, inr, List, [], ◌∷◌, ◌++◌, length, length-append, Some, refl, sym, ap, subst, ◌∙◌, arith}
+use Rattle.std.specs.Prelude.{is_some}
+use Rattle.std.specs.Option.{option_map_or}
 use Rattle.std.proofs.lemmas.Bool.{cases_eq}
-use Rattle.std.proofs.lemmas.List.{length-take-le}
-use Rattle.std.proofs.lemmas.Option.{slice_get_past}
 use Rattle.far_types.specs.declared.name.Name.{Name}
 use Rattle.far_pointer.specs.declared.pointer.At.{At}
 use Rattle.far_pointer.specs.declared.pointer.Pointer.{Pointer}
-use Rattle.far_pointer.specs.declared.pointer.Pointer.TheVariants.{Local, Remote}
+use Rattle.far_pointer.specs.declared.pointer.Pointer.TheVariants.{Local}
 use Rattle.far_pointer.specs.Layout.{is_dirty}
-use Rattle.far_scopes.specs.declared.entry.Entry.{Entry}
-use Rattle.far_scopes.specs.Recency.{has, without, Once}
-use Rattle.far_scopes.specs.Memory.{Memory, place_of, list_in, ChangesList}
-use Rattle.far_scopes.specs.Movement.{Movement, word_of, entry_of, is_local, dirty, ticket_of, list_of, AreClean, IsTracked, AreTracked}
+use Rattle.far_scopes.specs.Recency.{has}
+use Rattle.far_scopes.specs.Memory.{Memory, list_in, ChangesList}
+use Rattle.far_scopes.specs.Movement.{Movement, word_of, entry_of, is_local, dirty, list_of, AreClean, IsTracked, AreTracked}
 use Rattle.far_scopes.specs.Effects.{new_entry}
 use Rattle.far_scopes.proofs.WordPlaces.{slice_get-push_last, slice_get-push_other, place-push_last, place-push_other, place-end}
-use Rattle.far_scopes.proofs.RecencyLaws.{has-cons_same, has-cons_other, has-without_same, has-without_other, once-without}
+use Rattle.far_scopes.proofs.RecencyLaws.{has-cons_same, has-cons_other}
 use Rattle.far_scopes.proofs.Tracked.{Others, clean-one, list-one, each-one}
 use Rattle.far_scopes.proofs.Transitions.{some-one}
 
@@ -27,7 +24,7 @@ tracked-new meaning content spelled changes leavings at name list some =
     record { version = omega arith; left = omega arith; some = some; long = refl; away = λ is. cc; copy = refl; far = tt }
 
 module _ {X K : Type 0} (meaning : List ℕ → List X) (content : K → List ℕ) (spelled : List X → List ℕ → Type 0) (m : Movement X K) (tracked : AreTracked meaning content spelled m) (memory : Memory X) (at : At) (name : Name) (list : List X)
-  (words : memory.words ≡ m.memory.words ++ Local at true true false ∷ []) (change : ChangesList (list_in m.memory) (list_in memory) (length m.memory.words) (Some list)) where
+    (words : memory.words ≡ m.memory.words ++ Local at true true false ∷ []) (change : ChangesList (list_in m.memory) (list_in memory) (length m.memory.words) (Some list)) where
   -- the objects once this one is made
   abbrev with_one : Movement X K
   with_one = record m { memory = memory; entries = m.entries ++ new_entry name (length list) ∷ []; order = length m.entries ∷ m.order }
@@ -45,7 +42,7 @@ module _ {X K : Type 0} (meaning : List ℕ → List X) (content : K → List �
   others = record {
     words = λ p ne. rw words (slice_get-push_other m.memory.words (Local at true true false) p (apart p ne));
     entries = slice_get-push_other m.entries (new_entry name (length list));
-    lists = λ p ne. change.others p (apart p ne)
+    lists = λ p ne. change.others p (apart p ne);
   }
 
   pub lists-made : ChangesList (list_of meaning content m) (list_of meaning content with_one) (length m.entries) (Some list)
@@ -53,7 +50,7 @@ module _ {X K : Type 0} (meaning : List ℕ → List X) (content : K → List �
 
   pub clean-made : AreClean meaning content m → AreClean meaning content with_one
   clean-made clean = clean-one meaning content m with_one (length m.entries) others clean
-    (λ c. let d : dirty with_one (length m.entries) ≡ true = ap (λ w. option_map_or is_dirty w false) word-new in let both = sym d ∙ c in cc)
+      (λ c. let d : dirty with_one (length m.entries) ≡ true = ap (λ w. option_map_or is_dirty w false) word-new in let both = sym d ∙ c in cc)
 
   ordered-made : (p : ℕ) → has (length m.entries ∷ m.order) p ≡ is_local with_one p
   ordered-made p = elim (cases_eq p (length m.entries)) [
@@ -70,9 +67,9 @@ module _ {X K : Type 0} (meaning : List ℕ → List X) (content : K → List �
     even = length-append m.entries (new_entry name (length list) ∷ []) ∙ rw (words, length-append m.memory.words (Local at true true false ∷ []), tracked.even) refl;
     few = omega (arith, few, length-append m.entries (new_entry {K = K} name (length list) ∷ []));
     each = each-one meaning content m with_one (length m.entries) others spelled tracked refl refl
-      (λ word e w is. rw list-new (subst (λ (k : Pointer). IsTracked meaning content spelled m.changes m.leavings k (Some list) e) (some-one (word_of with_one (length m.entries)) w word-new)
+        (λ word e w is. rw list-new (subst (λ (k : Pointer). IsTracked meaning content spelled m.changes m.leavings k (Some list) e) (some-one (word_of with_one (length m.entries)) w word-new)
         (subst (IsTracked meaning content spelled m.changes m.leavings (Local at true true false) (Some list)) (some-one (entry_of with_one (length m.entries)) is (slice_get-push_last m.entries (new_entry name (length list))))
-          (tracked-new meaning content spelled m.changes m.leavings at name list some))));
+        (tracked-new meaning content spelled m.changes m.leavings at name list some))));
     once = (not-yet, tracked.once);
-    ordered = ordered-made
+    ordered = ordered-made;
   }

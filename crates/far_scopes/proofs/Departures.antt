@@ -1,22 +1,20 @@
 -- What holds of all objects once one goes away.
-use Rattle.std.proofs.Common.{◌≡◌, ◌≢◌, ℕ, zero, suc, ◌+◌, ◌<◌, get_or, Bool, true, false, inl, inr, List, [], ◌∷◌, ◌++◌, length, Option, Some, None, IsSome, refl, sym, ap, subst, ◌∙◌, arith}
-use Rattle.std.specs.Prelude.{is_some, slice_get, slice_set, option_map, All, IsSomeAnd, IfSome}
-use Rattle.std.specs.Option.{option_map_or, option_and_then}
+use Rattle.std.proofs.Common.{◌≡◌, ◌≢◌, ℕ, ◌+◌, ◌<◌, get_or, inl, inr, List, length, Option, Some, None, IsSome, refl, sym, ap, subst, ◌∙◌, arith}
+use Rattle.std.specs.Prelude.{slice_get, slice_set, All, IsSomeAnd, IfSome}
+use Rattle.std.specs.Option.{option_map_or}
 use Rattle.std.proofs.lemmas.Bool.{cases_eq}
 use Rattle.std.proofs.lemmas.List.{length-set}
 use Rattle.std.proofs.lemmas.Option.{slice_get-get_or}
-use Rattle.far_pointer.specs.declared.pointer.At.{At}
 use Rattle.far_pointer.specs.declared.pointer.Pointer.{Pointer}
-use Rattle.far_pointer.specs.declared.pointer.Pointer.TheVariants.{Local, Remote}
+use Rattle.far_pointer.specs.declared.pointer.Pointer.TheVariants.{Remote}
 use Rattle.far_codec.specs.Spelling.{IsSpelled}
 use Rattle.far_scopes.specs.declared.entry.Entry.{Entry}
-use Rattle.far_scopes.specs.Recency.{has, without, Once}
-use Rattle.far_scopes.specs.Memory.{Memory, at_of, place_of, list_in, ChangesList}
-use Rattle.far_scopes.specs.Movement.{Movement, word_of, entry_of, is_local, dirty, pins_of, leavings_of, ticket_of, list_of, AreClean, IsTracked, AreTracked}
-use Rattle.far_scopes.proofs.WordPlaces.{word-read, list-within, slice_get-set_same, slice_get-set_other, place-set_same, place-set_other}
-use Rattle.far_scopes.proofs.RecencyLaws.{has-cons_same, has-cons_other, has-without_same, has-without_other, once-without}
+use Rattle.far_scopes.specs.Recency.{has, without}
+use Rattle.far_scopes.specs.Memory.{Memory, list_in, ChangesList}
+use Rattle.far_scopes.specs.Movement.{Movement, word_of, entry_of, is_local, pins_of, leavings_of, list_of, AreClean, IsTracked, AreTracked}
+use Rattle.far_scopes.proofs.WordPlaces.{word-read, list-within, slice_get-set_same, slice_get-set_other}
+use Rattle.far_scopes.proofs.RecencyLaws.{has-without_same, has-without_other, once-without}
 use Rattle.far_scopes.proofs.Tracked.{Others, clean-one, lists-kept, each-one}
-use Rattle.far_scopes.proofs.Places.{cases_option}
 use Rattle.far_scopes.proofs.Transitions.{some-one}
 
 -- an object that has a number has a word
@@ -102,7 +100,7 @@ module _ {X K : Type 0} (meaning : List ℕ → List X) (content : K → List �
               long = tt;
               away = λ remote. (subst (λ e. option_map_or (λ (x : Entry K). x.pins) e 0 ≡ 0) entry-was unpinned, ap (λ l. length l) means ∙ long);
               copy = refl;
-              far = rw means found.2
+              far = rw means found.2;
             }
 
         pub tracked-gone : AreTracked meaning content spelled gone
@@ -110,8 +108,8 @@ module _ {X K : Type 0} (meaning : List ℕ → List X) (content : K → List �
           even = length-set m.entries o left-behind ∙ tracked.even ∙ sym (ap (λ l. length l) words ∙ length-set m.memory.words o Remote);
           few = rw (length-set m.entries o left-behind) tracked.few;
           each = each-one meaning content m gone o others-gone spelled tracked refl refl
-            (λ word e w there. rw change.here (subst (λ (k : Pointer). IsTracked meaning content spelled m.changes m.leavings k None e) (some-one (word_of gone o) w word-gone)
+              (λ word e w there. rw change.here (subst (λ (k : Pointer). IsTracked meaning content spelled m.changes m.leavings k None e) (some-one (word_of gone o) w word-gone)
               (subst (IsTracked meaning content spelled m.changes m.leavings Remote None) (some-one (entry_of gone o) there entry-gone) tracked-one-gone)));
           once = once-without m.order o tracked.once;
-          ordered = ordered-gone
+          ordered = ordered-gone;
         }

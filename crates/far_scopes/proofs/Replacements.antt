@@ -1,7 +1,7 @@
 -- What holds of all objects once one gets another list.
-use Rattle.std.proofs.Common.{◌≡◌, ◌≢◌, ℕ, ◌+◌, ◌<◌, get_or, nat_lt, cond, Bool, true, false, inl, inr, List, [], ◌∷◌, length, Option, Some, None, IsSome, refl, sym, ap, subst, ◌∙◌, arith}
-use Rattle.std.specs.Prelude.{not, is_some, slice_get, slice_set, option_map}
-use Rattle.std.specs.Option.{option_map_or, option_and_then}
+use Rattle.std.proofs.Common.{◌≡◌, ◌≢◌, ℕ, ◌+◌, ◌<◌, get_or, nat_lt, Bool, true, false, inl, inr, List, [], ◌∷◌, length, Some, None, refl, sym, ap, subst, ◌∙◌}
+use Rattle.std.specs.Prelude.{not, is_some, slice_set}
+use Rattle.std.specs.Option.{option_and_then}
 use Rattle.std.proofs.lemmas.Bool.{cases_eq}
 use Rattle.std.proofs.lemmas.List.{length-set}
 use Rattle.far_types.specs.declared.refusal.Refusal.{Refusal}
@@ -12,7 +12,7 @@ use Rattle.far_pointer.specs.declared.pointer.Pointer.TheVariants.{Local, Remote
 use Rattle.far_pointer.specs.Layout.{with_dirty, with_hot, with_at}
 use Rattle.far_scopes.specs.declared.entry.Entry.{Entry}
 use Rattle.far_scopes.specs.Recency.{has}
-use Rattle.far_scopes.specs.Memory.{Memory, at_of, place_of, list_in, ChangesList}
+use Rattle.far_scopes.specs.Memory.{Memory, at_of, list_in, ChangesList}
 use Rattle.far_scopes.specs.Placing.{spot, replaced as replaced_in}
 use Rattle.far_scopes.specs.Movement.{Movement, has_copy, word_of, entry_of, is_local, dirty, version_of, list_of, AreClean, IsTracked, AreTracked}
 use Rattle.far_scopes.specs.Refusing.{absent, no_room, written_out, write_refusal, replace_refusal}
@@ -57,7 +57,7 @@ module _ {X K : Type 0} (m : Movement X K) (o n : ℕ) (free : replace_refusal m
   local-replaced = not-not (is_local m o) free-parts.0
 
 module _ {X K : Type 0} (meaning : List ℕ → List X) (content : K → List ℕ) (spelled : List X → List ℕ → Type 0) (m : Movement X K) (tracked : AreTracked meaning content spelled m) (o : ℕ) (within : o < length m.entries) (entry : Entry K) (read : entry ≡ get_or m.entries o entry) (list : List X) (free : replace_refusal m o (length list) ≡ None)
-  (memory : Memory X) (is : memory ≡ replaced_in m.memory o list) (change : ChangesList (list_in m.memory) (list_in memory) o (Some list)) where
+    (memory : Memory X) (is : memory ≡ replaced_in m.memory o list) (change : ChangesList (list_in m.memory) (list_in memory) o (Some list)) where
   pub entry-was : entry_of m o ≡ Some entry
   entry-was = word-read m.entries o entry within read
 
@@ -121,10 +121,10 @@ module _ {X K : Type 0} (meaning : List ℕ → List X) (content : K → List �
     even = length-set m.entries o now ∙ tracked.even ∙ sym (ap (λ l. length l) words-are ∙ length-set m.memory.words o (with_at word to));
     few = rw (length-set m.entries o now) tracked.few;
     each = each-one meaning content m mid o others-mid spelled tracked refl refl
-      (λ w e ws es. rw change.here (subst (λ (k : Pointer). IsTracked meaning content spelled m.changes m.leavings k (Some list) e) (some-one (word_of mid o) ws word-mid)
+        (λ w e ws es. rw change.here (subst (λ (k : Pointer). IsTracked meaning content spelled m.changes m.leavings k (Some list) e) (some-one (word_of mid o) ws word-mid)
         (subst (IsTracked meaning content spelled m.changes m.leavings (with_at word to) (Some list)) (some-one (entry_of mid o) es entry-mid) (tracked-one-mid some))));
     once = tracked.once;
-    ordered = ordered-mid
+    ordered = ordered-mid;
   }
 
   version-mid : version_of mid o ≡ version_of m o
@@ -144,7 +144,7 @@ module _ {X K : Type 0} (meaning : List ℕ → List X) (content : K → List �
     others-new parts = record {
       words = λ p ne. ap (λ k. word_of k p) marks ∙ words-other memory o (λ w. with_hot (with_dirty w) true) at-dirty_hot p ne ∙ words-mid p ne;
       entries = λ p ne. ap (λ k. entry_of k p) marks ∙ rw entry-mid (slice_get-set_other (slice_set m.entries o now) o p (record now { version = now.version + 1 }) ne) ∙ entries-mid p ne;
-      lists = λ p ne. parts p ∙ change.others p ne
+      lists = λ p ne. parts p ∙ change.others p ne;
     }
 
     pub clean-new : ((p : ℕ) → list_in new.memory p ≡ list_in memory p) → dirty new o ≡ true → AreClean meaning content m → AreClean meaning content new

@@ -1,7 +1,6 @@
 -- What was just placed or made, taken away again, leaves all as it was.
-use Rattle.std.proofs.Common.{◌≡◌, ℕ, zero, suc, ◌+◌, ◌-◌, ◌<◌, ◌≤◌, nat_eq, cond, Bool, true, false, inl, inr, List, [], ◌∷◌, ◌++◌, length, get_or, take, filter, unwrap_or, Option, Some, None, refl, sym, ap, subst, ◌∙◌, arith, append-nil}
+use Rattle.std.proofs.Common.{◌≡◌, ℕ, zero, suc, ◌≤◌, nat_eq, cond, true, false, inl, inr, List, [], ◌∷◌, ◌++◌, length, filter, unwrap_or, Some, None, refl, ap, subst, ◌∙◌, arith, append-nil}
 use Rattle.std.specs.Prelude.{not, slice_set}
-use Rattle.std.proofs.Math.Seq.{take-append_seam}
 use Rattle.std.proofs.lemmas.Bool.{cases_Bool, cases_lt, eq-eqb}
 use Rattle.std.proofs.lemmas.List.{get_or-set_same, set-get_or}
 use Rattle.std.proofs.lemmas.List.Elements.{filter-append}
@@ -12,7 +11,6 @@ use Rattle.far_log.specs.Room.{Part, SegmentRoom, Room, IsLaid, fill_of, list_at
 use Rattle.far_log.specs.Changes.{with_part, without_part}
 use Rattle.far_log.proofs.Laid.{no-list-at-fill}
 use Rattle.far_log.proofs.RoomLaws.{laid-segment}
-use Rattle.far_scopes.specs.Recency.{without}
 use Rattle.far_scopes.specs.Memory.{Memory}
 use Rattle.far_scopes.specs.Placing.{spot, with_new, without_at, added, removed}
 use Rattle.far_scopes.specs.Movement.{Movement}
@@ -43,7 +41,7 @@ module _ {X : Type 0} where
   part-dropped s list laid =
       let q : Part X = record { offset = fill_of s; list = list } in
       let rest : filter (λ p. not (nat_eq p.offset (fill_of s))) (s.parts ++ q ∷ []) ≡ s.parts =
-          filter-append (λ p. not (nat_eq p.offset (fill_of s))) s.parts (q ∷ []) ∙ rw (eq-eqb (fill_of s) (fill_of s) refl, filter-free s.parts (fill_of s) (no-list-at-fill 0 s.size s.parts laid)) (append-nil s.parts) in
+      filter-append (λ p. not (nat_eq p.offset (fill_of s))) s.parts (q ∷ []) ∙ rw (eq-eqb (fill_of s) (fill_of s) refl, filter-free s.parts (fill_of s) (no-list-at-fill 0 s.size s.parts laid)) (append-nil s.parts) in
       ap (λ (parts : List (Part X)). let t : SegmentRoom X = record { parts = parts; size = s.size } in t) rest
 
   room-back : (room : Room X) (list : List X) → IsRegion room → without_at (with_new room list) (Some (spot room (length list))) ≡ room

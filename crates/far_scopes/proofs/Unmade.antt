@@ -1,24 +1,14 @@
 -- What holds of all objects once the last one is unmade.
-use Rattle.std.proofs.Common.{zero, suc, take, ◌≡◌, ◌≢◌, ℕ, ◌+◌, ◌-◌, ◌≤◌, ◌<◌, ◌^◌, Bool, true, false, inl, inr, List, [], ◌∷◌, ◌++◌, length, length-append, Option, Some, None, IsSome, refl, sym, ap, subst, ◌∙◌, arith}
-use Rattle.std.specs.Prelude.{is_some, slice_get, option_map}
-use Rattle.std.specs.Option.{option_map_or, option_and_then}
+use Rattle.std.proofs.Common.{zero, suc, take, ◌≡◌, ◌≢◌, ℕ, ◌+◌, ◌-◌, ◌≤◌, inl, inr, List, [], ◌∷◌, length, Option, Some, None, refl, sym, ap, subst, ◌∙◌, arith}
+use Rattle.std.specs.Prelude.{slice_get}
 use Rattle.std.proofs.lemmas.Bool.{cases_eq}
 use Rattle.std.proofs.lemmas.List.{length-take-le}
 use Rattle.std.proofs.lemmas.Option.{slice_get_past}
-use Rattle.far_types.specs.declared.name.Name.{Name}
-use Rattle.far_pointer.specs.declared.pointer.At.{At}
-use Rattle.far_pointer.specs.declared.pointer.Pointer.{Pointer}
-use Rattle.far_pointer.specs.declared.pointer.Pointer.TheVariants.{Local, Remote}
-use Rattle.far_pointer.specs.Layout.{is_dirty}
-use Rattle.far_scopes.specs.declared.entry.Entry.{Entry}
-use Rattle.far_scopes.specs.Recency.{has, without, Once}
-use Rattle.far_scopes.specs.Memory.{Memory, place_of, list_in, ChangesList}
-use Rattle.far_scopes.specs.Movement.{Movement, word_of, entry_of, is_local, dirty, ticket_of, list_of, AreClean, IsTracked, AreTracked}
-use Rattle.far_scopes.specs.Effects.{new_entry}
-use Rattle.far_scopes.proofs.WordPlaces.{slice_get-push_last, slice_get-push_other, place-push_last, place-push_other, place-end}
-use Rattle.far_scopes.proofs.RecencyLaws.{has-cons_same, has-cons_other, has-without_same, has-without_other, once-without}
+use Rattle.far_scopes.specs.Recency.{has, without}
+use Rattle.far_scopes.specs.Memory.{Memory, list_in, ChangesList}
+use Rattle.far_scopes.specs.Movement.{Movement, word_of, entry_of, is_local, list_of, AreClean, AreTracked}
+use Rattle.far_scopes.proofs.RecencyLaws.{has-without_same, has-without_other, once-without}
 use Rattle.far_scopes.proofs.Tracked.{Others, clean-one, list-one, each-one}
-use Rattle.far_scopes.proofs.Transitions.{some-one}
 
 module _ {X : Type 0} where
   take-same : (n : ℕ) (xs : List X) → slice_get (take n xs) n ≡ None
@@ -42,7 +32,7 @@ module _ {X : Type 0} where
   cut-length xs = length-take-le (length xs - 1) xs (omega arith)
 
 module _ {X K : Type 0} (meaning : List ℕ → List X) (content : K → List ℕ) (spelled : List X → List ℕ → Type 0) (m : Movement X K) (tracked : AreTracked meaning content spelled m) (memory : Memory X)
-  (words : memory.words ≡ take (length m.memory.words - 1) m.memory.words) (change : ChangesList (list_in m.memory) (list_in memory) (length m.memory.words - 1) None) where
+    (words : memory.words ≡ take (length m.memory.words - 1) m.memory.words) (change : ChangesList (list_in m.memory) (list_in memory) (length m.memory.words - 1) None) where
   -- the objects once the last is unmade
   abbrev without_last : Movement X K
   without_last = record m { memory = memory; entries = take (length m.entries - 1) m.entries; order = without m.order (length m.entries - 1) }
@@ -69,7 +59,7 @@ module _ {X K : Type 0} (meaning : List ℕ → List X) (content : K → List �
   others-unmade = record {
     words = words-other;
     entries = cut-other m.entries;
-    lists = λ p ne. change.others p (before p ne)
+    lists = λ p ne. change.others p (before p ne);
   }
 
   pub lists-unmade : ChangesList (list_of meaning content m) (list_of meaning content without_last) last None
@@ -77,7 +67,7 @@ module _ {X K : Type 0} (meaning : List ℕ → List X) (content : K → List �
 
   pub clean-unmade : AreClean meaning content m → AreClean meaning content without_last
   clean-unmade clean = clean-one meaning content m without_last last others-unmade clean
-    (λ c. lists-unmade.here ∙ rw no-entry refl)
+      (λ c. lists-unmade.here ∙ rw no-entry refl)
 
   ordered-unmade : (p : ℕ) → has (without m.order last) p ≡ is_local without_last p
   ordered-unmade p = elim (cases_eq p last) [
@@ -93,7 +83,7 @@ module _ {X K : Type 0} (meaning : List ℕ → List X) (content : K → List �
     even = cut-length m.entries ∙ last-is ∙ sym (ap (λ l. length l) words ∙ cut-length m.memory.words);
     few = rw (cut-length m.entries) (omega (arith, tracked.few));
     each = each-one meaning content m without_last last others-unmade spelled tracked refl refl
-      (λ word e w is. absurd (no_some (entry_of without_last last) no-entry is));
+        (λ word e w is. absurd (no_some (entry_of without_last last) no-entry is));
     once = once-without m.order last tracked.once;
-    ordered = ordered-unmade
+    ordered = ordered-unmade;
   }

@@ -1,5 +1,5 @@
-use Rattle.std.proofs.Common.{◌≡◌, Some, refl, sym, ap, subst, ◌∙◌}
-use Rattle.far_scopes.specs.Memory.{at_of, list_in, ChangesList, IsMemory}
+use Rattle.std.proofs.Common.{ap}
+use Rattle.far_scopes.specs.Memory.{at_of}
 use Rattle.far_scopes.proofs.MemoryLaws.{memory-added, list-added, spot-is, new-is}
 use Rattle.far_scopes.proofs.Undone.{removed-added}
 use Rattle.far_scopes.proofs.memory.LocalMemory.add.Goals as goal

@@ -1,4 +1,4 @@
-use Rattle.std.proofs.Common.{◌≡◌, ◌<◌, length, Some, false, refl, sym, ap, subst, ◌∙◌}
+use Rattle.std.proofs.Common.{◌≡◌, ◌<◌, length, Some, false, sym, ap, subst}
 use Rattle.far_scopes.specs.Movement.{list_of, is_local}
 use Rattle.far_scopes.proofs.Arrivals.{word-was, some-back, tracked-back, lists-back, clean-back}
 use Rattle.far_scopes.proofs.objects.Objects.arrive.Goals as goal

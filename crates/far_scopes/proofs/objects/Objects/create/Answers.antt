@@ -1,6 +1,4 @@
-use Rattle.std.proofs.Common.{◌≡◌, ◌<◌, ◌^◌, ◌++◌, ◌∷◌, [], length, true, false, refl, sym, ap, subst, ◌∙◌}
-use Rattle.far_pointer.specs.declared.pointer.Pointer.TheVariants.{Local}
-use Rattle.far_scopes.specs.Movement.{list_of, AreClean}
+use Rattle.std.proofs.Common.{◌≡◌, ◌<◌, ◌^◌, length, sym, ap, subst}
 use Rattle.far_scopes.specs.Placing.{removed}
 use Rattle.far_scopes.proofs.Undone.{uncreated-created}
 use Rattle.far_scopes.proofs.Comings.{tracked-made, lists-made, clean-made}

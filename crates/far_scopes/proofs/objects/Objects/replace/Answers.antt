@@ -1,5 +1,5 @@
-use Rattle.std.proofs.Common.{◌≡◌, ◌<◌, length, Some, None, refl, sym, ap, subst, ◌∙◌}
-use Rattle.far_scopes.specs.Refusing.{refusal_in, replace_refusal}
+use Rattle.std.proofs.Common.{◌≡◌, ◌<◌, length, None, refl, sym, subst}
+use Rattle.far_scopes.specs.Refusing.{replace_refusal}
 use Rattle.far_scopes.proofs.Replacements.{entry-was, tracked-mid, free-mid, lists-new, clean-new}
 use Rattle.far_scopes.proofs.objects.Objects.replace.Goals as goal
 
