@@ -10,3 +10,6 @@ mod scope;
 pub use entry::Entry;
 pub use objects::Objects;
 pub use scope::Scope;
+
+#[cfg(test)]
+mod tests;
