@@ -1,4 +1,10 @@
 pub mod Places
+pub mod Rising
+pub mod ObjectLists
+pub mod Settling
+pub mod Relocated
+pub mod HotFirst
+pub mod Compacted
 pub mod WordPlaces
 pub mod MemoryLaws
 pub mod KeyLaws
@@ -9,3 +15,4 @@ pub mod Touched
 pub mod Refused
 pub mod Overwritten
 pub mod Written
+pub mod CompactedObjects
