@@ -124,15 +124,15 @@ module _ {X : Type 0} where
         | inl none ↦ untouched o (λ at was. absurd (none_or_some (place_of old o) (ap (option_and_then at_of) none) was)) ∙ none ∙ sym (ap (option_map (moved_word parts order from to)) none)
         | inr (word, is) ↦ elim (cases_option (at_of word)) [
           | inl away ↦
-            untouched o (λ at was. absurd (none_or_some (place_of old o) (ap (option_and_then at_of) is ∙ away) was)) ∙ is
-            ∙ ap Some (sym (word-else word (λ at was. absurd (none_or_some (at_of word) away was)))) ∙ sym (ap (option_map (moved_word parts order from to)) is)
+              untouched o (λ at was. absurd (none_or_some (place_of old o) (ap (option_and_then at_of) is ∙ away) was)) ∙ is
+              ∙ ap Some (sym (word-else word (λ at was. absurd (none_or_some (at_of word) away was)))) ∙ sym (ap (option_map (moved_word parts order from to)) is)
           | inr (at, lies) ↦ elim (cases_eq at.segment from) [
             | inl here ↦
-              let k = whole o at (ap (option_and_then at_of) is ∙ lies) here in
-              settled-at o at.offset k.0 k.1 k.2 ∙ ap (option_map (λ w. with_hot (with_at w record { segment = to; offset = offset_after parts order at.offset }) false)) is ∙ ap Some (sym (word-here word at lies here)) ∙ sym (ap (option_map (moved_word parts order from to)) is)
+                let k = whole o at (ap (option_and_then at_of) is ∙ lies) here in
+                settled-at o at.offset k.0 k.1 k.2 ∙ ap (option_map (λ w. with_hot (with_at w record { segment = to; offset = offset_after parts order at.offset }) false)) is ∙ ap Some (sym (word-here word at lies here)) ∙ sym (ap (option_map (moved_word parts order from to)) is)
             | inr else ↦
-              untouched o (λ q was same. else (ap (λ r. r.segment) (same_some (place_of old o) (ap (option_and_then at_of) is ∙ lies) was) ∙ same)) ∙ is
-              ∙ ap Some (sym (word-else word (λ q was same. else (ap (λ r. r.segment) (same_some (at_of word) lies was) ∙ same)))) ∙ sym (ap (option_map (moved_word parts order from to)) is)
+                untouched o (λ q was same. else (ap (λ r. r.segment) (same_some (place_of old o) (ap (option_and_then at_of) is ∙ lies) was) ∙ same)) ∙ is
+                ∙ ap Some (sym (word-else word (λ q was same. else (ap (λ r. r.segment) (same_some (at_of word) lies was) ∙ same)))) ∙ sym (ap (option_map (moved_word parts order from to)) is)
           ]
         ]
       ]
@@ -173,11 +173,11 @@ module _ {X : Type 0} (words : List Pointer) (room room' : Room X) (m : IsMemory
   kept : (at : At) → IsSome (part_of room at) → part_of room' (moved at) ≡ part_of room at
   kept at some = elim (cases_eq at.segment from) [
     | inl here ↦
-      let w = part-listed at here some in
-      ap (part_of room') (moved-here source order from to at here)
-      ∙ ap (list_at (segment_of room' to).parts) (ap (offset_after source order) (sym w.2) ∙ offset-at w.0 w.1)
-      ∙ compacts.moved w.0 w.1
-      ∙ ap (list_at source) w.2 ∙ ap (λ n. list_at (segment_of room n).parts at.offset) (sym here)
+        let w = part-listed at here some in
+        ap (part_of room') (moved-here source order from to at here)
+        ∙ ap (list_at (segment_of room' to).parts) (ap (offset_after source order) (sym w.2) ∙ offset-at w.0 w.1)
+        ∙ compacts.moved w.0 w.1
+        ∙ ap (list_at source) w.2 ∙ ap (λ n. list_at (segment_of room n).parts at.offset) (sym here)
     | inr else ↦ ap (part_of room') (moved-else source order from to at else) ∙ ap (λ s. list_at s.parts at.offset) (compacts.others at.segment else (not-target at some))
   ]
 
@@ -185,17 +185,17 @@ module _ {X : Type 0} (words : List Pointer) (room room' : Room X) (m : IsMemory
   offsets-apart : from < length room → AllPairs (λ o p. o ≢ p) offsets
   offsets-apart there =
       rw compacts.offsets_are (rises-apart 0 (map (λ p. p.offset) (gathered source order)) (rises-picked (list_or_none source) 0 order
-        (λ k lt. some-list 0 (segment_of room from).size source (get_or order k 0) (laid-segment room from m.region there) (All-get_or (λ offset. IsSome (list_at source offset)) order k 0 lt listed.listed))))
+      (λ k lt. some-list 0 (segment_of room from).size source (get_or order k 0) (laid-segment room from m.region there) (All-get_or (λ offset. IsSome (list_at source offset)) order k 0 lt listed.listed))))
 
   once : (q r : At) → IsSome (part_of room q) → IsSome (part_of room r) → moved q ≡ moved r → q ≡ r
   once q r one other same = elim (cases_eq q.segment from) [
     | inl here ↦ elim (cases_eq r.segment from) [
       | inl also ↦
-        let w = part-listed q here one in
-        let v = part-listed r also other in
-        let offset : get_or offsets w.0 0 ≡ get_or offsets v.0 0 = sym (offset-at w.0 w.1) ∙ ap (offset_after source order) w.2 ∙ ap (λ at. at.offset) (sym (moved-here source order from to q here) ∙ same ∙ moved-here source order from to r also) ∙ ap (offset_after source order) (sym v.2) ∙ offset-at v.0 v.1 in
-        let index : w.0 ≡ v.0 = same-index offsets w.0 v.0 (offsets-apart (subst (λ n. n < length room) here (part-there room q one))) (omega (arith, w.1, offsets-long)) (omega (arith, v.1, offsets-long)) offset in
-        at-is q r.segment r.offset (here ∙ sym also) (sym w.2 ∙ ap (λ k. get_or order k 0) index ∙ v.2)
+          let w = part-listed q here one in
+          let v = part-listed r also other in
+          let offset : get_or offsets w.0 0 ≡ get_or offsets v.0 0 = sym (offset-at w.0 w.1) ∙ ap (offset_after source order) w.2 ∙ ap (λ at. at.offset) (sym (moved-here source order from to q here) ∙ same ∙ moved-here source order from to r also) ∙ ap (offset_after source order) (sym v.2) ∙ offset-at v.0 v.1 in
+          let index : w.0 ≡ v.0 = same-index offsets w.0 v.0 (offsets-apart (subst (λ n. n < length room) here (part-there room q one))) (omega (arith, w.1, offsets-long)) (omega (arith, v.1, offsets-long)) offset in
+          at-is q r.segment r.offset (here ∙ sym also) (sym w.2 ∙ ap (λ k. get_or order k 0) index ∙ v.2)
       | inr else ↦ absurd (not-target r other (ap (λ at. at.segment) (sym (moved-else source order from to r else) ∙ sym same ∙ moved-here source order from to q here)))
     ]
     | inr else ↦ elim (cases_eq r.segment from) [
@@ -209,11 +209,13 @@ module _ {X : Type 0} (words : List Pointer) (room room' : Room X) (m : IsMemory
     | inl here ↦ absurd (not_some (part_of room' r) (ap (λ n. list_at (segment_of room' n).parts r.offset) here ∙ ap (λ ps. list_at ps r.offset) compacts.emptied) some)
     | inr ne ↦ elim (cases_eq r.segment to) [
       | inl target ↦
-        let w = compacts.only r.offset (subst (λ n. IsSome (list_at (segment_of room' n).parts r.offset)) target some) in
-        let within : w.0 < length order = omega (arith, w.1, offsets-long) in
-        let at : At = record { segment = from; offset = get_or order w.0 0 } in
-        (at, All-get_or (λ offset. IsSome (list_at source offset)) order w.0 0 within listed.listed,
-          moved-here source order from to at refl ∙ sym (at-is r to (offset_after source order (get_or order w.0 0)) target (sym (offset-at w.0 within ∙ get_or_default offsets w.0 0 r.offset w.1 ∙ w.2))))
+          let w = compacts.only r.offset (subst (λ n. IsSome (list_at (segment_of room' n).parts r.offset)) target some) in
+          let within : w.0 < length order = omega (arith, w.1, offsets-long) in
+          let at : At = record { segment = from; offset = get_or order w.0 0 } in (
+            at,
+            All-get_or (λ offset. IsSome (list_at source offset)) order w.0 0 within listed.listed,
+            moved-here source order from to at refl ∙ sym (at-is r to (offset_after source order (get_or order w.0 0)) target (sym (offset-at w.0 within ∙ get_or_default offsets w.0 0 r.offset w.1 ∙ w.2))),
+          )
       | inr else ↦ (r, subst IsSome (ap (λ s. list_at s.parts r.offset) (compacts.others r.segment ne else)) some, moved-else source order from to r ne)
     ]
   ]
@@ -221,7 +223,7 @@ module _ {X : Type 0} (words : List Pointer) (room room' : Room X) (m : IsMemory
   pub memory-compacted : IsMemory (map (moved_word source order from to) words) room'
   memory-compacted = record {
     region = sound;
-    own = own-relocated (place_of words) (place_of (map (moved_word source order from to) words)) (part_of room) (part_of room') m.own moved (places-moved source order from to words) once kept came
+    own = own-relocated (place_of words) (place_of (map (moved_word source order from to) words)) (part_of room) (part_of room') m.own moved (places-moved source order from to words) once kept came;
   }
 
   pub lists-compacted : (o : ℕ) → list_in record { words = map (moved_word source order from to) words; room = room' } o ≡ list_in record { words = words; room = room } o
@@ -264,7 +266,7 @@ module _ {X : Type 0} (words : List Pointer) (room : Room X) (m : IsMemory words
       compacted-is = record {
         to = to;
         target = compacts.target;
-        memory = rw (settled-words, compacts.room, in-order) refl
+        memory = rw (settled-words, compacts.room, in-order) refl;
       }
 
       pub compacted-memory : IsMemory new room'

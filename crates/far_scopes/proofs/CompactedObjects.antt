@@ -3,6 +3,7 @@ use Rattle.std.proofs.Common.{◌≡◌, ℕ, ◌≤◌, ◌<◌, Bool, true, fa
 use Rattle.std.specs.Prelude.{is_some, slice_get, option_map, IfSome}
 use Rattle.std.specs.Option.{option_map_or, option_and_then, option_or}
 use Rattle.std.proofs.lemmas.Option.{same_Some, slice_get-map}
+use Rattle.std.proofs.lemmas.Bool.{false≢true}
 use Rattle.std.proofs.lemmas.List.{length-map}
 use Rattle.far_pointer.specs.declared.pointer.At.{At}
 use Rattle.far_pointer.specs.declared.pointer.Pointer.{Pointer}
@@ -17,10 +18,14 @@ use Rattle.far_scopes.proofs.Places.{cases_option, none_or_some, same_some}
 
 -- a change of words that keeps which objects are local, dirty and have a far copy
 pub record Keeps (change : Pointer → Pointer) : Type 0 where
-  pub away : (word : Pointer) → change word ≡ Remote → word ≡ Remote
   pub copy : (word : Pointer) → has_copy (change word) ≡ has_copy word
   pub dirt : (word : Pointer) → is_dirty (change word) ≡ is_dirty word
   pub local : (word : Pointer) → is_some (at_of (change word)) ≡ is_some (at_of word)
+
+-- what is away was away
+away-kept : (change : Pointer → Pointer) → Keeps change → (word : Pointer) → change word ≡ Remote → word ≡ Remote
+away-kept change keeps (Local at dirty hot far) is = absurd (false≢true (sym (ap (λ w. is_some (at_of w)) is) ∙ keeps.local (Local at dirty hot far)))
+away-kept change keeps Remote is = refl
 
 module _ {X K : Type 0} (meaning : List ℕ → List X) (content : K → List ℕ) (m : Movement X K) (memory : Memory X) (change : Pointer → Pointer) (keeps : Keeps change)
     (words : memory.words ≡ map change m.memory.words) (lists : (o : ℕ) → list_in memory o ≡ list_in m.memory o) where
@@ -60,41 +65,38 @@ module _ {X K : Type 0} (meaning : List ℕ → List X) (content : K → List �
     even = tracked.even ∙ sym (ap (λ (l : List Pointer). length l) words ∙ length-map m.memory.words change);
     few = tracked.few;
     each = λ o word entry now was.
-      let w = word-was o word now in
-      let t = tracked.each o w.0 entry w.1 was in
-      record {
-        version = t.version; left = t.left; some = t.some;
-        long = subst (λ l. IfSome l (λ xs. length xs ≡ entry.len)) (sym (lists o)) t.long;
-        away = λ is. t.away (keeps.away w.0 (sym w.2 ∙ is));
-        copy = ap has_copy w.2 ∙ keeps.copy w.0 ∙ t.copy;
-        far = t.far
-      };
+        let w = word-was o word now in
+        let t = tracked.each o w.0 entry w.1 was in
+        record {
+          version = t.version;
+          left = t.left;
+          some = t.some;
+          long = subst (λ l. IfSome l (λ xs. length xs ≡ entry.len)) (sym (lists o)) t.long;
+          away = λ is. t.away (away-kept change keeps w.0 (sym w.2 ∙ is));
+          copy = ap has_copy w.2 ∙ keeps.copy w.0 ∙ t.copy;
+          far = t.far;
+        };
     once = tracked.once;
-    ordered = λ p. tracked.ordered p ∙ sym (local-as p)
+    ordered = λ p. tracked.ordered p ∙ sym (local-as p);
   }
 
 module _ {X : Type 0} (parts : List (Part X)) (order : List ℕ) (from to : ℕ) where
-  here-or-not : Bool → Pointer → Pointer
+  abbrev here-or-not : Bool → Pointer → Pointer
   here-or-not b (Local at dirty hot far) = cond b (Local record { segment = to; offset = offset_after parts order at.offset } dirty false far) (Local at dirty hot far)
   here-or-not b Remote = Remote
 
   -- a compaction keeps them
   pub keeps-moved : Keeps (moved_word parts order from to)
-  keeps-moved = record { away = goes; copy = copies; dirt = dirts; local = locals }
+  keeps-moved = record { copy = copies; dirt = dirts; local = locals }
     where
-      goes : (word : Pointer) → moved_word parts order from to word ≡ Remote → word ≡ Remote
-      goes (Local at dirty hot far) is = absurd (either (eqb at.segment from) at dirty hot far is)
-        where
-          either : (b : Bool) (at : At) (dirty hot far : Bool) → here-or-not b (Local at dirty hot far) ≡ Remote → ⊥
-          either true at dirty hot far is = cc
-          either false at dirty hot far is = cc
-      goes Remote is = refl
       copies : (word : Pointer) → has_copy (moved_word parts order from to word) ≡ has_copy word
       copies (Local at dirty hot far) = elim (eqb at.segment from) as (λ b. has_copy (here-or-not b (Local at dirty hot far)) ≡ far) [ true ↦ refl | false ↦ refl ]
       copies Remote = refl
+
       dirts : (word : Pointer) → is_dirty (moved_word parts order from to word) ≡ is_dirty word
       dirts (Local at dirty hot far) = elim (eqb at.segment from) as (λ b. is_dirty (here-or-not b (Local at dirty hot far)) ≡ dirty) [ true ↦ refl | false ↦ refl ]
       dirts Remote = refl
+
       locals : (word : Pointer) → is_some (at_of (moved_word parts order from to word)) ≡ is_some (at_of word)
       locals (Local at dirty hot far) = elim (eqb at.segment from) as (λ b. is_some (at_of (here-or-not b (Local at dirty hot far))) ≡ true) [ true ↦ refl | false ↦ refl ]
       locals Remote = refl

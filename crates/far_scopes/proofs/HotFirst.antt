@@ -126,8 +126,8 @@ module _ {X : Type 0} where
 
     in-order : (offset : ℕ) → Contains offsets offset → Contains (hot_first here from) offset
     in-order offset there = true-or-not (hot-from offset) (Contains (hot_first here from) offset)
-      (λ hot. Contains-append_left (filter hot-from offsets) (filter cold-from offsets) offset (in-filter hot-from offsets offset there hot))
-      (λ cold. Contains-append_right (filter hot-from offsets) (filter cold-from offsets) offset (in-filter cold-from offsets offset there (ap not cold)))
+        (λ hot. Contains-append_left (filter hot-from offsets) (filter cold-from offsets) offset (in-filter hot-from offsets offset there hot))
+        (λ cold. Contains-append_right (filter hot-from offsets) (filter cold-from offsets) offset (in-filter cold-from offsets offset there (ap not cold)))
 
     -- a compaction lists the parts of the segment, each once
     pub order-whole : IsOrder (segment_of room from).parts (hot_first here from)
@@ -135,12 +135,12 @@ module _ {X : Type 0} where
         let up = rises-laid 0 (segment_of room from).size (segment_of room from).parts laid in
         record {
           listed = All-append (λ offset. IsSome (list_at (segment_of room from).parts offset)) (filter hot-from offsets) (filter cold-from offsets)
-            (λ k d lt. offset-some (segment_of room from).parts (get_or (filter hot-from offsets) k d) (from-filter hot-from offsets (get_or (filter hot-from offsets) k d) (in-read (filter hot-from offsets) k d lt)).0)
-            (λ k d lt. offset-some (segment_of room from).parts (get_or (filter cold-from offsets) k d) (from-filter cold-from offsets (get_or (filter cold-from offsets) k d) (in-read (filter cold-from offsets) k d lt)).0);
+              (λ k d lt. offset-some (segment_of room from).parts (get_or (filter hot-from offsets) k d) (from-filter hot-from offsets (get_or (filter hot-from offsets) k d) (in-read (filter hot-from offsets) k d lt)).0)
+              (λ k d lt. offset-some (segment_of room from).parts (get_or (filter cold-from offsets) k d) (from-filter cold-from offsets (get_or (filter cold-from offsets) k d) (in-read (filter cold-from offsets) k d lt)).0);
           whole = λ offset some. in-order offset (some-offset (segment_of room from).parts offset some);
           once = pairs-append (λ o p. o ≢ p) (filter hot-from offsets) (filter cold-from offsets) (rises-apart 0 (filter hot-from offsets) (rises-filter hot-from 0 offsets up)) (rises-apart 0 (filter cold-from offsets) (rises-filter cold-from 0 offsets up))
-            (λ o p one other same. let is = (from-filter hot-from offsets o one).1 in let not-is = not-true (hot-from p) (from-filter cold-from offsets p other).1 in
-              let also : hot-from o ≡ false = ap hot-from same ∙ not-is in cc)
+              (λ o p one other same. let is = (from-filter hot-from offsets o one).1 in let not-is = not-true (hot-from p) (from-filter cold-from offsets p other).1 in
+              let also : hot-from o ≡ false = ap hot-from same ∙ not-is in cc);
         }
 
     -- what is known of the objects of the segment
@@ -148,8 +148,8 @@ module _ {X : Type 0} where
       -- an object is hot where its word says so
       hot-is : (o : ℕ) (word : Pointer) (at : At) → slice_get words o ≡ Some word → at_of word ≡ Some at → hot_at words at ≡ is_hot word
       hot-is o word at there is = true-or-not (is_hot word) (hot_at words at ≡ is_hot word)
-        (λ hot. list_any_at (λ w. begins_at at w && is_hot w) words o word (slice_get_within words o word there) (rw (get_or_from_slice_get words o word word there, begins-there at word is) hot) ∙ sym hot)
-        (λ cold. list_any_none (λ w. begins_at at w && is_hot w) words (λ k d lt. and-false (begins_at at (get_or words k d)) (is_hot (get_or words k d)) (λ begins.
+          (λ hot. list_any_at (λ w. begins_at at w && is_hot w) words o word (slice_get_within words o word there) (rw (get_or_from_slice_get words o word word there, begins-there at word is) hot) ∙ sym hot)
+          (λ cold. list_any_none (λ w. begins_at at w && is_hot w) words (λ k d lt. and-false (begins_at at (get_or words k d)) (is_hot (get_or words k d)) (λ begins.
           let read = slice_get-get_or words k d lt in
           let same : k ≡ o = own.apart k o at (ap (option_and_then at_of) read ∙ begins-is at (get_or words k d) begins) (ap (option_and_then at_of) there ∙ is) in
           ap is_hot (same_Some (get_or words k d) word (sym read ∙ ap (slice_get words) same ∙ there)) ∙ cold)) ∙ sym cold)
@@ -159,8 +159,8 @@ module _ {X : Type 0} where
       found-is h o offset is = elim (cases_option (slice_get words o)) [
         | inl none ↦ absurd (none_or_some (offset_of words from h o) (ap (option_and_then (offset_if from h)) none) is)
         | inr (word, there) ↦
-          let w = offset-is from h word offset (sym (ap (option_and_then (offset_if from h)) there) ∙ is) in
-          (ap (option_and_then at_of) there ∙ w.0, hot-is o word record { segment = from; offset = offset } there w.0 ∙ w.1)
+            let w = offset-is from h word offset (sym (ap (option_and_then (offset_if from h)) there) ∙ is) in
+            (ap (option_and_then at_of) there ∙ w.0, hot-is o word record { segment = from; offset = offset } there w.0 ∙ w.1)
       ]
 
       -- an object that lies in the segment is found
@@ -185,7 +185,7 @@ module _ {X : Type 0} where
             let one = (there (get_or objects i none) (in-read objects i none first)).0 in
             let two = (there (get_or objects j none) (in-read objects j none second)).0 in
             apart-at objects i j none are.all.once (λ e. omega (arith, lt, e)) first second
-              (own.apart (get_or objects i none).object (get_or objects j none).object record { segment = from; offset = (get_or objects j none).offset } (one ∙ ap (λ (n : ℕ). let at : At = record { segment = from; offset = n } in Some at) offset) two)
+            (own.apart (get_or objects i none).object (get_or objects j none).object record { segment = from; offset = (get_or objects j none).offset } (one ∙ ap (λ (n : ℕ). let at : At = record { segment = from; offset = n } in Some at) offset) two)
 
         -- where they begin, in the words of the room
         rising-is : (passes : ℕ → Bool) → ((offset : ℕ) → passes offset ≡ true → hot-from offset ≡ h) → ((offset : ℕ) → hot-from offset ≡ h → passes offset ≡ true) → map (λ (f : SegmentObject). f.offset) objects ≡ filter passes offsets
@@ -194,15 +194,15 @@ module _ {X : Type 0} where
             (rises-sorted (map (λ (f : SegmentObject). f.offset) objects) are.rising offsets-apart)
             (rises-filter passes 0 offsets (rises-laid 0 (segment_of room from).size (segment_of room from).parts laid))
             (λ offset in-it.
-              let w = from-map (λ (f : SegmentObject). f.offset) objects offset in-it in
-              let v = there w.0 w.1 in
-              subst (λ n. Contains (filter passes offsets) n) w.2 (in-filter passes offsets w.0.offset (some-offset (segment_of room from).parts w.0.offset (own.placed w.0.object record { segment = from; offset = w.0.offset } v.0)) (back w.0.offset v.1)))
+            let w = from-map (λ (f : SegmentObject). f.offset) objects offset in-it in
+            let v = there w.0 w.1 in
+            subst (λ n. Contains (filter passes offsets) n) w.2 (in-filter passes offsets w.0.offset (some-offset (segment_of room from).parts w.0.offset (own.placed w.0.object record { segment = from; offset = w.0.offset } v.0)) (back w.0.offset v.1)))
             (λ offset in-it.
-              let w = from-filter passes offsets offset in-it in
-              let at : At = record { segment = from; offset = offset } in
-              let v = own.only at (offset-some (segment_of room from).parts offset w.0) in
-              let u = some-word words v.0 at v.1 in
-              in-map (λ (f : SegmentObject). f.offset) objects record { object = v.0; offset = offset } (are.all.whole v.0 offset (slice_get_within words v.0 u.0 u.1) (is-found h v.0 at v.1 refl (to offset w.1))))
+            let w = from-filter passes offsets offset in-it in
+            let at : At = record { segment = from; offset = offset } in
+            let v = own.only at (offset-some (segment_of room from).parts offset w.0) in
+            let u = some-word words v.0 at v.1 in
+            in-map (λ (f : SegmentObject). f.offset) objects record { object = v.0; offset = offset } (are.all.whole v.0 offset (slice_get_within words v.0 u.0 u.1) (is-found h v.0 at v.1 refl (to offset w.1))))
 
       module _ (objects : List SegmentObject) (are : AreHotFirst words from objects) where
         -- their offsets are the order of the compaction
@@ -229,17 +229,17 @@ module _ {X : Type 0} where
             let u = some-word words o at was in
             let below = slice_get_within words o u.0 u.1 in
             rw are.joined (true-or-not (hot-from at.offset) (Contains (are.hot ++ are.others) record { object = o; offset = at.offset })
-              (λ hot. Contains-append_left are.hot are.others record { object = o; offset = at.offset } (are.first.all.whole o at.offset below (is-found true o at was within hot)))
-              (λ cold. Contains-append_right are.hot are.others record { object = o; offset = at.offset } (are.rest.all.whole o at.offset below (is-found false o at was within cold))))
+            (λ hot. Contains-append_left are.hot are.others record { object = o; offset = at.offset } (are.first.all.whole o at.offset below (is-found true o at was within hot)))
+            (λ cold. Contains-append_right are.hot are.others record { object = o; offset = at.offset } (are.rest.all.whole o at.offset below (is-found false o at was within cold))))
 
         pub objects-once : AllPairs (λ o p. o ≢ p) (map (λ (f : SegmentObject). f.object) objects)
         objects-once =
             rw (are.joined, map-append (λ (f : SegmentObject). f.object) are.hot are.others) (pairs-append (λ o p. o ≢ p) (map (λ (f : SegmentObject). f.object) are.hot) (map (λ (f : SegmentObject). f.object) are.others) are.first.all.once are.rest.all.once
-              (λ o p one other same.
-                let w = from-map (λ (f : SegmentObject). f.object) are.hot o one in
-                let v = from-map (λ (f : SegmentObject). f.object) are.others p other in
-                let a = there true are.hot are.first w.0 w.1 in
-                let b = there false are.others are.rest v.0 v.1 in
-                let place : (let at : At = record { segment = from; offset = w.0.offset } in at) ≡ record { segment = from; offset = v.0.offset } = same_some (place_of words v.0.object) (ap (place_of words) (v.2 ∙ sym same ∙ sym w.2) ∙ a.0) b.0 in
-                let also : hot-from v.0.offset ≡ true = ap (λ at. hot-from at.offset) (sym place) ∙ a.1 in
-                both-heats (hot-from v.0.offset) also b.1))
+            (λ o p one other same.
+            let w = from-map (λ (f : SegmentObject). f.object) are.hot o one in
+            let v = from-map (λ (f : SegmentObject). f.object) are.others p other in
+            let a = there true are.hot are.first w.0 w.1 in
+            let b = there false are.others are.rest v.0 v.1 in
+            let place : (let at : At = record { segment = from; offset = w.0.offset } in at) ≡ record { segment = from; offset = v.0.offset } = same_some (place_of words v.0.object) (ap (place_of words) (v.2 ∙ sym same ∙ sym w.2) ∙ a.0) b.0 in
+            let also : hot-from v.0.offset ≡ true = ap (λ at. hot-from at.offset) (sym place) ∙ a.1 in
+            both-heats (hot-from v.0.offset) also b.1))

@@ -37,7 +37,7 @@ module _ (words : List Pointer) (segment : ℕ) (hot : Bool) where
       | inl same ↦ absurd (none_or_some (offset_of words segment hot n) none (subst (λ k. offset_of words segment hot k ≡ Some offset) same is))
       | inr ne ↦ h.whole o offset (omega (arith, lt)) is
     ];
-    once = h.once
+    once = h.once;
   }
 
   -- it is one
@@ -48,15 +48,15 @@ module _ (words : List Pointer) (segment : ℕ) (hot : Bool) where
         sound = All-push (Sound (n + 1)) found next (All-weaker (Sound n) (Sound (n + 1)) (more-sound n) found h.sound) (omega arith, some);
         whole = λ o at lt is. elim (cases_eq o n) [
           | inl same ↦
-            let place : at ≡ offset = same_some (offset_of words segment hot n) (subst (λ k. offset_of words segment hot k ≡ Some at) same is) some in
-            rw (same, place) (Contains-push found next)
+              let place : at ≡ offset = same_some (offset_of words segment hot n) (subst (λ k. offset_of words segment hot k ≡ Some at) same is) some in
+              rw (same, place) (Contains-push found next)
           | inr ne ↦ Contains-append_left found (next ∷ []) record { object = o; offset = at } (h.whole o at (omega (arith, lt)) is)
         ];
         once = rw (map_push (λ (f : SegmentObject). f.object) found next) (all_pairs_push (λ (o p : ℕ). o ≢ p) (map (λ (f : SegmentObject). f.object) found) n h.once
-          (λ k d lt e. let within : k < length found = omega (arith, lt, length-map found (λ (f : SegmentObject). f.object)) in
+            (λ k d lt e. let within : k < length found = omega (arith, lt, length-map found (λ (f : SegmentObject). f.object)) in
             let read = get_or-map (λ (f : SegmentObject). f.object) found k next d within in
             let below = All-get_or (Sound n) found k next within h.sound in
-            omega (arith, below.0, read, e)))
+            omega (arith, below.0, read, e)));
       }
 
   -- in another order they are the same
@@ -65,8 +65,8 @@ module _ (words : List Pointer) (segment : ℕ) (hot : Bool) where
     sound = All-permutation (Sound n) found others moves h.sound;
     whole = λ o offset lt is. Contains-permutation found others record { object = o; offset = offset } moves (h.whole o offset lt is);
     once = AllPairs-from_IsDistinct Decides-eqb (map (λ (f : SegmentObject). f.object) others)
-      (IsDistinct-IsPermutation eqb flips (map (λ (f : SegmentObject). f.object) found) (map (λ (f : SegmentObject). f.object) others) (IsPermutation-map (λ (f : SegmentObject). f.object) found others moves)
-        (IsDistinct-from_AllPairs Decides-eqb (map (λ (f : SegmentObject). f.object) found) h.once))
+        (IsDistinct-IsPermutation eqb flips (map (λ (f : SegmentObject). f.object) found) (map (λ (f : SegmentObject). f.object) others) (IsPermutation-map (λ (f : SegmentObject). f.object) found others moves)
+        (IsDistinct-from_AllPairs Decides-eqb (map (λ (f : SegmentObject). f.object) found) h.once));
   }
 
 -- objects by rising offset

@@ -22,14 +22,14 @@ module _ {X : Type 0} (place place' : ℕ → Option At) (part part' : At → Op
   own-relocated = record {
     placed = λ o r is. let w = came o r is in subst (λ q. IsSome (part' q)) w.2 (subst IsSome (sym (kept w.0 (own.placed o w.0 w.1))) (own.placed o w.0 w.1));
     apart = λ o p r is also.
-      let w = came o r is in
-      let v = came p r also in
-      let same = once w.0 v.0 (own.placed o w.0 w.1) (own.placed p v.0 v.1) (w.2 ∙ sym v.2) in
-      own.apart o p v.0 (subst (λ q. place o ≡ Some q) same w.1) v.1;
+        let w = came o r is in
+        let v = came p r also in
+        let same = once w.0 v.0 (own.placed o w.0 w.1) (own.placed p v.0 v.1) (w.2 ∙ sym v.2) in
+        own.apart o p v.0 (subst (λ q. place o ≡ Some q) same w.1) v.1;
     only = λ r some.
-      let w = from r some in
-      let v = own.only w.0 w.1 in
-      (v.0, goes v.0 ∙ ap (option_map to) v.1 ∙ ap Some w.2);
+        let w = from r some in
+        let v = own.only w.0 w.1 in
+        (v.0, goes v.0 ∙ ap (option_map to) v.1 ∙ ap Some w.2);
   }
 
   pub lists-relocated : (o : ℕ) → option_and_then part' (place' o) ≡ option_and_then part (place o)

@@ -29,8 +29,8 @@ module _ {X : Type 0} where
   in-filter p (x ∷ xs) o h passes = elim (in-cases x o xs h) [
     | inl same ↦ let first : p x ≡ true = ap p (sym same) ∙ passes in rw first (subst (λ q. Contains (q ∷ filter p xs) o) same (in-head o (filter p xs)))
     | inr later ↦
-      let there = in-filter p xs o later passes in
-      elim (p x) as (λ b. Contains (cond b (x ∷ filter p xs) (filter p xs)) o) [ true ↦ in-tail x o (filter p xs) there | false ↦ there ]
+        let there = in-filter p xs o later passes in
+        elim (p x) as (λ b. Contains (cond b (x ∷ filter p xs) (filter p xs)) o) [ true ↦ in-tail x o (filter p xs) there | false ↦ there ]
   ]
 
   first-or-later : (p : X → Bool) (x : X) (xs : List X) (o : X) (b : Bool) → p x ≡ b → (Contains (filter p xs) o → Contains xs o × (p o ≡ true)) → Contains (cond b (x ∷ filter p xs) (filter p xs)) o → Contains (x ∷ xs) o × (p o ≡ true)
@@ -123,12 +123,12 @@ same-rising from (x ∷ xs) (y ∷ ys) hx hy to back =
     ] in
     let heads : x ≡ y = omega (arith, low x y ys hy.1 (to x (in-head x xs)), low y x xs hx.1 (back y (in-head y ys))) in
     let rest : xs ≡ ys = same-rising (x + 1) xs ys hx.1 (subst (λ n. Rises (n + 1) ys) (sym heads) hy.1)
-      (λ o there. elim (in-cases y o ys (to o (in-tail x o xs there))) [
-        | inl same ↦ absurd (let least = rises-least (x + 1) xs o hx.1 there in omega (arith, least, heads, same))
-        | inr later ↦ later
-      ])
-      (λ o there. elim (in-cases x o xs (back o (in-tail y o ys there))) [
-        | inl same ↦ absurd (let least = rises-least (y + 1) ys o hy.1 there in omega (arith, least, heads, same))
-        | inr later ↦ later
-      ]) in
+    (λ o there. elim (in-cases y o ys (to o (in-tail x o xs there))) [
+      | inl same ↦ absurd (let least = rises-least (x + 1) xs o hx.1 there in omega (arith, least, heads, same))
+      | inr later ↦ later
+    ])
+    (λ o there. elim (in-cases x o xs (back o (in-tail y o ys there))) [
+      | inl same ↦ absurd (let least = rises-least (y + 1) ys o hy.1 there in omega (arith, least, heads, same))
+      | inr later ↦ later
+    ]) in
     rw (heads, rest) refl

@@ -38,5 +38,5 @@ settles-more old new objects to offsets k found word once lt is read h =
         | inl same ↦ rw (same, at-k d, was) (slice_get-set_same new found.object next (slice_get_within new found.object word read))
         | inr ne ↦ slice_get-set_other new found.object (get_or objects j d).object next (λ e. apart-at objects j k d once ne (omega (arith, less, ne, lt)) lt (e ∙ sym (at-k d))) ∙ h.here j d (omega (arith, less, ne))
       ];
-      others = λ p none. slice_get-set_other new found.object p next (λ e. none k found (omega arith) (at-k found ∙ sym e)) ∙ h.others p (λ j d less. none j d (omega (arith, less)))
+      others = λ p none. slice_get-set_other new found.object p next (λ e. none k found (omega arith) (at-k found ∙ sym e)) ∙ h.others p (λ j d less. none j d (omega (arith, less)));
     }

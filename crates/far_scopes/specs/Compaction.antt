@@ -47,7 +47,7 @@ module _ {X : Type 0} where
       let order : List ℕ = hot_first memory from
       in record {
         words = map (moved_word (segment_of memory.room from).parts order from to) memory.words;
-        room = compacted memory.room from to order
+        room = compacted memory.room from to order;
       }
 
   -- new is old with segment `from` compacted: into the lowest other segment without parts

@@ -52,7 +52,12 @@ fn hot_first(alloc: Global, words: &[Word], segment: u32) -> Result<Vec<SegmentO
 }
 
 // The objects whose parts lie in a segment and that are hot, or not, as asked for, by rising offset.
-fn rising(alloc: Global, words: &[Word], segment: u32, hot: bool) -> Result<Vec<SegmentObject>, Refusal>
+fn rising(
+    alloc: Global,
+    words: &[Word],
+    segment: u32,
+    hot: bool,
+) -> Result<Vec<SegmentObject>, Refusal>
     ensures found { IfOk result (λ found. AreRising words.now segment hot found.items) }
     ensures memory { IfErr result (λ e. e ≡ Refusal.NoMemory) }
 {
@@ -62,7 +67,12 @@ fn rising(alloc: Global, words: &[Word], segment: u32, hot: bool) -> Result<Vec<
 }
 
 // The same objects by number.
-fn objects_in(alloc: Global, words: &[Word], segment: u32, hot: bool) -> Result<Vec<SegmentObject>, Refusal>
+fn objects_in(
+    alloc: Global,
+    words: &[Word],
+    segment: u32,
+    hot: bool,
+) -> Result<Vec<SegmentObject>, Refusal>
     ensures found { IfOk result (λ found. AreObjects words.now segment hot (length words.now) found.items) }
     ensures memory { IfErr result (λ e. e ≡ Refusal.NoMemory) }
 {
@@ -80,7 +90,11 @@ fn offset_if(word: Word, segment: u32, hot: bool) -> Option<u32>
     ensures { result ≡ offset_if segment hot word }
 {
     match word.read() {
-        Pointer::Local { at, hot: is_hot, .. } if u32::from(at.segment) == segment && is_hot == hot => Some(at.offset),
+        Pointer::Local {
+            at,
+            hot: is_hot,
+            ..
+        } if u32::from(at.segment) == segment && is_hot == hot => Some(at.offset),
         _ => None,
     }
 }

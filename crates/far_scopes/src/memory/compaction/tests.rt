@@ -16,9 +16,15 @@ fn hot_objects_go_first(rt: HostRuntime) -> Result<(), Fail> {
     assert_eq!(rt; at_of(memory.word(0)).offset, 2);
     assert_eq!(rt; at_of(memory.word(0)).segment, 0);
     assert!(rt; !memory.word(1).hot());
-    assert_eq!(rt; memory.compact(rt.alloc(), 3).err(), Some(Refusal::OutOfRange));
+    assert_eq!(rt;
+        memory.compact(rt.alloc(), 3).err(),
+        Some(Refusal::OutOfRange)
+    );
     memory.add(&[5, 6, 7])?;
     memory.add(&[8, 9, 9])?;
-    assert_eq!(rt; memory.compact(rt.alloc(), 0).err(), Some(Refusal::RegionFull));
+    assert_eq!(rt;
+        memory.compact(rt.alloc(), 0).err(),
+        Some(Refusal::RegionFull)
+    );
     Ok(())
 }
