@@ -179,6 +179,25 @@ impl<T: Elem> Region<T> {
         None
     }
 
+    /// Whether segment `from` may be compacted. Takes no memory.
+    ///
+    /// Refused with `OutOfRange` (14) exactly where there is no segment `from`, and with `RegionFull` (17) exactly where
+    /// there is one and no other is without parts.
+    pub fn may_compact(&self, from: u32) -> Result<(), Refusal>
+        ensures missing { IsErrOf result Refusal.OutOfRange ↔ (length self.now ≤ from) }
+        ensures full { IsErrOf result Refusal.RegionFull ↔ ((from < length self.now) × HasNoEmptyOther self.now from) }
+        ensures refused { IfErr result (λ e. (e ≡ Refusal.OutOfRange) ⊎ (e ≡ Refusal.RegionFull)) }
+    {
+        let from = from as usize;
+        if self.segments.len() <= from {
+            return Err(Refusal::OutOfRange);
+        }
+        if self.empty_other(from).is_none() {
+            return Err(Refusal::RegionFull);
+        }
+        Ok(())
+    }
+
     /// Moves the parts of segment `from` into the lowest other segment without parts, in the order in which `order`
     /// lists where they begin, and answers where they lie now. Segment `from` is left without parts.
     ///

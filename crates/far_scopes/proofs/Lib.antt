@@ -1,4 +1,10 @@
 pub mod Places
+pub mod Rising
+pub mod ObjectLists
+pub mod Settling
+pub mod Relocated
+pub mod HotFirst
+pub mod Compacted
 pub mod WordPlaces
 pub mod MemoryLaws
 pub mod KeyLaws
@@ -17,3 +23,4 @@ pub mod Departures
 pub mod Arrivals
 pub mod Replacements
 pub mod Undone
+pub mod CompactedObjects

@@ -1,5 +1,7 @@
 pub mod Recency
 pub mod Memory
+pub mod Compaction
+pub mod SegmentObjects
 pub mod Placing
 pub mod Lending
 pub mod Movement

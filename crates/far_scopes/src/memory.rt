@@ -8,6 +8,7 @@ ghost use Rattle.far_pointer.specs.declared.pointer.Pointer.{Pointer};
 ghost use Rattle.std.specs.Prelude.{not};
 ghost use Rattle.far_scopes.specs.Placing.{added, removed, marked, heated, sent_away, brought, replaced};
 
+mod compaction;
 mod lending;
 
 use far_codec::Elem;

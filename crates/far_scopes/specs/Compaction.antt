@@ -1,0 +1,57 @@
+-- The local memory once a segment is compacted.
+use Rattle.std.specs.Prelude.{◌≡◌, ℕ, ◌+◌, ◌==◌, ◌&&◌, not, if◌then◌else◌, Bool, false, List, [], ◌∷◌, ◌++◌, length, map, filter}
+use Rattle.std.specs.List.{list_any}
+use Rattle.far_pointer.specs.declared.pointer.At.{At}
+use Rattle.far_pointer.specs.declared.pointer.Pointer.{Pointer}
+use Rattle.far_pointer.specs.declared.pointer.Pointer.TheVariants.{Local, Remote}
+use Rattle.far_pointer.specs.Layout.{is_hot, with_hot, with_at}
+use Rattle.far_log.specs.Room.{Room, Part, segment_of}
+use Rattle.far_log.specs.Changes.{list_or_none, compacted, IsEmptyOther}
+use Rattle.far_scopes.specs.Memory.{Memory}
+
+-- whether a word says that the list of its object begins here
+abbrev pub begins_at : At → Pointer → Bool
+begins_at here (Local at dirty hot far) = (at.segment == here.segment) && (at.offset == here.offset)
+begins_at here Remote = false
+
+-- whether the object whose list begins here is hot
+abbrev pub hot_at : List Pointer → At → Bool
+hot_at words here = list_any (λ word. begins_at here word && is_hot word) words
+
+module _ {X : Type 0} where
+  -- where the parts of a segment begin, by rising offset
+  abbrev pub offsets_in : Room X → ℕ → List ℕ
+  offsets_in room segment = map (λ p. p.offset) (segment_of room segment).parts
+
+  -- the order of a compaction: where the parts of hot objects begin, then where the others do, each by rising offset
+  abbrev pub hot_first : Memory X → ℕ → List ℕ
+  hot_first memory segment =
+      let hot : ℕ → Bool = λ offset. hot_at memory.words record { segment = segment; offset = offset }
+      in filter hot (offsets_in memory.room segment) ++ filter (λ offset. not (hot offset)) (offsets_in memory.room segment)
+
+  -- where the part that began at this offset begins in an order: behind all that come before it
+  abbrev pub offset_after : List (Part X) → List ℕ → ℕ → ℕ
+  offset_after parts [] offset = 0
+  offset_after parts (o ∷ order) offset = if o == offset then 0 else length (list_or_none parts o) + offset_after parts order offset
+
+  -- the word of an object once the parts of segment `from` lie in segment `to` in this order: it says where, and not hot
+  abbrev pub moved_word : List (Part X) → List ℕ → ℕ → ℕ → Pointer → Pointer
+  moved_word parts order from to (Local at dirty hot far) =
+      if at.segment == from then Local record { segment = to; offset = offset_after parts order at.offset } dirty false far
+      else Local at dirty hot far
+  moved_word parts order from to Remote = Remote
+
+  -- the memory once segment `from` is compacted into segment `to`
+  abbrev pub compacted_into : Memory X → ℕ → ℕ → Memory X
+  compacted_into memory from to =
+      let order : List ℕ = hot_first memory from
+      in record {
+        words = map (moved_word (segment_of memory.room from).parts order from to) memory.words;
+        room = compacted memory.room from to order;
+      }
+
+  -- new is old with segment `from` compacted: into the lowest other segment without parts
+  pub record IsCompacted (old new : Memory X) (from : ℕ) : Type 0 where
+    pub to : ℕ
+    pub target : IsEmptyOther old.room from to
+    pub memory : new ≡ compacted_into old from to

@@ -1,0 +1,129 @@
+// The compaction of a segment.
+ghost use Rattle.std.specs.Prelude.{◌≡◌, ◌≢◌, ℕ, ◌<◌, ◌≤◌, ◌↔◌, ◌⊎◌, length, map, All, AllPairs, OnOk, OnErr, IfOk, IfErr, IsErrOf};
+ghost use Rattle.far_log.specs.Changes.{HasNoEmptyOther};
+ghost use Rattle.far_scopes.specs.Memory.{list_in};
+ghost use Rattle.far_scopes.specs.Compaction.{IsCompacted};
+ghost use Rattle.far_scopes.specs.SegmentObjects.{offset_if, AreObjects, AreRising, AreHotFirst, Settles};
+
+use super::{LocalMemory, at_of};
+use far_codec::Elem;
+use far_log::Moved;
+use far_pointer::{At, Pointer, Word};
+use far_types::Refusal;
+use std::alloc::Global;
+
+/// An object whose part lies in the segment that is compacted.
+#[derive(Clone, Copy, Drop)]
+pub(crate) struct SegmentObject {
+    /// The number of the object.
+    object: usize,
+    /// Where in the segment its part begins.
+    offset: u32,
+}
+
+impl<T: Elem> LocalMemory<T> {
+    /// Moves the parts of a segment into the lowest other segment without parts, those of hot objects first, and then
+    /// no object of them is hot. Refused, nothing is changed.
+    pub fn compact(&mut self, alloc: Global, segment: u32) -> Result<(), Refusal>
+        ensures ok { OnOk result (IsCompacted self.old self.new segment) }
+        ensures lists { (p : ℕ) → list_in self.new p ≡ list_in self.old p }
+        ensures missing { IsErrOf result Refusal.OutOfRange ↔ (length self.old.room ≤ segment) }
+        ensures full { IsErrOf result Refusal.RegionFull ↔ ((segment < length self.old.room) × HasNoEmptyOther self.old.room segment) }
+        ensures refused { IfErr result (λ e. (e ≡ Refusal.OutOfRange) ⊎ ((e ≡ Refusal.RegionFull) ⊎ (e ≡ Refusal.NoMemory))) }
+        ensures err { OnErr result (self.new ≡ self.old) }
+    {
+        self.region.may_compact(segment)?;
+        let moving = hot_first(alloc, &self.words, segment)?;
+        let order = offsets_of(alloc, &moving)?;
+        let moved = self.region.compact(alloc, segment, &order)?;
+        settle(&mut self.words, &moving, &moved);
+        Ok(())
+    }
+}
+
+// The objects whose parts lie in a segment: the hot ones, then the others, each by rising offset.
+fn hot_first(alloc: Global, words: &[Word], segment: u32) -> Result<Vec<SegmentObject>, Refusal>
+    ensures found { IfOk result (λ found. AreHotFirst words.now segment found.items) }
+    ensures memory { IfErr result (λ e. e ≡ Refusal.NoMemory) }
+{
+    let mut found = rising(alloc, words, segment, true)?;
+    found.append(&mut rising(alloc, words, segment, false)?)?;
+    Ok(found)
+}
+
+// The objects whose parts lie in a segment and that are hot, or not, as asked for, by rising offset.
+fn rising(
+    alloc: Global,
+    words: &[Word],
+    segment: u32,
+    hot: bool,
+) -> Result<Vec<SegmentObject>, Refusal>
+    ensures found { IfOk result (λ found. AreRising words.now segment hot found.items) }
+    ensures memory { IfErr result (λ e. e ≡ Refusal.NoMemory) }
+{
+    let mut found = objects_in(alloc, words, segment, hot)?;
+    found.sort_unstable_by_key(|found| found.offset);
+    Ok(found)
+}
+
+// The same objects by number.
+fn objects_in(
+    alloc: Global,
+    words: &[Word],
+    segment: u32,
+    hot: bool,
+) -> Result<Vec<SegmentObject>, Refusal>
+    ensures found { IfOk result (λ found. AreObjects words.now segment hot (length words.now) found.items) }
+    ensures memory { IfErr result (λ e. e ≡ Refusal.NoMemory) }
+{
+    let mut found = Vec::new(alloc);
+    for (object, word) in words.iter().enumerate() {
+        if let Some(offset) = offset_if(*word, segment, hot) {
+            found.push(SegmentObject { object, offset })?;
+        }
+    }
+    Ok(found)
+}
+
+// Where in a segment the part of an object begins, if it lies there and the object is hot, or not, as asked for.
+fn offset_if(word: Word, segment: u32, hot: bool) -> Option<u32>
+    ensures { result ≡ offset_if segment hot word }
+{
+    match word.read() {
+        Pointer::Local {
+            at,
+            hot: is_hot,
+            ..
+        } if u32::from(at.segment) == segment && is_hot == hot => Some(at.offset),
+        _ => None,
+    }
+}
+
+// Where the parts of objects begin.
+fn offsets_of(alloc: Global, objects: &[SegmentObject]) -> Result<Vec<u32>, Refusal>
+    ensures offsets { IfOk result (λ offsets. offsets.items ≡ map (λ found. found.offset) objects.now) }
+    ensures memory { IfErr result (λ e. e ≡ Refusal.NoMemory) }
+{
+    let mut offsets = Vec::with_capacity(alloc, objects.len())?;
+    offsets.extend(objects.iter().map(|found| found.offset))?;
+    Ok(offsets)
+}
+
+// The words of objects say where their parts lie now, and that they are not hot.
+fn settle(words: &mut [Word], objects: &[SegmentObject], moved: &Moved)
+    requires within { All (λ found. found.object < length words.old) objects.now }
+    requires once { AllPairs (λ o p. o ≢ p) (map (λ found. found.object) objects.now) }
+    requires long { length moved.now.offsets.items ≡ length objects.now }
+    ensures { Settles words.old words.new objects.now moved.now.segment moved.now.offsets.items (length objects.now) }
+{
+    for (k, found) in objects.iter().enumerate() {
+        let at = At {
+            segment: moved.segment,
+            offset: moved.offsets[k],
+        };
+        words[found.object] = words[found.object].with_at(at).with_hot(false);
+    }
+}
+
+#[cfg(test)]
+mod tests;

@@ -1,0 +1,33 @@
+// A segment of the objects' local memory that is compacted.
+ghost use Rattle.std.specs.Prelude.{◌≡◌, ℕ, ◌<◌, ◌≤◌, ◌↔◌, ◌⊎◌, length, OnOk, OnErr, IfErr, IsErrOf};
+ghost use Rattle.far_log.specs.Changes.{HasNoEmptyOther};
+ghost use Rattle.far_scopes.specs.Compaction.{IsCompacted};
+ghost use Rattle.far_scopes.specs.Movement.{list_of, AreClean};
+
+use super::Objects;
+use far_codec::Elem;
+use far_store::FarRead;
+use far_types::Refusal;
+use std::alloc::Global;
+
+impl<T: Elem, S: FarRead> Objects<T, S> {
+    /// Compacts a segment: its parts lie in the lowest other segment without parts from then on, one behind the other,
+    /// those of hot objects first, then the others, each by where they lay; and none of their objects is hot. Every
+    /// list, what is local, dirty or away, and the order of use stay.
+    ///
+    /// Refused with `OutOfRange` (14) exactly where there is no such segment, with `RegionFull` (17) exactly where there is
+    /// one and no other is without parts, else with `NoMemory` (1) alone; then nothing is changed.
+    pub fn compact(&mut self, alloc: Global, segment: u32) -> Result<(), Refusal>
+        ensures compacted { OnOk result (IsCompacted self.old.memory self.new.memory segment) }
+        ensures kept { self.new ≡ record self.old { memory = self.new.memory } }
+        ensures lists { (p : ℕ) → list_of T.meaning S.content self.new p ≡ list_of T.meaning S.content self.old p }
+        ensures clean { AreClean T.meaning S.content self.old → AreClean T.meaning S.content self.new }
+        ensures missing { IsErrOf result Refusal.OutOfRange ↔ (length self.old.memory.room ≤ segment) }
+        ensures full { IsErrOf result Refusal.RegionFull ↔ ((segment < length self.old.memory.room) × HasNoEmptyOther self.old.memory.room segment) }
+        ensures refused { IfErr result (λ e. (e ≡ Refusal.OutOfRange) ⊎ ((e ≡ Refusal.RegionFull) ⊎ (e ≡ Refusal.NoMemory))) }
+        ensures err { OnErr result (self.new ≡ self.old) }
+    {
+        self.memory.compact(alloc, segment)?;
+        Ok(())
+    }
+}
