@@ -1,5 +1,6 @@
 // A compaction at numbers.
 use super::*;
+use crate::memory::at_of;
 use std::test::Fail;
 
 #[test]
