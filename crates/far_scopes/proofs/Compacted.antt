@@ -272,5 +272,5 @@ module _ {X : Type 0} (words : List Pointer) (room : Room X) (m : IsMemory words
       compacted-done = record {
         compacted = record { to = to; target = compacts.target; memory = rw (settled-words, compacts.room, in-order) refl };
         memory = rw settled-words (memory-compacted words room room' m from to order offsets compacts order-listed sound);
-        lists = rw settled-words (lists-compacted words room room' m from to order offsets compacts order-listed sound)
+        lists = rw settled-words (lists-compacted words room room' m from to order offsets compacts order-listed sound);
       }

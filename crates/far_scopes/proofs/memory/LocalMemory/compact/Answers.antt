@@ -41,10 +41,9 @@ done g c =
     let are = subst (λ words. AreHotFirst words c.args.segment c.in_ok-moving.moving.items) c.deref.ensures.value c.in_ok-moving.ensures.found in
     let order : c.deref-3.result.now ≡ map (λ (f : SegmentObject). f.offset) c.in_ok-moving.moving.items = c.deref-3.ensures.value ∙ c.in_ok-order.ensures.offsets ∙ ap (map (λ (f : SegmentObject). f.offset)) c.deref-2.ensures.value in
     let compacts = subst (λ order. Compacts c.self.inside.region c.compact.new.self c.args.segment c.in_ok-moved.moved.segment order c.in_ok-moved.moved.offsets.items) order c.in_ok-moved.ensures.compacted in
-    let settled : Settles c.self.inside.words.items c.settle.new.words c.in_ok-moving.moving.items c.in_ok-moved.moved.segment c.in_ok-moved.moved.offsets.items (length c.in_ok-moving.moving.items) = rw (← c.deref-4.ensures.value, ← c.deref_mut.ensures.value) c.settle.ensures in
-    (
+    let settled : Settles c.self.inside.words.items c.settle.new.words c.in_ok-moving.moving.items c.in_ok-moved.moved.segment c.in_ok-moved.moved.offsets.items (length c.in_ok-moving.moving.items) = rw (← c.deref-4.ensures.value, ← c.deref_mut.ensures.value) c.settle.ensures in (
       whole-back c.self.inside.words.len c.self.inside.words.items c.settle.new.words (omega (arith, c.self.inside.words.ok.0, settled.long)),
-      compacted-done c.self.inside.words.items c.self.inside.region c.self.invariant c.args.segment there c.in_ok-moving.moving.items are c.compact.new.self c.in_ok-moved.moved.segment c.in_ok-moved.moved.offsets.items compacts c.in_ok-moved.ensures.sound c.settle.new.words settled
+      compacted-done c.self.inside.words.items c.self.inside.region c.self.invariant c.args.segment there c.in_ok-moving.moving.items are c.compact.new.self c.in_ok-moved.moved.segment c.in_ok-moved.moved.offsets.items compacts c.in_ok-moved.ensures.sound c.settle.new.words settled,
     )
 
 pub invariant_of-self-2 : goal.invariant_of-self-2
