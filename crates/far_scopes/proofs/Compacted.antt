@@ -1,9 +1,9 @@
 -- The local memory once a segment is compacted.
-use Rattle.std.proofs.Common.{◌≡◌, ◌≢◌, ℕ, zero, suc, ◌+◌, ◌<◌, ◌≤◌, inl, inr, Bool, true, false, List, [], ◌∷◌, length, get_or, map, cond, eqb, Option, Some, None, IsSome, refl, sym, ap, subst, ◌∙◌, arith}
+use Rattle.std.proofs.Common.{◌≡◌, ◌≢◌, ℕ, zero, suc, ◌+◌, ◌<◌, ◌≤◌, inl, inr, true, false, List, [], ◌∷◌, length, get_or, map, cond, eqb, Some, IsSome, refl, sym, ap, subst, ◌∙◌, arith}
 use Rattle.std.specs.Prelude.{◌↔◌, IsErrOf, slice_get, slice_index, option_map, Contains, All, AllPairs}
 use Rattle.std.specs.Option.{option_and_then}
 use Rattle.std.proofs.lemmas.Bool.{cases_eq, cases_lt, eq-eqb, ne_eqb}
-use Rattle.std.proofs.lemmas.Option.{same_Some, slice_get-map, slice_get_within}
+use Rattle.std.proofs.lemmas.Option.{same_Some, slice_get-map}
 use Rattle.std.proofs.lemmas.List.{length-map, get_or-map, get_or_default}
 use Rattle.std.proofs.lemmas.List.Elements.{All-get_or}
 use Rattle.far_pointer.specs.declared.pointer.At.{At}
@@ -13,11 +13,11 @@ use Rattle.far_pointer.specs.Layout.{with_hot, with_at}
 use Rattle.std.specs.declared.result.Result.TheVariants.{Ok}
 use Rattle.far_types.specs.declared.refusal.Refusal.{Refusal}
 use Rattle.far_log.specs.Room.{Part, Room, AreLaid, list_at, segment_of, part_of, IsRegion}
-use Rattle.far_log.specs.Changes.{laid_from, list_or_none, gathered, IsOrder, IsEmptyOther, Compacts}
+use Rattle.far_log.specs.Changes.{laid_from, list_or_none, gathered, IsOrder, Compacts}
 use Rattle.far_log.proofs.Gathers.{some-list}
 use Rattle.far_log.proofs.RoomLaws.{laid-segment, part-there}
 use Rattle.far_scopes.specs.declared.memory.compaction.SegmentObject.{SegmentObject}
-use Rattle.far_scopes.specs.Memory.{Memory, at_of, place_of, list_in, OwnPlaces, IsMemory}
+use Rattle.far_scopes.specs.Memory.{at_of, place_of, list_in, IsMemory}
 use Rattle.far_scopes.specs.Compaction.{hot_first, offset_after, moved_word, IsCompacted}
 use Rattle.far_scopes.specs.SegmentObjects.{AreHotFirst, Settles}
 use Rattle.far_scopes.proofs.Places.{cases_option, same_some, none_or_some, not_some}
@@ -229,6 +229,12 @@ module _ {X : Type 0} (words : List Pointer) (room room' : Room X) (m : IsMemory
   pub lists-compacted : (o : ℕ) → list_in record { words = map (moved_word source order from to) words; room = room' } o ≡ list_in record { words = words; room = room } o
   lists-compacted = lists-relocated (place_of words) (place_of (map (moved_word source order from to) words)) (part_of room) (part_of room') m.own moved (places-moved source order from to words) once kept came
 
+-- a compaction that is done
+pub record Done {X : Type 0} (words new : List Pointer) (room room' : Room X) (from : ℕ) : Type 0 where
+  pub compacted : IsCompacted record { words = words; room = room } record { words = new; room = room' } from
+  pub memory : IsMemory new room'
+  pub lists : (o : ℕ) → list_in record { words = new; room = room' } o ≡ list_in record { words = words; room = room } o
+
 -- a compaction of a segment, step by step
 module _ {X : Type 0} (words : List Pointer) (room : Room X) (m : IsMemory words room) (from : ℕ) (within : from < length room) (objects : List SegmentObject) (are : AreHotFirst words from objects) where
   abbrev parts : List (Part X)
@@ -262,15 +268,9 @@ module _ {X : Type 0} (words : List Pointer) (room : Room X) (m : IsMemory words
       settled-words : new ≡ map (moved_word parts order from to) words
       settled-words = words-settled parts order from to words new objects offsets settled refl order-listed.once compacts.offsets_are (objects-there words room from laid m.own objects are) (objects-whole words room from laid m.own objects are)
 
-      pub compacted-is : IsCompacted record { words = words; room = room } record { words = new; room = room' } from
-      compacted-is = record {
-        to = to;
-        target = compacts.target;
-        memory = rw (settled-words, compacts.room, in-order) refl;
+      pub compacted-done : Done words new room room' from
+      compacted-done = record {
+        compacted = record { to = to; target = compacts.target; memory = rw (settled-words, compacts.room, in-order) refl };
+        memory = rw settled-words (memory-compacted words room room' m from to order offsets compacts order-listed sound);
+        lists = rw settled-words (lists-compacted words room room' m from to order offsets compacts order-listed sound);
       }
-
-      pub compacted-memory : IsMemory new room'
-      compacted-memory = rw settled-words (memory-compacted words room room' m from to order offsets compacts order-listed sound)
-
-      pub compacted-lists : (o : ℕ) → list_in record { words = new; room = room' } o ≡ list_in record { words = words; room = room } o
-      compacted-lists = rw settled-words (lists-compacted words room room' m from to order offsets compacts order-listed sound)

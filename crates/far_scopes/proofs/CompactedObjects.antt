@@ -1,19 +1,17 @@
 -- What holds of all objects, once the words of many change and no list does.
-use Rattle.std.proofs.Common.{◌≡◌, ℕ, ◌≤◌, ◌<◌, Bool, true, false, inl, inr, List, length, map, cond, eqb, Option, Some, None, refl, sym, ap, subst, ◌∙◌}
+use Rattle.std.proofs.Common.{◌≡◌, ℕ, Bool, true, false, inl, inr, List, length, map, cond, eqb, Some, refl, sym, ap, subst, ◌∙◌}
 use Rattle.std.specs.Prelude.{is_some, slice_get, option_map, IfSome}
-use Rattle.std.specs.Option.{option_map_or, option_and_then, option_or}
-use Rattle.std.proofs.lemmas.Option.{same_Some, slice_get-map}
+use Rattle.std.specs.Option.{option_map_or, option_and_then}
+use Rattle.std.proofs.lemmas.Option.{slice_get-map}
 use Rattle.std.proofs.lemmas.Bool.{false≢true}
 use Rattle.std.proofs.lemmas.List.{length-map}
-use Rattle.far_pointer.specs.declared.pointer.At.{At}
 use Rattle.far_pointer.specs.declared.pointer.Pointer.{Pointer}
 use Rattle.far_pointer.specs.declared.pointer.Pointer.TheVariants.{Local, Remote}
 use Rattle.far_pointer.specs.Layout.{is_dirty}
 use Rattle.far_log.specs.Room.{Part, segment_of}
-use Rattle.far_scopes.specs.declared.entry.Entry.{Entry}
 use Rattle.far_scopes.specs.Memory.{Memory, at_of, place_of, list_in}
 use Rattle.far_scopes.specs.Compaction.{hot_first, offset_after, moved_word, IsCompacted}
-use Rattle.far_scopes.specs.Movement.{Movement, has_copy, word_of, entry_of, dirty, ticket_of, list_of, AreClean, IsTracked, AreTracked}
+use Rattle.far_scopes.specs.Movement.{Movement, has_copy, dirty, list_of, AreClean, AreTracked}
 use Rattle.far_scopes.proofs.Places.{cases_option, none_or_some, same_some}
 
 -- a change of words that keeps which objects are local, dirty and have a far copy

@@ -1,13 +1,12 @@
 -- The objects of a segment, the hot ones first, and the order in which their parts are compacted.
-use Rattle.std.proofs.Common.{◌≡◌, ◌≢◌, ℕ, zero, suc, ◌+◌, ◌<◌, ◌≤◌, inl, inr, Bool, true, false, ◌&&◌, List, [], ◌∷◌, ◌++◌, length, get_or, map, cond, eqb, Option, Some, None, IsSome, refl, sym, ap, subst, ◌∙◌, arith}
+use Rattle.std.proofs.Common.{◌≡◌, ◌≢◌, ℕ, ◌+◌, ◌<◌, inl, inr, Bool, true, false, ◌&&◌, List, [], ◌∷◌, ◌++◌, length, get_or, map, cond, eqb, Some, None, IsSome, refl, sym, ap, subst, ◌∙◌, arith}
 use Rattle.std.specs.Prelude.{not, filter, slice_get, Contains, All, AllPairs}
 use Rattle.std.specs.Option.{option_and_then}
-use Rattle.std.specs.List.{list_any}
-use Rattle.std.proofs.lemmas.Bool.{cases_eq, eq-eqb, eqb-true}
+use Rattle.std.proofs.lemmas.Bool.{eq-eqb, eqb-true}
 use Rattle.std.proofs.lemmas.List.Folds.{list_any_at, list_any_none}
 use Rattle.std.proofs.lemmas.Option.{get_or_from_slice_get, same_Some, slice_get-get_or, slice_get_within}
 use Rattle.std.proofs.lemmas.List.{length-map, get_or-map, map-append}
-use Rattle.std.proofs.lemmas.List.Elements.{All-contains, All-append, All-weaker, Contains-append_left, Contains-append_right, Contains-append_cases}
+use Rattle.std.proofs.lemmas.List.Elements.{All-contains, All-append, Contains-append_left, Contains-append_right, Contains-append_cases}
 use Rattle.far_pointer.specs.declared.pointer.At.{At}
 use Rattle.far_pointer.specs.declared.pointer.Pointer.{Pointer}
 use Rattle.far_pointer.specs.declared.pointer.Pointer.TheVariants.{Local, Remote}
@@ -17,7 +16,7 @@ use Rattle.far_log.specs.Changes.{IsOrder}
 use Rattle.far_scopes.specs.declared.memory.compaction.SegmentObject.{SegmentObject}
 use Rattle.far_scopes.specs.Memory.{Memory, at_of, place_of, OwnPlaces}
 use Rattle.far_scopes.specs.Compaction.{begins_at, hot_at, offsets_in, hot_first}
-use Rattle.far_scopes.specs.SegmentObjects.{offset_if, offset_of, AreObjects, AreRising, AreHotFirst}
+use Rattle.far_scopes.specs.SegmentObjects.{offset_if, offset_of, AreRising, AreHotFirst}
 use Rattle.far_scopes.proofs.Places.{cases_option, same_some, none_or_some}
 use Rattle.far_scopes.proofs.Rising.{in-head, in-tail, in-none, in-cases, in-filter, from-filter, in-read, pairs-append, in-map, from-map, Rises, rises-before, rises-filter, rises-sorted, rises-apart, same-rising}
 use Rattle.far_scopes.proofs.Settling.{apart-at}

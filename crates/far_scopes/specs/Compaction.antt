@@ -4,7 +4,7 @@ use Rattle.std.specs.List.{list_any}
 use Rattle.far_pointer.specs.declared.pointer.At.{At}
 use Rattle.far_pointer.specs.declared.pointer.Pointer.{Pointer}
 use Rattle.far_pointer.specs.declared.pointer.Pointer.TheVariants.{Local, Remote}
-use Rattle.far_pointer.specs.Layout.{is_hot, with_hot, with_at}
+use Rattle.far_pointer.specs.Layout.{is_hot}
 use Rattle.far_log.specs.Room.{Room, Part, segment_of}
 use Rattle.far_log.specs.Changes.{list_or_none, compacted, IsEmptyOther}
 use Rattle.far_scopes.specs.Memory.{Memory}

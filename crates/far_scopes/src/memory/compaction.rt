@@ -5,7 +5,7 @@ ghost use Rattle.far_scopes.specs.Memory.{list_in};
 ghost use Rattle.far_scopes.specs.Compaction.{IsCompacted};
 ghost use Rattle.far_scopes.specs.SegmentObjects.{offset_if, AreObjects, AreRising, AreHotFirst, Settles};
 
-use super::{LocalMemory, at_of};
+use super::LocalMemory;
 use far_codec::Elem;
 use far_log::Moved;
 use far_pointer::{At, Pointer, Word};

@@ -1,10 +1,11 @@
-use Rattle.std.proofs.Common.{◌≡◌, ◌<◌, ◌++◌, ℕ, List, length, map, take, drop, refl, sym, ap, subst, ◌∙◌, arith}
+use Rattle.std.proofs.Common.{◌≡◌, ◌++◌, length, map, take, drop, ap, subst, ◌∙◌, arith}
 use Rattle.far_types.specs.declared.refusal.Refusal.TheVariants.{OutOfRange}
 use Rattle.far_log.proofs.Compactions.{whole-back}
 use Rattle.far_log.specs.Changes.{Compacts}
 use Rattle.far_scopes.specs.declared.memory.compaction.SegmentObject.{SegmentObject}
 use Rattle.far_scopes.specs.SegmentObjects.{AreHotFirst, Settles}
-use Rattle.far_scopes.proofs.Compacted.{not-missing, order-listed, within-words, once-each, long-enough, compacted-is, compacted-memory, compacted-lists}
+use Rattle.far_scopes.proofs.Compacted.{not-missing, order-listed, within-words, once-each, long-enough, Done, compacted-done}
+use Rattle.far_scopes.proofs.memory.LocalMemory.compact.Given as given
 use Rattle.far_scopes.proofs.memory.LocalMemory.compact.Goals as goal
 
 pub compact-requires-after_bounds : goal.compact-requires-after_bounds
@@ -33,32 +34,23 @@ settle-requires-clause-long g c =
     let compacts = subst (λ order. Compacts c.self.inside.region c.compact.new.self c.args.segment c.in_ok-moved.moved.segment order c.in_ok-moved.moved.offsets.items) order c.in_ok-moved.ensures.compacted in
     rw c.deref-4.ensures.value (long-enough c.self.inside.words.items c.self.inside.region c.self.invariant c.args.segment there c.in_ok-moving.moving.items are c.compact.new.self c.in_ok-moved.moved.segment c.in_ok-moved.moved.offsets.items compacts c.in_ok-moved.ensures.sound)
 
-pub invariant_of-self-2 : goal.invariant_of-self-2
-invariant_of-self-2 g c =
+-- all that is known at the end, of the words and the region that there are then
+done : (g : given.Over) (c : goal.After-drop-moving-2 g) → (take c.self.inside.words.len (c.settle.new.words ++ drop (length c.settle.new.words) c.self.inside.words.items) ≡ c.settle.new.words) × Done c.self.inside.words.items c.settle.new.words c.self.inside.region c.compact.new.self c.args.segment
+done g c =
     let there = not-missing c.in_ok-may_compact.field-0 OutOfRange (length c.self.inside.region) c.args.segment c.in_ok-may_compact.ensures.missing in
     let are = subst (λ words. AreHotFirst words c.args.segment c.in_ok-moving.moving.items) c.deref.ensures.value c.in_ok-moving.ensures.found in
     let order : c.deref-3.result.now ≡ map (λ (f : SegmentObject). f.offset) c.in_ok-moving.moving.items = c.deref-3.ensures.value ∙ c.in_ok-order.ensures.offsets ∙ ap (map (λ (f : SegmentObject). f.offset)) c.deref-2.ensures.value in
     let compacts = subst (λ order. Compacts c.self.inside.region c.compact.new.self c.args.segment c.in_ok-moved.moved.segment order c.in_ok-moved.moved.offsets.items) order c.in_ok-moved.ensures.compacted in
-    let settled : Settles c.self.inside.words.items c.settle.new.words c.in_ok-moving.moving.items c.in_ok-moved.moved.segment c.in_ok-moved.moved.offsets.items (length c.in_ok-moving.moving.items) = rw (← c.deref-4.ensures.value, ← c.deref_mut.ensures.value) c.settle.ensures in
-    let back : take c.self.inside.words.len (c.settle.new.words ++ drop (length c.settle.new.words) c.self.inside.words.items) ≡ c.settle.new.words = whole-back c.self.inside.words.len c.self.inside.words.items c.settle.new.words (omega (arith, c.self.inside.words.ok.0, settled.long)) in
-    rw back (compacted-memory c.self.inside.words.items c.self.inside.region c.self.invariant c.args.segment there c.in_ok-moving.moving.items are c.compact.new.self c.in_ok-moved.moved.segment c.in_ok-moved.moved.offsets.items compacts c.in_ok-moved.ensures.sound c.settle.new.words settled)
+    let settled : Settles c.self.inside.words.items c.settle.new.words c.in_ok-moving.moving.items c.in_ok-moved.moved.segment c.in_ok-moved.moved.offsets.items (length c.in_ok-moving.moving.items) = rw (← c.deref-4.ensures.value, ← c.deref_mut.ensures.value) c.settle.ensures in (
+      whole-back c.self.inside.words.len c.self.inside.words.items c.settle.new.words (omega (arith, c.self.inside.words.ok.0, settled.long)),
+      compacted-done c.self.inside.words.items c.self.inside.region c.self.invariant c.args.segment there c.in_ok-moving.moving.items are c.compact.new.self c.in_ok-moved.moved.segment c.in_ok-moved.moved.offsets.items compacts c.in_ok-moved.ensures.sound c.settle.new.words settled,
+    )
+
+pub invariant_of-self-2 : goal.invariant_of-self-2
+invariant_of-self-2 g c = let w = done g c in rw w.0 w.1.memory
 
 pub returns-clause-ok : goal.returns-clause-ok
-returns-clause-ok g c =
-    let there = not-missing c.in_ok-may_compact.field-0 OutOfRange (length c.self.inside.region) c.args.segment c.in_ok-may_compact.ensures.missing in
-    let are = subst (λ words. AreHotFirst words c.args.segment c.in_ok-moving.moving.items) c.deref.ensures.value c.in_ok-moving.ensures.found in
-    let order : c.deref-3.result.now ≡ map (λ (f : SegmentObject). f.offset) c.in_ok-moving.moving.items = c.deref-3.ensures.value ∙ c.in_ok-order.ensures.offsets ∙ ap (map (λ (f : SegmentObject). f.offset)) c.deref-2.ensures.value in
-    let compacts = subst (λ order. Compacts c.self.inside.region c.compact.new.self c.args.segment c.in_ok-moved.moved.segment order c.in_ok-moved.moved.offsets.items) order c.in_ok-moved.ensures.compacted in
-    let settled : Settles c.self.inside.words.items c.settle.new.words c.in_ok-moving.moving.items c.in_ok-moved.moved.segment c.in_ok-moved.moved.offsets.items (length c.in_ok-moving.moving.items) = rw (← c.deref-4.ensures.value, ← c.deref_mut.ensures.value) c.settle.ensures in
-    let back : take c.self.inside.words.len (c.settle.new.words ++ drop (length c.settle.new.words) c.self.inside.words.items) ≡ c.settle.new.words = whole-back c.self.inside.words.len c.self.inside.words.items c.settle.new.words (omega (arith, c.self.inside.words.ok.0, settled.long)) in
-    rw (← c.self.view_is, back) (compacted-is c.self.inside.words.items c.self.inside.region c.self.invariant c.args.segment there c.in_ok-moving.moving.items are c.compact.new.self c.in_ok-moved.moved.segment c.in_ok-moved.moved.offsets.items compacts c.in_ok-moved.ensures.sound c.settle.new.words settled)
+returns-clause-ok g c = let w = done g c in rw (← c.self.view_is, w.0) w.1.compacted
 
 pub returns-clause-lists : goal.returns-clause-lists
-returns-clause-lists g c =
-    let there = not-missing c.in_ok-may_compact.field-0 OutOfRange (length c.self.inside.region) c.args.segment c.in_ok-may_compact.ensures.missing in
-    let are = subst (λ words. AreHotFirst words c.args.segment c.in_ok-moving.moving.items) c.deref.ensures.value c.in_ok-moving.ensures.found in
-    let order : c.deref-3.result.now ≡ map (λ (f : SegmentObject). f.offset) c.in_ok-moving.moving.items = c.deref-3.ensures.value ∙ c.in_ok-order.ensures.offsets ∙ ap (map (λ (f : SegmentObject). f.offset)) c.deref-2.ensures.value in
-    let compacts = subst (λ order. Compacts c.self.inside.region c.compact.new.self c.args.segment c.in_ok-moved.moved.segment order c.in_ok-moved.moved.offsets.items) order c.in_ok-moved.ensures.compacted in
-    let settled : Settles c.self.inside.words.items c.settle.new.words c.in_ok-moving.moving.items c.in_ok-moved.moved.segment c.in_ok-moved.moved.offsets.items (length c.in_ok-moving.moving.items) = rw (← c.deref-4.ensures.value, ← c.deref_mut.ensures.value) c.settle.ensures in
-    let back : take c.self.inside.words.len (c.settle.new.words ++ drop (length c.settle.new.words) c.self.inside.words.items) ≡ c.settle.new.words = whole-back c.self.inside.words.len c.self.inside.words.items c.settle.new.words (omega (arith, c.self.inside.words.ok.0, settled.long)) in
-    rw (← c.self.view_is, back) (compacted-lists c.self.inside.words.items c.self.inside.region c.self.invariant c.args.segment there c.in_ok-moving.moving.items are c.compact.new.self c.in_ok-moved.moved.segment c.in_ok-moved.moved.offsets.items compacts c.in_ok-moved.ensures.sound c.settle.new.words settled)
+returns-clause-lists g c = let w = done g c in rw (← c.self.view_is, w.0) w.1.lists

@@ -1,4 +1,3 @@
-use Rattle.std.proofs.Common.{length}
 use Rattle.far_scopes.specs.SegmentObjects.{Settles}
 use Rattle.far_scopes.proofs.memory.compaction.settle.Given as goal
 

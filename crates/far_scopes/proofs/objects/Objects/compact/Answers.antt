@@ -1,4 +1,4 @@
-use Rattle.std.proofs.Common.{◌≡◌, refl, sym, ap, subst, ◌∙◌}
+use Rattle.std.proofs.Common.{sym, subst}
 use Rattle.far_scopes.specs.Movement.{Movement, AreClean}
 use Rattle.far_scopes.proofs.CompactedObjects.{tracked-compacted, clean-compacted}
 use Rattle.far_scopes.proofs.objects.Objects.compact.Goals as goal
