@@ -9,6 +9,7 @@ pub mod Touched
 pub mod Refused
 pub mod Overwritten
 pub mod Pins
+pub mod Listed
 pub mod Written
 pub mod Comings
 pub mod Unmade

@@ -14,5 +14,9 @@ impl Model for Scope {
 
     ghost Value = { List ℕ };
 
+    ghost use Rattle.std.specs.Prelude.{◌<◌, ◌^◌, length};
+
     ghost view = { λ s. s.objects.items };
+
+    ghost invariant = { λ s. length s.objects.items < 2 ^ 32 };
 }

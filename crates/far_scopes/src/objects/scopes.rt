@@ -1,5 +1,5 @@
 // Objects that are pinned together, and the object that is used least.
-ghost use Rattle.std.specs.Prelude.{◌≡◌, ◌⊎◌, ◌==◌, not, false, IsTrue, ◌<◌, ◌≤◌, ℕ, List, length, take, All, Some, None, OnOk, OnErr, IfOk, IfErr};
+ghost use Rattle.std.specs.Prelude.{◌≡◌, ◌⊎◌, ◌==◌, not, false, IsTrue, ◌<◌, ◌≤◌, ◌^◌, ℕ, List, length, take, All, Some, None, OnOk, OnErr, IfOk, IfErr};
 ghost use Rattle.far_scopes.specs.Movement.{Movement, AreClean, pins_of};
 ghost use Rattle.far_scopes.specs.Effects.{unpinned};
 ghost use Rattle.far_scopes.specs.Refusing.{refusal_in};
@@ -19,7 +19,8 @@ impl<T: Elem, S: FarRead> Objects<T, S> {
     /// exactly where none is and one would get more than 65,535 pins; else with `NoMemory` (1) alone. Then nothing is
     /// changed.
     pub fn enter(&mut self, alloc: Global, objects: &[u32]) -> Result<Scope, Refusal>
-        requires { All (λ o. o < length self.old.entries) objects.now }
+        requires within { All (λ o. o < length self.old.entries) objects.now }
+        requires few { length objects.now < 2 ^ 32 }
         ensures scope { IfOk result (λ scope. scope ≡ objects.now) }
         ensures pinned { OnOk result (self.new ≡ pinned_all self.old objects.now) }
         ensures clean { AreClean T.meaning S.content self.old → AreClean T.meaning S.content self.new }

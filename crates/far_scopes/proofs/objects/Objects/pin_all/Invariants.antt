@@ -6,8 +6,8 @@ use Rattle.far_scopes.proofs.objects.Objects.pin_all.Given as goal
 
 abbrev pub invariant-loop-k : goal.invariant-loop-k
 invariant-loop-k g l =
-    (l.self ≡ pinned_all l.fn.self (take l.k-index l.objects))
+    (l.self ≡ pinned_all l.fn.self (take l.k l.objects))
     × (length l.self.entries ≡ length l.fn.self.entries)
-    × (pins_overflow l.fn.self l.objects ≡ pins_overflow l.self (drop l.k-index l.objects))
-    × (first_absent l.self (drop l.k-index l.objects) ≡ None)
+    × (pins_overflow l.fn.self l.objects ≡ pins_overflow l.self (drop l.k l.objects))
+    × (first_absent l.self (drop l.k l.objects) ≡ None)
     × (AreClean g.T.Elem.meaning g.S.FarRead.content l.fn.self → AreClean g.T.Elem.meaning g.S.FarRead.content l.self)
