@@ -1,15 +1,13 @@
 -- Listed objects that are pinned one after the other: what is due of those that are left.
-use Rattle.std.proofs.Common.{◌≡◌, ◌≢◌, ℕ, ◌+◌, Bool, true, false, inl, inr, List, [], ◌∷◌, cond, Option, Some, None, refl, sym, ap, subst, ◌∙◌}
-use Rattle.std.specs.Prelude.{not, ◌==◌, slice_get, slice_set}
-use Rattle.std.specs.Option.{option_map_or}
+use Rattle.std.proofs.Common.{◌≡◌, ℕ, ◌+◌, Bool, true, false, inl, inr, List, [], ◌∷◌, cond, Option, Some, None, refl, ap, ◌∙◌}
+use Rattle.std.specs.Prelude.{not, ◌==◌, slice_get}
 use Rattle.std.proofs.lemmas.Bool.{cases_eq}
 use Rattle.std.proofs.lemmas.Option.{slice_get_within}
 use Rattle.far_types.specs.declared.refusal.Refusal.{Refusal}
 use Rattle.far_types.specs.declared.refusal.Refusal.TheVariants as refusal
-use Rattle.far_scopes.specs.declared.entry.Entry.{Entry}
-use Rattle.far_scopes.specs.Movement.{Movement, entry_of, is_local, pins_of}
+use Rattle.far_scopes.specs.Movement.{Movement, is_local, pins_of}
 use Rattle.far_scopes.specs.Refusing.{absent, pin_refusal}
-use Rattle.far_scopes.specs.Effects.{with_entry, pinned}
+use Rattle.far_scopes.specs.Effects.{pinned}
 use Rattle.far_scopes.specs.Entering.{first_absent, pins_overflow}
 use Rattle.far_scopes.proofs.Places.{cases_option}
 use Rattle.far_scopes.proofs.WordPlaces.{slice_get-set_same, slice_get-set_other}

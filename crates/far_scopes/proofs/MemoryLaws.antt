@@ -1,5 +1,5 @@
 -- The local memory once an object comes, goes or is written.
-use Rattle.std.proofs.Common.{◌≡◌, ◌≢◌, ℕ, ◌+◌, ◌<◌, ◌⊎◌, inl, inr, true, List, [], ◌∷◌, ◌++◌, length, Option, Some, None, IsSome, refl, sym, ap, subst, ◌∙◌}
+use Rattle.std.proofs.Common.{◌≡◌, ◌≢◌, ℕ, ◌<◌, inl, inr, true, List, [], ◌∷◌, ◌++◌, length, Some, None, IsSome, refl, sym, ap, subst, ◌∙◌}
 use Rattle.std.specs.Prelude.{slice_get, slice_set}
 use Rattle.std.specs.Option.{option_and_then}
 use Rattle.std.proofs.lemmas.Bool.{cases_eq}
@@ -11,7 +11,7 @@ use Rattle.far_pointer.specs.Layout.{with_dirty, with_hot, with_at}
 use Rattle.far_log.specs.Room.{Room, part_of, IsRegion}
 use Rattle.far_log.specs.Changes.{ChangesOnly, IsPlaced}
 use Rattle.far_scopes.specs.Placing.{spot, with_new}
-use Rattle.far_scopes.specs.Memory.{Memory, at_of, place_of, list_in, ChangesList, IsMemory}
+use Rattle.far_scopes.specs.Memory.{at_of, place_of, list_in, ChangesList, IsMemory}
 use Rattle.far_scopes.proofs.Places.{own-lost, lists-lost, own-gained, lists-gained, own-moved, lists-moved, own-same, lists-same, not_some}
 use Rattle.far_scopes.proofs.WordPlaces.{place-set_same, place-set_other, place-push_last, place-push_other, place-end}
 
@@ -21,7 +21,7 @@ module _ {X : Type 0} (words : List Pointer) (room room' : Room X) (m : IsMemory
     pub memory-lost : IsRegion room' → IsMemory (slice_set words o Remote) room'
     memory-lost region = record {
       region = region;
-      own = own-lost (place_of words) (place_of (slice_set words o Remote)) (part_of room) (part_of room') m.own o (place-set_other words o Remote) at was (place-set_same words o Remote within) change.here change.others
+      own = own-lost (place_of words) (place_of (slice_set words o Remote)) (part_of room) (part_of room') m.own o (place-set_other words o Remote) at was (place-set_same words o Remote within) change.here change.others;
     }
 
     pub list-lost : ChangesList (list_in record { words = words; room = room }) (list_in record { words = slice_set words o Remote; room = room' }) o None
@@ -32,7 +32,7 @@ module _ {X : Type 0} (words : List Pointer) (room room' : Room X) (m : IsMemory
     pub memory-added : IsRegion room' → IsMemory (words ++ word ∷ []) room'
     memory-added region = record {
       region = region;
-      own = own-gained (place_of words) (place_of (words ++ word ∷ [])) (part_of room) (part_of room') m.own (length words) (place-push_other words word) at list (place-end words) (place-push_last words word ∙ is) free change.here change.others
+      own = own-gained (place_of words) (place_of (words ++ word ∷ [])) (part_of room) (part_of room') m.own (length words) (place-push_other words word) at list (place-end words) (place-push_last words word ∙ is) free change.here change.others;
     }
 
     pub list-added : ChangesList (list_in record { words = words; room = room }) (list_in record { words = words ++ word ∷ []; room = room' }) (length words) (Some list)
@@ -43,7 +43,7 @@ module _ {X : Type 0} (words : List Pointer) (room room' : Room X) (m : IsMemory
     pub memory-brought : IsRegion room' → IsMemory (slice_set words o word) room'
     memory-brought region = record {
       region = region;
-      own = own-gained (place_of words) (place_of (slice_set words o word)) (part_of room) (part_of room') m.own o (place-set_other words o word) at list was (place-set_same words o word within ∙ is) free change.here change.others
+      own = own-gained (place_of words) (place_of (slice_set words o word)) (part_of room) (part_of room') m.own o (place-set_other words o word) at list was (place-set_same words o word within ∙ is) free change.here change.others;
     }
 
     pub list-brought : ChangesList (list_in record { words = words; room = room }) (list_in record { words = slice_set words o word; room = room' }) o (Some list)
@@ -60,7 +60,7 @@ module _ {X : Type 0} (words : List Pointer) (room room' : Room X) (m : IsMemory
     pub memory-removed : IsRegion room' → IsMemory rest room'
     memory-removed region = record {
       region = region;
-      own = own-lost (place_of words) (place_of rest) (part_of room) (part_of room') m.own (length rest) others at place-last (place-end rest) change.here change.others
+      own = own-lost (place_of words) (place_of rest) (part_of room) (part_of room') m.own (length rest) others at place-last (place-end rest) change.here change.others;
     }
 
     pub list-removed : ChangesList (list_in record { words = words; room = room }) (list_in record { words = rest; room = room' }) (length rest) None
@@ -68,7 +68,7 @@ module _ {X : Type 0} (words : List Pointer) (room room' : Room X) (m : IsMemory
 
   -- an object gets another list: the new part is placed, then the old one dropped
   module _ (o : ℕ) (word : Pointer) (at to : At) (list : List X) (between : Room X) (within : o < length words) (was : place_of words o ≡ Some at) (is : at_of word ≡ Some to) (free : part_of room to ≡ None)
-    (placed : ChangesOnly room between to (Some list)) (dropped : ChangesOnly between room' at None) where
+      (placed : ChangesOnly room between to (Some list)) (dropped : ChangesOnly between room' at None) where
     apart : to ≢ at
     apart same = not_some (part_of room to) free (subst (λ q. IsSome (part_of room q)) (sym same) (m.own.placed o at was))
 
@@ -81,7 +81,7 @@ module _ {X : Type 0} (words : List Pointer) (room room' : Room X) (m : IsMemory
     pub memory-replaced : IsRegion room' → IsMemory (slice_set words o word) room'
     memory-replaced region = record {
       region = region;
-      own = own-moved (place_of words) (place_of (slice_set words o word)) (part_of room) (part_of room') m.own o (place-set_other words o word) at to list was (place-set_same words o word within ∙ is) free here dropped.here parts
+      own = own-moved (place_of words) (place_of (slice_set words o word)) (part_of room) (part_of room') m.own o (place-set_other words o word) at to list was (place-set_same words o word within ∙ is) free here dropped.here parts;
     }
 
     pub list-replaced : ChangesList (list_in record { words = words; room = room }) (list_in record { words = slice_set words o word; room = room' }) o (Some list)
@@ -98,7 +98,7 @@ module _ {X : Type 0} (words : List Pointer) (room : Room X) (m : IsMemory words
   pub memory-marked : IsMemory (slice_set words o word) room
   memory-marked = record {
     region = m.region;
-    own = own-same (place_of words) (place_of (slice_set words o word)) (part_of room) (part_of room) m.own places-marked (λ q h. h) (λ q h. h)
+    own = own-same (place_of words) (place_of (slice_set words o word)) (part_of room) (part_of room) m.own places-marked (λ q h. h) (λ q h. h);
   }
 
   pub lists-marked : (p : ℕ) → list_in record { words = slice_set words o word; room = room } p ≡ list_in record { words = words; room = room } p

@@ -1,21 +1,19 @@
 -- Whatever is written over the elements of an object, the lists keep their lengths.
-use Rattle.std.proofs.Common.{◌≡◌, ◌≢◌, ℕ, zero, suc, ◌+◌, ◌-◌, ◌≤◌, ◌<◌, Bool, true, false, inl, inr, List, [], ◌∷◌, ◌++◌, length, get_or, map, nat_eq, cond, take, drop, length-take, length-drop, length-append, Option, Some, None, refl, sym, ap, subst, ◌∙◌, arith}
-use Rattle.std.specs.Prelude.{slice_get, slice_set, option_map, IfSome, IsSomeAnd}
-use Rattle.std.specs.Option.{option_map_or, option_and_then, option_or}
+use Rattle.std.proofs.Common.{◌≡◌, ℕ, zero, suc, ◌+◌, ◌-◌, ◌≤◌, Bool, true, false, inl, inr, List, [], ◌∷◌, ◌++◌, length, map, nat_eq, cond, take, drop, length-take, length-drop, length-append, Option, Some, None, refl, sym, ap, ◌∙◌, arith}
+use Rattle.std.specs.Prelude.{slice_set, option_map, IfSome, IsSomeAnd}
+use Rattle.std.specs.Option.{option_or}
 use Rattle.std.proofs.lemmas.Bool.{cases_eq, cases_lt}
 use Rattle.std.proofs.lemmas.List.{get_or-set_same, get_or-set_other}
 use Rattle.far_pointer.specs.declared.pointer.At.{At}
-use Rattle.far_pointer.specs.declared.pointer.Pointer.{Pointer}
-use Rattle.far_log.specs.Room.{Part, SegmentRoom, Room, list_at, segment_of, part_of}
+use Rattle.far_log.specs.Room.{Part, Room, list_at, segment_of, part_of}
 use Rattle.far_log.specs.Changes.{written, written_at, written_over, overwritten as over_part}
-use Rattle.far_scopes.specs.declared.entry.Entry.{Entry}
 use Rattle.far_scopes.specs.Memory.{Memory, place_of, list_in, ChangesList}
 use Rattle.far_scopes.specs.Placing.{overwritten as overwritten_in}
-use Rattle.far_scopes.specs.Movement.{Movement, dirty, ticket_of, list_of, AreClean, IsTracked, AreTracked}
+use Rattle.far_scopes.specs.Movement.{Movement, dirty, ticket_of, list_of, AreClean, AreTracked}
 use Rattle.far_scopes.specs.Effects.{overwritten}
 use Rattle.far_scopes.proofs.Places.{cases_option}
 use Rattle.far_scopes.proofs.Written.{some-and}
-use Rattle.far_scopes.proofs.Tracked.{Others, clean-one, list-one, each-one}
+use Rattle.far_scopes.proofs.Tracked.{Others, clean-one, list-one}
 
 set-past : {A : Type 0} (xs : List A) (i : ℕ) (y : A) → length xs ≤ i → slice_set xs i y ≡ xs
 set-past [] i y h = refl
@@ -77,9 +75,9 @@ module _ {X K : Type 0} (meaning : List ℕ → List X) (content : K → List �
     even = tracked.even;
     few = tracked.few;
     each = λ p word entry w e. let t = tracked.each p word entry w e in
-      record { version = t.version; left = t.left; some = t.some; long = still-long (list_in (overwritten_in m.memory o i ws) p) (list_in m.memory p) entry.len (long-list m.memory o i ws p) t.long; away = t.away; copy = t.copy; far = t.far };
+        record { version = t.version; left = t.left; some = t.some; long = still-long (list_in (overwritten_in m.memory o i ws) p) (list_in m.memory p) entry.len (long-list m.memory o i ws p) t.long; away = t.away; copy = t.copy; far = t.far };
     once = tracked.once;
-    ordered = tracked.ordered
+    ordered = tracked.ordered;
   }
 
   module _ (now : List X) (change : ChangesList (list_in m.memory) (list_in (overwritten_in m.memory o i ws)) o (Some now)) where
@@ -98,7 +96,7 @@ module _ {X K : Type 0} (meaning : List ℕ → List X) (content : K → List �
 
 -- the same of a range
 module _ {X K : Type 0} (meaning : List ℕ → List X) (content : K → List ℕ) (spelled : List X → List ℕ → Type 0) (before m : Movement X K) (o from to : ℕ)
-  (parts : (p : ℕ) → list_in m.memory p ≡ list_in before.memory p) (lists : (p : ℕ) → list_of meaning content m p ≡ list_of meaning content before p) where
+    (parts : (p : ℕ) → list_in m.memory p ≡ list_in before.memory p) (lists : (p : ℕ) → list_of meaning content m p ≡ list_of meaning content before p) where
   -- the list once a range of it is another
   abbrev pub with_range : List X → List X → List X
   with_range list range = take from list ++ (range ++ drop to list)

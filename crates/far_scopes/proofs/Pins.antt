@@ -1,12 +1,12 @@
 -- Pins that are taken one after the other, and taken back.
-use Rattle.std.proofs.Common.{◌≡◌, ◌≢◌, ℕ, zero, suc, ◌+◌, ◌-◌, ◌<◌, ◌≤◌, Bool, true, false, inl, inr, List, [], ◌∷◌, ◌++◌, length, take, drop, get_or, Option, Some, None, refl, sym, ap, subst, ◌∙◌, arith}
+use Rattle.std.proofs.Common.{◌≡◌, ℕ, zero, suc, ◌+◌, ◌-◌, ◌<◌, ◌≤◌, Bool, true, false, inl, inr, List, [], ◌∷◌, ◌++◌, length, take, get_or, Some, None, refl, sym, ap, subst, ◌∙◌, arith}
 use Rattle.std.specs.Prelude.{not, IsTrue, ◌==◌, slice_get, slice_set}
 use Rattle.std.specs.Option.{option_map_or}
 use Rattle.std.proofs.lemmas.List.{length-set, set-set}
 use Rattle.std.proofs.Math.Seq.{take-suc}
 use Rattle.std.proofs.lemmas.Bool.{ne_eqb}
 use Rattle.far_scopes.specs.declared.entry.Entry.{Entry}
-use Rattle.far_scopes.specs.Movement.{Movement, entry_of, pins_of}
+use Rattle.far_scopes.specs.Movement.{Movement, pins_of}
 use Rattle.far_scopes.specs.Effects.{with_entry, pinned, unpinned}
 use Rattle.far_scopes.specs.Entering.{pinned_all}
 use Rattle.far_scopes.proofs.Places.{cases_option}
@@ -47,11 +47,11 @@ module _ {X K : Type 0} where
   unpinned-pinned m o = elim (cases_option (slice_get m.entries o)) [
     | inl none ↦ rw (none, none) refl
     | inr (entry, is) ↦
-      let now : Entry K = record entry { pins = entry.pins + 1 } in
-      let there : slice_get (slice_set m.entries o now) o ≡ Some now = slice_get-set_same m.entries o now (slice_get_within m.entries o entry is) in
-      let back : slice_set (slice_set m.entries o now) o entry ≡ m.entries = set-set m.entries o now entry ∙ set-same m.entries o entry is in
-      let less : entry.pins + 1 - 1 ≡ entry.pins = omega arith in
-      rw (is, there, less, back) refl
+        let now : Entry K = record entry { pins = entry.pins + 1 } in
+        let there : slice_get (slice_set m.entries o now) o ≡ Some now = slice_get-set_same m.entries o now (slice_get_within m.entries o entry is) in
+        let back : slice_set (slice_set m.entries o now) o entry ≡ m.entries = set-set m.entries o now entry ∙ set-same m.entries o entry is in
+        let less : entry.pins + 1 - 1 ≡ entry.pins = omega arith in
+        rw (is, there, less, back) refl
   ]
 
   pub pins-pinned : (m : Movement X K) (o : ℕ) → o < length m.entries → (pins_of (pinned m o) o == 0) ≡ false

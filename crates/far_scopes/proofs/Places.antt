@@ -62,16 +62,16 @@ module _ {X : Type 0} (place place' : ℕ → Option At) (part part' : At → Op
       pub own-lost : OwnPlaces place' part'
       own-lost = record {
         placed = λ p q here.
-          let ne = not_o p q here in
-          let old = sym (others p ne) ∙ here in
-          subst IsSome (sym (parts q (elsewhere p q ne old))) (own.placed p q old);
+            let ne = not_o p q here in
+            let old = sym (others p ne) ∙ here in
+            subst IsSome (sym (parts q (elsewhere p q ne old))) (own.placed p q old);
         apart = λ p r q here there.
-          own.apart p r q (sym (others p (not_o p q here)) ∙ here) (sym (others r (not_o r q there)) ∙ there);
+            own.apart p r q (sym (others p (not_o p q here)) ∙ here) (sym (others r (not_o r q there)) ∙ there);
         only = λ q h. elim (cases_At q at) [
           | inl same ↦ absurd (not_some (part' at) gone (subst (λ k. IsSome (part' k)) same h))
           | inr ne ↦
-            let w = own.only q (subst IsSome (parts q ne) h) in
-            (w.0, others w.0 (λ same. ne (same_some (place o) (subst (λ k. place k ≡ Some q) same w.1) was)) ∙ w.1)
+              let w = own.only q (subst IsSome (parts q ne) h) in
+              (w.0, others w.0 (λ same. ne (same_some (place o) (subst (λ k. place k ≡ Some q) same w.1) was)) ∙ w.1)
         ];
       }
 
@@ -111,8 +111,8 @@ module _ {X : Type 0} (place place' : ℕ → Option At) (part part' : At → Op
         only = λ q h. elim (cases_At q at) [
           | inl same ↦ (o, is ∙ ap Some (sym same))
           | inr ne ↦
-            let w = own.only q (subst IsSome (parts q ne) h) in
-            (w.0, others w.0 (λ same. none_or_some (place o) was (subst (λ k. place k ≡ Some q) same w.1)) ∙ w.1)
+              let w = own.only q (subst IsSome (parts q ne) h) in
+              (w.0, others w.0 (λ same. none_or_some (place o) was (subst (λ k. place k ≡ Some q) same w.1)) ∙ w.1)
         ];
       }
 
@@ -157,8 +157,8 @@ module _ {X : Type 0} (place place' : ℕ → Option At) (part part' : At → Op
           | inr ne ↦ elim (cases_At q at) [
             | inl same ↦ absurd (not_some (part' at) gone (subst (λ k. IsSome (part' k)) same h))
             | inr ne' ↦
-              let w = own.only q (subst IsSome (parts q ne' ne) h) in
-              (w.0, others w.0 (λ same. ne' (same_some (place o) (subst (λ k. place k ≡ Some q) same w.1) was)) ∙ w.1)
+                let w = own.only q (subst IsSome (parts q ne' ne) h) in
+                (w.0, others w.0 (λ same. ne' (same_some (place o) (subst (λ k. place k ≡ Some q) same w.1) was)) ∙ w.1)
           ]
         ];
       }

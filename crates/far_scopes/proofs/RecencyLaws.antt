@@ -1,6 +1,6 @@
 -- Who is in an order of use that changed.
-use Rattle.std.proofs.Common.{◌≡◌, ◌≢◌, ℕ, ◌||◌, Bool, true, false, inl, inr, List, [], ◌∷◌, nat_eq, cond, refl, sym, ap, subst, ◌∙◌}
-use Rattle.std.proofs.lemmas.Bool.{cases_eq, cases_Bool, eq-eqb, ne_eqb, eqb-true}
+use Rattle.std.proofs.Common.{◌≡◌, ◌≢◌, ℕ, ◌||◌, Bool, true, false, inl, inr, List, [], ◌∷◌, nat_eq, cond, refl, sym, ap, ◌∙◌}
+use Rattle.std.proofs.lemmas.Bool.{cases_eq, cases_Bool, eq-eqb, ne_eqb}
 use Rattle.far_scopes.specs.Recency.{has, without, used, Once}
 
 pub has-cons_same : (order : List ℕ) (o : ℕ) → has (o ∷ order) o ≡ true

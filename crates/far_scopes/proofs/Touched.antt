@@ -1,18 +1,18 @@
 -- What holds of all objects, once one of them is used or written.
-use Rattle.std.proofs.Common.{◌≡◌, ◌≢◌, ℕ, ◌+◌, ◌-◌, ◌≤◌, ◌<◌, ◌^◌, Bool, true, false, inl, inr, List, [], ◌∷◌, ◌++◌, length, Option, Some, None, IsSome, refl, sym, ap, subst, ◌∙◌, arith}
-use Rattle.std.specs.Prelude.{is_some, slice_get, slice_set, option_map, IfSome}
-use Rattle.std.specs.Option.{option_map_or, option_and_then, option_or}
+use Rattle.std.proofs.Common.{◌≡◌, ℕ, ◌+◌, ◌<◌, Bool, true, false, inl, inr, List, length, Option, Some, None, refl, sym, ap, subst, ◌∙◌, arith}
+use Rattle.std.specs.Prelude.{is_some, slice_get, slice_set, IfSome}
+use Rattle.std.specs.Option.{option_map_or, option_and_then}
 use Rattle.far_pointer.specs.declared.pointer.Pointer.{Pointer}
 use Rattle.far_pointer.specs.declared.pointer.Pointer.TheVariants.{Local, Remote}
-use Rattle.far_pointer.specs.Layout.{is_dirty, is_hot, with_dirty, with_hot}
+use Rattle.far_pointer.specs.Layout.{is_dirty, with_dirty, with_hot}
 use Rattle.far_scopes.specs.declared.entry.Entry.{Entry}
-use Rattle.far_scopes.specs.Recency.{has, used, Once}
-use Rattle.far_scopes.specs.Memory.{Memory, at_of, place_of, list_in, ChangesList}
-use Rattle.far_scopes.specs.Placing.{with_word, heated, marked}
-use Rattle.far_scopes.specs.Movement.{Movement, has_copy, word_of, entry_of, is_local, dirty, ticket_of, list_of, AreClean, IsTracked, AreTracked}
+use Rattle.far_scopes.specs.Recency.{used}
+use Rattle.far_scopes.specs.Memory.{at_of, list_in}
+use Rattle.far_scopes.specs.Placing.{heated, marked}
+use Rattle.far_scopes.specs.Movement.{Movement, has_copy, entry_of, is_local, dirty, list_of, AreClean, AreTracked}
 use Rattle.far_scopes.proofs.RecencyLaws.{has-used, once-used}
 use Rattle.far_scopes.proofs.MemoryLaws.{at-dirty_hot, at-hot}
-use Rattle.far_scopes.proofs.Tracked.{Others, clean-one, lists-kept, each-one}
+use Rattle.far_scopes.proofs.Tracked.{Others, clean-one, each-one}
 use Rattle.far_scopes.proofs.Transitions.{words-other, words-same, words-length, places-kept, some-one, tracked-changed, clean-changed, lists-changed}
 use Rattle.far_scopes.proofs.Places.{cases_option}
 use Rattle.far_scopes.proofs.WordPlaces.{slice_get-set_same}
@@ -72,10 +72,10 @@ module _ {X K : Type 0} (meaning : List ℕ → List X) (content : K → List �
       even = tracked.even ∙ sym (words-length m.memory o heat at-hot);
       few = tracked.few;
       each = each-one meaning content m touched_m o others-touched spelled tracked refl refl
-        (λ word entry now was. let w = words-same m.memory o heat at-hot word now in let t = tracked.each o w.0 entry w.1 was in
+          (λ word entry now was. let w = words-same m.memory o heat at-hot word now in let t = tracked.each o w.0 entry w.1 was in
           record { version = t.version; left = t.left; some = t.some; long = subst (λ l. IfSome l (λ xs. length xs ≡ entry.len)) (sym (lists o)) t.long; away = λ is. t.away (remote-hot w.0 (sym w.2 ∙ is)); copy = ap has_copy w.2 ∙ copy-hot w.0 ∙ t.copy; far = t.far });
       once = once-used m.order o tracked.once;
-      ordered = λ p. has-used m.order o p ∙ tracked.ordered p ∙ sym (ap is_some (places-kept m.memory o heat at-hot p))
+      ordered = λ p. has-used m.order o p ∙ tracked.ordered p ∙ sym (ap is_some (places-kept m.memory o heat at-hot p));
     }
 
     dirty-touched : dirty touched_m o ≡ dirty m o
@@ -102,7 +102,7 @@ module _ {X K : Type 0} (meaning : List ℕ → List X) (content : K → List �
     tracked-written = tracked-changed meaning content spelled m tracked o entry now was (marked m.memory o) (used m.order o) (words-other m.memory o mark at-dirty_hot) lists (words-length m.memory o mark at-dirty_hot) (once-used m.order o tracked.once)
         (λ p. has-used m.order o p ∙ tracked.ordered p ∙ sym (ap is_some (places-kept m.memory o mark at-dirty_hot p)))
         (λ word is. let w = words-same m.memory o mark at-dirty_hot word is in let t = tracked.each o w.0 entry w.1 was in
-          record { version = omega (arith, left); left = t.left; some = t.some; long = t.long; away = λ gone. t.away (remote-mark w.0 (sym w.2 ∙ gone)); copy = ap has_copy w.2 ∙ copy-mark w.0 ∙ t.copy; far = t.far })
+        record { version = omega (arith, left); left = t.left; some = t.some; long = t.long; away = λ gone. t.away (remote-mark w.0 (sym w.2 ∙ gone)); copy = ap has_copy w.2 ∙ copy-mark w.0 ∙ t.copy; far = t.far })
 
     pub dirty-written : dirty written_m o ≡ true
     dirty-written = elim (cases_option (slice_get m.memory.words o)) [

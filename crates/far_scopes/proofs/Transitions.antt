@@ -1,21 +1,20 @@
 -- What holds of all objects, once one of them is pinned, used, written, goes away or comes back.
-use Rattle.std.proofs.Common.{◌≡◌, ◌≢◌, ℕ, ◌+◌, ◌-◌, ◌≤◌, ◌<◌, ◌^◌, Bool, true, false, inl, inr, List, [], ◌∷◌, ◌++◌, length, Option, Some, None, IsSome, refl, sym, ap, subst, ◌∙◌, arith}
-use Rattle.std.specs.Prelude.{not, is_some, slice_get, slice_set, option_map, IsSomeAnd, IfSome}
-use Rattle.std.specs.Option.{option_map_or, option_and_then, option_or}
+use Rattle.std.proofs.Common.{◌≡◌, ◌≢◌, ℕ, Bool, true, false, inl, inr, List, length, Option, Some, refl, sym, ap, subst, ◌∙◌}
+use Rattle.std.specs.Prelude.{not, is_some, slice_get, slice_set}
+use Rattle.std.specs.Option.{option_and_then}
 use Rattle.std.proofs.lemmas.Bool.{cases_eq}
 use Rattle.std.proofs.lemmas.List.{length-set}
 use Rattle.std.proofs.lemmas.Option.{slice_get_within}
 use Rattle.far_pointer.specs.declared.pointer.Pointer.{Pointer}
 use Rattle.far_pointer.specs.declared.pointer.Pointer.TheVariants.{Remote}
-use Rattle.far_pointer.specs.Layout.{is_dirty}
 use Rattle.far_scopes.specs.declared.entry.Entry.{Entry}
 use Rattle.far_scopes.specs.Recency.{has, Once}
 use Rattle.far_scopes.specs.Placing.{with_word}
 use Rattle.far_scopes.proofs.Places.{cases_option, none_or_some}
-use Rattle.far_scopes.specs.Memory.{Memory, at_of, place_of, list_in, ChangesList}
-use Rattle.far_scopes.specs.Movement.{Movement, word_of, entry_of, is_local, dirty, ticket_of, list_of, AreClean, IsTracked, AreTracked}
+use Rattle.far_scopes.specs.Memory.{Memory, at_of, place_of, list_in}
+use Rattle.far_scopes.specs.Movement.{Movement, word_of, entry_of, dirty, list_of, AreClean, IsTracked, AreTracked}
 use Rattle.far_scopes.proofs.WordPlaces.{slice_get-set_other, slice_get-set_same}
-use Rattle.far_scopes.proofs.Tracked.{Others, clean-one, list-one, lists-kept, each-one}
+use Rattle.far_scopes.proofs.Tracked.{Others, clean-one, lists-kept, each-one}
 
 pub some-one : {A : Type 0} {x y : A} (o : Option A) → o ≡ Some x → o ≡ Some y → y ≡ x
 some-one o e f = cc
@@ -61,9 +60,9 @@ module _ {X K : Type 0} (meaning : List ℕ → List X) (content : K → List �
       even = length-set m.entries o now ∙ tracked.even ∙ sym even;
       few = rw (length-set m.entries o now) tracked.few;
       each = each-one meaning content m changed o others spelled tracked refl refl
-        (λ word e w is. subst (IsTracked meaning content spelled m.changes m.leavings word (list_in memory o)) (some-one (slice_get entries' o) is entry-same) (subst (λ l. IsTracked meaning content spelled m.changes m.leavings word l now) (sym (lists o)) (here word w)));
+          (λ word e w is. subst (IsTracked meaning content spelled m.changes m.leavings word (list_in memory o)) (some-one (slice_get entries' o) is entry-same) (subst (λ l. IsTracked meaning content spelled m.changes m.leavings word l now) (sym (lists o)) (here word w)));
       once = once;
-      ordered = ordered
+      ordered = ordered;
     }
 
   -- only its record changes

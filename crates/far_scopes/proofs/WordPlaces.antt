@@ -1,5 +1,5 @@
 -- Where the words say that objects are, once one of them changes.
-use Rattle.std.proofs.Common.{inl, inr, true, ◌≡◌, ◌≢◌, ℕ, zero, suc, ◌+◌, ◌<◌, List, [], ◌∷◌, ◌++◌, length, Option, Some, None, refl, ap, sym, subst, ◌∙◌, ◌-◌, length-append, arith, IsSome, get_or}
+use Rattle.std.proofs.Common.{inl, inr, true, ◌≡◌, ◌≢◌, ℕ, zero, suc, ◌<◌, List, [], ◌∷◌, ◌++◌, length, Option, Some, None, refl, ap, sym, subst, ◌∙◌, ◌-◌, length-append, arith, IsSome, get_or}
 use Rattle.std.specs.Prelude.{is_some, slice_get, slice_set, take}
 use Rattle.std.specs.Option.{option_and_then}
 use Rattle.far_pointer.specs.declared.pointer.At.{At}

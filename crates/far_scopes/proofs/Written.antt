@@ -1,11 +1,11 @@
 -- What is written over the elements of an object moves no part.
-use Rattle.std.proofs.Common.{◌≡◌, ◌≢◌, ℕ, ◌+◌, ◌-◌, ◌<◌, ◌≤◌, ◌==◌, Bool, true, false, inl, inr, List, [], ◌∷◌, ◌++◌, length, get_or, take, drop, map, nat_eq, cond, Option, Some, None, IsSome, refl, sym, ap, subst, ◌∙◌, arith}
-use Rattle.std.specs.Prelude.{is_some, IsSomeAnd, slice_set}
+use Rattle.std.proofs.Common.{◌≡◌, ℕ, ◌+◌, ◌-◌, ◌<◌, true, false, inl, inr, List, [], ◌∷◌, ◌++◌, length, take, drop, map, nat_eq, cond, Option, Some, None, IsSome, refl, sym}
+use Rattle.std.specs.Prelude.{is_some, IsSomeAnd}
 use Rattle.std.proofs.lemmas.Bool.{cases_eq}
 use Rattle.std.proofs.lemmas.List.{get_or-set_same, get_or-set_other}
 use Rattle.far_pointer.specs.declared.pointer.At.{At}
 use Rattle.far_pointer.specs.declared.pointer.Pointer.{Pointer}
-use Rattle.far_log.specs.Room.{Part, SegmentRoom, Room, list_at, segment_of, part_of, IsRegion}
+use Rattle.far_log.specs.Room.{Part, Room, list_at, segment_of, part_of}
 use Rattle.far_log.specs.Changes.{written, written_at, overwritten, WritesPart}
 use Rattle.far_log.proofs.Laid.{laid-written}
 use Rattle.far_log.proofs.RoomLaws.{region-set, laid-segment, part-there}
@@ -49,8 +49,8 @@ module _ {X : Type 0} where
     memory-written i ws = record {
       region = region-set room at.segment (written (segment_of room at.segment) (at.offset + i) ws) m.region within refl (laid-written (segment_of room at.segment) (at.offset + i) ws (laid-segment room at.segment m.region within));
       own = own-same (place_of words) (place_of words) (part_of room) (part_of (written_at room at i ws)) m.own (λ p. refl)
-        (λ q. some-is (part_of (written_at room at i ws) q) (part_of room q) (kept-part room at i ws q within))
-        (λ q. some-is (part_of room q) (part_of (written_at room at i ws) q) (sym (kept-part room at i ws q within)))
+          (λ q. some-is (part_of (written_at room at i ws) q) (part_of room q) (kept-part room at i ws q within))
+          (λ q. some-is (part_of room q) (part_of (written_at room at i ws) q) (sym (kept-part room at i ws q within)));
     }
 
     pub overwritten-is : (i : ℕ) (ws : List X) → overwritten_in record { words = words; room = room } o i ws ≡ record { words = words; room = written_at room at i ws }

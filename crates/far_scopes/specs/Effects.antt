@@ -1,10 +1,9 @@
 -- How objects change.
-use Rattle.std.specs.Prelude.{ℕ, ◌+◌, ◌-◌, List, [], ◌∷◌, ◌++◌, length, take, Option, None, Some, slice_get, slice_set}
+use Rattle.std.specs.Prelude.{ℕ, ◌+◌, ◌-◌, List, [], ◌∷◌, ◌++◌, length, take, None, Some, slice_get, slice_set}
 use Rattle.std.specs.Option.{option_map_or}
 use Rattle.far_types.specs.declared.name.Name.{Name}
 use Rattle.far_scopes.specs.declared.entry.Entry.{Entry}
 use Rattle.far_scopes.specs.Recency.{without, used}
-use Rattle.far_scopes.specs.Memory.{Memory}
 use Rattle.far_scopes.specs.Placing.{added, removed, marked, heated, sent_away, brought, replaced as replaced_in, overwritten as overwritten_in}
 use Rattle.far_scopes.specs.Movement.{Movement}
 
@@ -22,7 +21,7 @@ module _ {X K : Type 0} where
   created m name list = record m {
     memory = added m.memory list;
     entries = m.entries ++ new_entry name (length list) ∷ [];
-    order = length m.entries ∷ m.order
+    order = length m.entries ∷ m.order;
   }
 
   -- without the last object
@@ -30,7 +29,7 @@ module _ {X K : Type 0} where
   uncreated m = record m {
     memory = removed m.memory;
     entries = take (length m.entries - 1) m.entries;
-    order = without m.order (length m.entries - 1)
+    order = without m.order (length m.entries - 1);
   }
 
   -- object o is used: it is hot, and used last, if it is local
@@ -42,7 +41,7 @@ module _ {X K : Type 0} where
   written m o = record m {
     memory = marked m.memory o;
     entries = with_entry m.entries o (λ entry. record entry { version = entry.version + 1 });
-    order = used m.order o
+    order = used m.order o;
   }
 
   -- ws is written over the elements of object o from the i-th on
@@ -53,7 +52,7 @@ module _ {X K : Type 0} where
   abbrev pub replaced : Movement X K → ℕ → List X → Movement X K
   replaced m o list = written (record m {
     memory = replaced_in m.memory o list;
-    entries = with_entry m.entries o (λ entry. record entry { len = length list })
+    entries = with_entry m.entries o (λ entry. record entry { len = length list });
   }) o
 
   -- object o is pinned once more
@@ -69,7 +68,7 @@ module _ {X K : Type 0} where
   departed m o ticket = record m {
     memory = sent_away m.memory o;
     entries = with_entry m.entries o (λ entry. record entry { leavings = entry.leavings + 1; ticket = Some ticket });
-    order = without m.order o
+    order = without m.order o;
   }
 
   -- object o comes back, with this list

@@ -1,8 +1,7 @@
 -- The movement record: all that is known of objects and of where they are. Objects are told apart by their numbers, 0,
 -- 1, 2 and so on in the order in which they were made.
-use Rattle.std.specs.Prelude.{◌≡◌, ℕ, ◌+◌, ◌≤◌, ◌<◌, ◌^◌, Bool, true, false, List, length, Option, None, Some, is_some, IfSome, IsSomeAnd, option_map, slice_get}
+use Rattle.std.specs.Prelude.{◌≡◌, ℕ, ◌≤◌, ◌<◌, ◌^◌, Bool, true, false, List, length, Option, Some, is_some, IfSome, IsSomeAnd, option_map, slice_get}
 use Rattle.std.specs.Option.{option_map_or, option_and_then, option_or}
-use Rattle.far_types.specs.declared.name.Name.{Name}
 use Rattle.far_pointer.specs.declared.pointer.Pointer.{Pointer}
 use Rattle.far_pointer.specs.declared.pointer.Pointer.TheVariants.{Local, Remote}
 use Rattle.far_pointer.specs.Layout.{is_dirty, is_hot}

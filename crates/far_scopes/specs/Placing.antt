@@ -1,13 +1,12 @@
 -- How the local memory changes.
-use Rattle.std.specs.Prelude.{ℕ, ◌+◌, ◌-◌, ◌==◌, not, if◌then◌else◌, Bool, true, false, List, [], ◌∷◌, ◌++◌, length, take, map, filter, unwrap_or, Option, None, Some, slice_get, slice_set, slice_index, option_map, IsSome}
-use Rattle.std.specs.List.{list_any}
+use Rattle.std.specs.Prelude.{ℕ, ◌-◌, true, false, List, [], ◌∷◌, ◌++◌, length, take, unwrap_or, Option, None, Some, slice_get, slice_set}
 use Rattle.std.specs.Option.{option_map_or}
 use Rattle.far_pointer.specs.declared.pointer.At.{At}
 use Rattle.far_pointer.specs.declared.pointer.Pointer.{Pointer}
 use Rattle.far_pointer.specs.declared.pointer.Pointer.TheVariants.{Local, Remote}
-use Rattle.far_pointer.specs.Layout.{is_hot, with_dirty, with_hot, with_at}
-use Rattle.far_log.specs.Room.{Room, Part, segment_of, fill_of, target_of}
-use Rattle.far_log.specs.Changes.{with_segment, with_part, without_part, written_at, compacted, gathered}
+use Rattle.far_pointer.specs.Layout.{with_dirty, with_hot, with_at}
+use Rattle.far_log.specs.Room.{Room, segment_of, fill_of, target_of}
+use Rattle.far_log.specs.Changes.{with_segment, with_part, without_part, written_at}
 use Rattle.far_scopes.specs.Memory.{Memory, place_of}
 
 module _ {X : Type 0} where
@@ -32,7 +31,7 @@ module _ {X : Type 0} where
   abbrev pub added : Memory X → List X → Memory X
   added memory list = record {
     words = memory.words ++ Local (spot memory.room (length list)) true true false ∷ [];
-    room = with_new memory.room list
+    room = with_new memory.room list;
   }
 
   -- without the last object
@@ -57,25 +56,25 @@ module _ {X : Type 0} where
   abbrev pub sent_away : Memory X → ℕ → Memory X
   sent_away memory o = record {
     words = slice_set memory.words o Remote;
-    room = without_at memory.room (place_of memory.words o)
+    room = without_at memory.room (place_of memory.words o);
   }
 
   -- object o, which was away, is local with this list: clean and hot
   abbrev pub brought : Memory X → ℕ → List X → Memory X
   brought memory o list = record {
     words = slice_set memory.words o (Local (spot memory.room (length list)) false true true);
-    room = with_new memory.room list
+    room = with_new memory.room list;
   }
 
   -- ws is written over the elements of object o from the i-th on
   abbrev pub overwritten : Memory X → ℕ → ℕ → List X → Memory X
   overwritten memory o i ws = record memory {
-    room = option_map_or (λ at. written_at memory.room at i ws) (place_of memory.words o) memory.room
+    room = option_map_or (λ at. written_at memory.room at i ws) (place_of memory.words o) memory.room;
   }
 
   -- object o, which is local, has another list, placed while the old one was still there
   abbrev pub replaced : Memory X → ℕ → List X → Memory X
   replaced memory o list = record {
     words = (with_word memory o (λ word. with_at word (spot memory.room (length list)))).words;
-    room = without_at (with_new memory.room list) (place_of memory.words o)
+    room = without_at (with_new memory.room list) (place_of memory.words o);
   }

@@ -15,19 +15,19 @@ fn pins_given_back<S: FarRead>(alloc: Global, store: &S) -> Result<u32, Refusal>
     Ok(objects.close(scope))
 }
 
-/// The first element of an object that was written, and why a third write is refused.
+/// The list of an object that was written twice, and why a third write is refused.
 fn written_out<S: FarRead>(
     alloc: Global,
     store: &S,
-) -> Result<(i64, Option<Refusal>), Refusal> {
+) -> Result<(Vec<i64>, Option<Refusal>), Refusal> {
     let mut objects: Objects<i64, S> = empty(alloc, store)?;
     objects.create(name_of(0), &[1, 2])?;
     objects.may_write(0)?;
-    objects.lend_mut(0)[0] = 9;
+    objects.lend_mut(0).fill(9);
     objects.may_write(0)?;
-    objects.lend_mut(0)[0] = 8;
-    let first = objects.lend(0)?[0];
-    Ok((first, objects.may_write(0).err()))
+    objects.lend_mut(0).fill(8);
+    let list = objects.lend(0)?.to_vec(alloc)?;
+    Ok((list, objects.may_write(0).err()))
 }
 
 #[test]
@@ -40,8 +40,8 @@ fn a_scope_gives_back_a_pin_for_each_listing(rt: HostRuntime) -> Result<(), Fail
 #[test]
 fn an_object_is_written_as_often_as_it_may_be(rt: HostRuntime) -> Result<(), Fail> {
     let store = AgentStore::new(&rt, rt.alloc(), 4)?;
-    let (first, refused) = written_out(rt.alloc(), &store)?;
-    assert_eq!(rt; first, 8);
+    let (list, refused) = written_out(rt.alloc(), &store)?;
+    assert_eq!(rt; list.as_slice(), [8, 8].as_slice());
     assert_eq!(rt; refused, Some(Refusal::EditsUsedUp));
     Ok(())
 }

@@ -1,4 +1,4 @@
-use Rattle.std.proofs.Common.{◌≡◌, ◌<◌, length, Some, refl, sym, subst}
+use Rattle.std.proofs.Common.{◌<◌, length, refl, sym, subst}
 use Rattle.far_scopes.proofs.WordPlaces.{word-read}
 use Rattle.far_scopes.proofs.MemoryLaws.{memory-marked, lists-marked, at-hot}
 use Rattle.far_scopes.proofs.memory.LocalMemory.heat.Goals as goal

@@ -1,5 +1,4 @@
-use Rattle.std.proofs.Common.{◌≡◌, ◌<◌, ◌-◌, length, Some, None, refl, sym, ap, subst, ◌∙◌}
-use Rattle.far_scopes.specs.Memory.{list_in, ChangesList}
+use Rattle.std.proofs.Common.{refl}
 use Rattle.far_scopes.proofs.WordPlaces.{last-of, take-last}
 use Rattle.far_scopes.proofs.MemoryLaws.{memory-removed, list-removed, place-last}
 use Rattle.far_scopes.proofs.memory.LocalMemory.remove_last.Goals as goal

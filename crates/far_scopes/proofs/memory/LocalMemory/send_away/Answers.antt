@@ -1,5 +1,4 @@
-use Rattle.std.proofs.Common.{◌≡◌, ◌<◌, length, Some, refl, sym, ap, subst, ◌∙◌}
-use Rattle.far_scopes.specs.Memory.{place_of, list_in, ChangesList}
+use Rattle.std.proofs.Common.{◌<◌, length, refl, sym, subst}
 use Rattle.far_scopes.proofs.WordPlaces.{place-read, place-within}
 use Rattle.far_scopes.proofs.MemoryLaws.{memory-lost, list-lost}
 use Rattle.far_scopes.proofs.memory.LocalMemory.send_away.Goals as goal

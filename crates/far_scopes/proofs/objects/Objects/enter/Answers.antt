@@ -1,4 +1,4 @@
-use Rattle.std.proofs.Common.{◌≡◌, ◌<◌, get_or, length, sym, ap, subst, ◌∙◌}
+use Rattle.std.proofs.Common.{◌<◌, get_or, length, sym, ap, subst, ◌∙◌}
 use Rattle.far_scopes.proofs.Pins.{length-pinned_all}
 use Rattle.far_scopes.proofs.objects.Objects.enter.Goals as goal
 

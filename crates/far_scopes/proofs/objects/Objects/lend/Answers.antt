@@ -1,4 +1,4 @@
-use Rattle.std.proofs.Common.{◌≡◌, ◌<◌, true, IsSome, refl, sym, ap, subst, ◌∙◌}
+use Rattle.std.proofs.Common.{◌≡◌, true, sym, subst}
 use Rattle.far_scopes.specs.Movement.{is_local}
 use Rattle.far_scopes.specs.Memory.{place_of}
 use Rattle.far_scopes.proofs.WordPlaces.{some-true}

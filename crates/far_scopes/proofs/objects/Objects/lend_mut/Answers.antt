@@ -1,6 +1,6 @@
-use Rattle.std.proofs.Common.{◌≡◌, ◌<◌, ℕ, true, IsSome, Some, refl, sym, ap, subst, ◌∙◌}
+use Rattle.std.proofs.Common.{◌≡◌, ℕ, true, Some, refl, sym, ap, subst, ◌∙◌}
 use Rattle.far_codec.specs.Spelling.{IsSpelled}
-use Rattle.far_scopes.specs.Movement.{is_local, dirty, list_of, AreClean}
+use Rattle.far_scopes.specs.Movement.{is_local, list_of, AreClean}
 use Rattle.far_scopes.specs.Memory.{place_of, list_in, ChangesList}
 use Rattle.far_scopes.specs.Effects.{written, overwritten}
 use Rattle.far_scopes.proofs.WordPlaces.{some-true}
@@ -16,19 +16,18 @@ invariant_of-self-lent g c w = tracked-overwritten g.T.Elem.meaning g.S.FarRead.
 pub returns : goal.returns
 returns g c =
     let parts : (p : ℕ) → list_in (written c.args.self.now c.args.o).memory p ≡ list_in c.args.self.now.memory p = subst (λ m. (p : ℕ) → list_in m.memory p ≡ list_in c.args.self.now.memory p) c.mark.ensures.written c.mark.ensures.parts in
-    let is = c.self.view_is ∙ c.mark.ensures.written in
-    (
+    let is = c.self.view_is ∙ c.mark.ensures.written in (
       (refl, λ w. ap (λ m. overwritten m c.args.o 0 w) is),
       record {
         writes_back = tt;
         lent = sym (parts c.args.o) ∙ subst (λ m. list_in m.memory c.args.o ≡ Some c.lend_mut.result.now) is c.lend_mut.ensures.lent;
         alone = λ list long.
-          let change = subst (λ m. ChangesList (list_in m.memory) (list_in (overwritten m c.args.o 0 list).memory) c.args.o (Some list)) c.self.view_is (c.lend_mut.ensures.alone list long) in
-          subst (λ m. ChangesList (list_of g.T.Elem.meaning g.S.FarRead.content c.args.self.now) (list_of g.T.Elem.meaning g.S.FarRead.content (overwritten m c.args.o 0 list)) c.args.o (Some list)) c.mark.ensures.written
+            let change = subst (λ m. ChangesList (list_in m.memory) (list_in (overwritten m c.args.o 0 list).memory) c.args.o (Some list)) c.self.view_is (c.lend_mut.ensures.alone list long) in
+            subst (λ m. ChangesList (list_of g.T.Elem.meaning g.S.FarRead.content c.args.self.now) (list_of g.T.Elem.meaning g.S.FarRead.content (overwritten m c.args.o 0 list)) c.args.o (Some list)) c.mark.ensures.written
             (list-since g.T.Elem.meaning g.S.FarRead.content (IsSpelled g.T.Elem.in_range g.T.Elem.has_spelling g.T.Elem.spelling) c.mark.new.self c.args.o 0 list list change c.args.self.now c.mark.ensures.lists);
         clean = λ list long clean.
-          let change = subst (λ m. ChangesList (list_in m.memory) (list_in (overwritten m c.args.o 0 list).memory) c.args.o (Some list)) c.self.view_is (c.lend_mut.ensures.alone list long) in
-          subst (λ m. AreClean g.T.Elem.meaning g.S.FarRead.content (overwritten m c.args.o 0 list)) c.mark.ensures.written
-            (clean-overwritten g.T.Elem.meaning g.S.FarRead.content (IsSpelled g.T.Elem.in_range g.T.Elem.has_spelling g.T.Elem.spelling) c.mark.new.self c.args.o 0 list list change c.mark.ensures.dirty (c.mark.ensures.clean clean))
+            let change = subst (λ m. ChangesList (list_in m.memory) (list_in (overwritten m c.args.o 0 list).memory) c.args.o (Some list)) c.self.view_is (c.lend_mut.ensures.alone list long) in
+            subst (λ m. AreClean g.T.Elem.meaning g.S.FarRead.content (overwritten m c.args.o 0 list)) c.mark.ensures.written
+            (clean-overwritten g.T.Elem.meaning g.S.FarRead.content (IsSpelled g.T.Elem.in_range g.T.Elem.has_spelling g.T.Elem.spelling) c.mark.new.self c.args.o 0 list list change c.mark.ensures.dirty (c.mark.ensures.clean clean));
       },
     )

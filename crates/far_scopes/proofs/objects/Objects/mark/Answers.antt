@@ -1,7 +1,7 @@
-use Rattle.std.proofs.Common.{◌≡◌, ◌+◌, ◌<◌, ℕ, length, Some, None, false, true, refl, sym, ap, subst, ◌∙◌, arith}
+use Rattle.std.proofs.Common.{◌≡◌, ◌<◌, ℕ, length, true, refl, sym, ap, subst, arith}
 use Rattle.far_scopes.specs.Memory.{list_in}
 use Rattle.far_scopes.specs.Placing.{marked}
-use Rattle.far_scopes.specs.Movement.{Movement, AreClean, is_local, version_of, list_of}
+use Rattle.far_scopes.specs.Movement.{AreClean, is_local, version_of}
 use Rattle.far_scopes.proofs.WordPlaces.{word-read}
 use Rattle.far_scopes.proofs.Touched.{tracked-written, clean-written, lists-same, dirty-written, local-still}
 use Rattle.far_scopes.proofs.Refused.{local-written, left-written}

@@ -1,7 +1,6 @@
-use Rattle.std.proofs.Common.{◌≡◌, ◌+◌, ◌<◌, length, Some, None, false, true, refl, sym, ap, subst, ◌∙◌}
+use Rattle.std.proofs.Common.{◌≡◌, ◌<◌, length, refl, sym, subst}
 use Rattle.std.proofs.lemmas.Bool.{ne_eqb}
-use Rattle.far_pointer.specs.declared.pointer.Pointer.TheVariants.{Remote}
-use Rattle.far_scopes.specs.Movement.{entry_of, is_local, pins_of, AreTracked, AreClean}
+use Rattle.far_scopes.specs.Movement.{is_local, pins_of, AreClean}
 use Rattle.far_scopes.proofs.WordPlaces.{word-read}
 use Rattle.far_scopes.proofs.Transitions.{tracked-recorded, tracked-pins, clean-recorded, true-or-false}
 use Rattle.far_scopes.proofs.objects.Objects.pin.Goals as goal
@@ -11,7 +10,7 @@ invariant_of-self-2 g c =
     let within = subst (λ m. c.args.o < length m.entries) (sym c.self.view_is) c.requires in
     let was = word-read c.self.inside.entries.items c.args.o c.index_mut-entry.result.now within c.index_mut-entry.ensures.value in
     tracked-recorded g.T.Elem.meaning g.S.FarRead.content _ _ c.self.invariant c.args.o c.index_mut-entry.result.now _ was
-      (λ word is. tracked-pins g.T.Elem.meaning g.S.FarRead.content _ _ _ word _ c.index_mut-entry.result.now _ (c.self.invariant.each c.args.o word c.index_mut-entry.result.now is was) (λ away. absurd (true-or-false (is_local c.args.self.now c.args.o) (sym c.if-is_away.ensures) (rw (← c.self.view_is, is, away) refl))))
+    (λ word is. tracked-pins g.T.Elem.meaning g.S.FarRead.content _ _ _ word _ c.index_mut-entry.result.now _ (c.self.invariant.each c.args.o word c.index_mut-entry.result.now is was) (λ away. absurd (true-or-false (is_local c.args.self.now c.args.o) (sym c.if-is_away.ensures) (rw (← c.self.view_is, is, away) refl))))
 
 pub returns-clause-pinned : goal.returns-clause-pinned
 returns-clause-pinned g c =

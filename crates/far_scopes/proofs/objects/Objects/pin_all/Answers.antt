@@ -1,4 +1,4 @@
-use Rattle.std.proofs.Common.{◌≡◌, ◌<◌, ◌-◌, ◌+◌, ◌∷◌, suc, None, Some, get_or, take, drop, length, refl, sym, ap, subst, ◌∙◌, arith}
+use Rattle.std.proofs.Common.{◌≡◌, ◌+◌, ◌∷◌, suc, None, get_or, take, drop, length, sym, ap, ◌∙◌, arith}
 use Rattle.std.proofs.lemmas.List.{at_drop_more}
 use Rattle.std.proofs.Math.Seq.{take-suc}
 use Rattle.far_scopes.specs.Effects.{pinned}
@@ -22,8 +22,7 @@ loop-k-preserved g c =
     let free : first_absent c.loop-k.self (o ∷ rest) ≡ None = sym (at_drop_more (first_absent c.loop-k.self) c.args.objects.now c.loop-k.k 0 c.loop-k-test.true) ∙ c.loop-k.invariant.3 in
     let local = first-local c.loop-k.self o rest free in
     let is = c.in_default.ensures.pinned in
-    let next : suc c.loop-k.k ≡ c.loop-k.k + 1 = omega arith in
-    (
+    let next : suc c.loop-k.k ≡ c.loop-k.k + 1 = omega arith in (
       is ∙ ap (λ m. pinned m o) c.loop-k.invariant.0 ∙ sym (pinned_all-last c.args.self.now (take c.loop-k.k c.args.objects.now) o) ∙ ap (pinned_all c.args.self.now) (sym (take-suc c.args.objects.now c.loop-k.k 0 c.loop-k-test.true) ∙ ap (λ n. take n c.args.objects.now) next),
       ap (λ m. length m.entries) is ∙ length-with c.loop-k.self.entries o _ ∙ c.loop-k.invariant.1,
       c.loop-k.invariant.2 ∙ at_drop_more (pins_overflow c.loop-k.self) c.args.objects.now c.loop-k.k 0 c.loop-k-test.true ∙ overflow-later c.loop-k.self o rest local.0 c.in_default.ensures.refused ∙ ap (λ m. pins_overflow m rest) (sym is),

@@ -1,4 +1,4 @@
-use Rattle.std.proofs.Common.{◌≡◌, ◌<◌, ℕ, length, Some, None, false, true, refl, sym, ap, subst, ◌∙◌}
+use Rattle.std.proofs.Common.{◌≡◌, ℕ, sym, subst}
 use Rattle.far_scopes.specs.Memory.{list_in}
 use Rattle.far_scopes.specs.Placing.{heated}
 use Rattle.far_scopes.specs.Movement.{AreClean}

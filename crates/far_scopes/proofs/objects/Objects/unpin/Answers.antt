@@ -1,4 +1,4 @@
-use Rattle.std.proofs.Common.{◌≡◌, ◌+◌, ◌-◌, ◌<◌, length, Some, None, false, true, refl, sym, ap, subst, ◌∙◌}
+use Rattle.std.proofs.Common.{◌≡◌, ◌<◌, length, refl, sym, subst}
 use Rattle.std.proofs.lemmas.Bool.{ne_eqb}
 use Rattle.far_scopes.specs.Movement.{pins_of, AreClean}
 use Rattle.far_scopes.proofs.WordPlaces.{word-read}
@@ -10,7 +10,7 @@ invariant_of-self-2 g c =
     let within = subst (λ m. c.args.o < length m.entries) (sym c.self.view_is) c.requires in
     let was = word-read c.self.inside.entries.items c.args.o c.index_mut-entry.result.now within c.index_mut-entry.ensures.value in
     tracked-recorded g.T.Elem.meaning g.S.FarRead.content _ _ c.self.invariant c.args.o c.index_mut-entry.result.now _ was
-      (λ word is. let t = c.self.invariant.each c.args.o word c.index_mut-entry.result.now is was in tracked-pins g.T.Elem.meaning g.S.FarRead.content _ _ _ word _ c.index_mut-entry.result.now _ t (λ away. absurd (c.if-entry-eq0.false (t.away away).0)))
+    (λ word is. let t = c.self.invariant.each c.args.o word c.index_mut-entry.result.now is was in tracked-pins g.T.Elem.meaning g.S.FarRead.content _ _ _ word _ c.index_mut-entry.result.now _ t (λ away. absurd (c.if-entry-eq0.false (t.away away).0)))
 
 pub returns-clause-unpinned : goal.returns-clause-unpinned
 returns-clause-unpinned g c =

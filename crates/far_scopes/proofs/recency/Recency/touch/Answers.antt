@@ -1,4 +1,4 @@
-use Rattle.std.proofs.Common.{sym, ap, ◌∙◌}
+use Rattle.std.proofs.Common.{ap, ◌∙◌}
 use Rattle.std.specs.Map.{keys_of}
 use Rattle.far_scopes.specs.Recency.{used}
 use Rattle.far_scopes.proofs.KeyLaws.{used_keys}
