@@ -9,6 +9,8 @@ pub mod WordPlaces
 pub mod MemoryLaws
 pub mod KeyLaws
 pub mod RecencyLaws
+pub mod Found
+pub mod ColdestLaws
 pub mod Tracked
 pub mod Transitions
 pub mod Touched

@@ -4,6 +4,7 @@ ghost use Rattle.far_pointer.specs.Layout.{HasWord};
 ghost use Rattle.far_codec.specs.Spelling.{IsSpelled};
 ghost use Rattle.far_scopes.specs.Movement.{AreTracked, word_of, version_of, leavings_of, pins_of, ticket_of};
 
+mod coldest;
 mod coming;
 mod compacting;
 mod lending;

@@ -1,4 +1,4 @@
-// Objects that are pinned together, and the object that is used least.
+// Objects that are pinned together.
 ghost use Rattle.std.specs.Prelude.{◌≡◌, ◌⊎◌, ◌==◌, not, false, IsTrue, ◌<◌, ◌≤◌, ◌^◌, ℕ, List, length, take, All, Some, None, OnOk, OnErr, IfOk, IfErr};
 ghost use Rattle.far_scopes.specs.Movement.{Movement, AreClean, pins_of};
 ghost use Rattle.far_scopes.specs.Effects.{unpinned};
