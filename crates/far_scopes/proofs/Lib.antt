@@ -20,6 +20,7 @@ pub mod Pins
 pub mod Listed
 pub mod Written
 pub mod Comings
+pub mod Framing
 pub mod Unmade
 pub mod Departures
 pub mod Arrivals
