@@ -28,3 +28,5 @@ pub mod Arrivals
 pub mod Replacements
 pub mod Undone
 pub mod CompactedObjects
+pub mod Renewed
+pub mod Renewing

@@ -10,3 +10,4 @@ pub mod Refusing
 pub mod Effects
 pub mod ObjectsLending
 pub mod Entering
+pub mod Renewal

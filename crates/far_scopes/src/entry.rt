@@ -1,4 +1,7 @@
 // What is known of an object beside its word and its list.
+ghost use Rattle.std.specs.Prelude.{◌≡◌};
+ghost use Rattle.far_scopes.specs.Renewal.{renewed_entry};
+
 use far_types::Name;
 
 /// The record of an object: it is always in local memory, wherever the object's list is.
@@ -16,4 +19,20 @@ pub struct Entry<K> {
     pub(crate) pins: u16,
     /// Its far copy, the newest that there is. Of an object that was written since, it is an old one.
     pub(crate) ticket: Option<K>,
+}
+
+impl<K: Drop> Entry<K> {
+    // The record with a ticket of another store, or none.
+    pub(crate) fn renewed<L>(self, ticket: Option<L>) -> Entry<L>
+        ensures { result ≡ renewed_entry self ticket }
+    {
+        Entry {
+            name: self.name,
+            len: self.len,
+            version: self.version,
+            leavings: self.leavings,
+            pins: self.pins,
+            ticket,
+        }
+    }
 }

@@ -5,10 +5,12 @@ mod entry;
 mod memory;
 mod objects;
 mod recency;
+mod renewal;
 mod scope;
 
 pub use entry::Entry;
 pub use objects::Objects;
+pub use renewal::Renewal;
 pub use scope::Scope;
 
 #[cfg(test)]

@@ -1,0 +1,174 @@
+-- Objects whose far copies are in another store.
+use Rattle.std.proofs.Common.{◌≡◌, ◌⊎◌, ℕ, zero, suc, ◌<◌, ◌≤◌, ◌++◌, take, drop, get_or, Bool, true, false, inl, inr, List, [], ◌∷◌, length, map, cond, Option, Some, None, IsSome, refl, sym, ap, subst, ◌∙◌, arith}
+use Rattle.std.specs.Prelude.{is_some, slice_get, slice_set, option_map, IfSome, IsSomeAnd}
+use Rattle.std.specs.List.{zip}
+use Rattle.std.specs.Option.{option_and_then, option_map_or, option_or}
+use Rattle.std.proofs.lemmas.Bool.{cases_Bool}
+use Rattle.std.proofs.lemmas.List.{length-map, take_all, drop_all, append-nil}
+use Rattle.std.proofs.lemmas.Option.{slice_get-map}
+use Rattle.far_pointer.specs.declared.pointer.Pointer.{Pointer}
+use Rattle.far_pointer.specs.declared.pointer.Pointer.TheVariants.{Local, Remote}
+use Rattle.far_pointer.specs.Layout.{is_dirty}
+use Rattle.far_log.specs.Room.{Room, part_of}
+use Rattle.far_scopes.specs.declared.entry.Entry.{Entry}
+use Rattle.far_scopes.specs.Memory.{Memory, at_of, place_of, list_in, IsMemory}
+use Rattle.far_scopes.specs.Movement.{Movement, is_local, dirty, ticket_of, list_of, AreClean, AreHere, IsTracked, AreTracked}
+use Rattle.far_scopes.specs.Renewal.{renewed_word, renewed_memory, renewed_entry, renewed, ticket_in, Renews, AreTicketsHere}
+use Rattle.far_scopes.proofs.Places.{none_or_some, same_some, some_of, own-same}
+use Rattle.far_scopes.proofs.WordPlaces.{some-true}
+
+at-renewed : (word : Pointer) → at_of (renewed_word word) ≡ at_of word
+at-renewed (Local at dirty hot far) = refl
+at-renewed Remote = refl
+
+place-renewed : (words : List Pointer) (o : ℕ) → place_of (map renewed_word words) o ≡ place_of words o
+place-renewed [] o = refl
+place-renewed (word ∷ words) zero = at-renewed word
+place-renewed (word ∷ words) (suc o) = place-renewed words o
+
+pub list-renewed : {X : Type 0} (memory : Memory X) (o : ℕ) → list_in (renewed_memory memory) o ≡ list_in memory o
+list-renewed memory o = ap (option_and_then (part_of memory.room)) (place-renewed memory.words o)
+
+-- each local object has the place that it had
+pub memory-renewed : {X : Type 0} (words : List Pointer) (room : Room X) → IsMemory words room → IsMemory (map renewed_word words) room
+memory-renewed words room is = record { region = is.region; own = own-same (place_of words) (place_of (map renewed_word words)) (part_of room) (part_of room) is.own (place-renewed words) (λ at there. there) (λ at there. there) }
+
+-- each of them has a list there
+pub list-placed : {X : Type 0} (words : List Pointer) (room : Room X) → IsMemory words room → (o : ℕ) → IsSome (place_of words o) → IsSome (option_and_then (part_of room) (place_of words o))
+list-placed words room is o there =
+    let (at, at-is) = some_of (place_of words o) there in
+    rw at-is (is.own.placed o at at-is)
+
+-- the words one after the other: those before the i-th are renewed
+module _ (words : List Pointer) where
+  abbrev pub renewed_before : ℕ → List Pointer
+  renewed_before i = map renewed_word (take i words) ++ drop i words
+
+pub renewed-read : (words : List Pointer) (i : ℕ) (d : Pointer) → get_or (renewed_before words i) i d ≡ get_or words i d
+renewed-read [] zero d = refl
+renewed-read [] (suc i) d = refl
+renewed-read (word ∷ words) zero d = refl
+renewed-read (word ∷ words) (suc i) d = renewed-read words i d
+
+pub renewed-more : (words : List Pointer) (i : ℕ) (d : Pointer) → i < length words → slice_set (renewed_before words i) i (renewed_word (get_or words i d)) ≡ renewed_before words (suc i)
+renewed-more [] i d within = absurd (omega (arith, within))
+renewed-more (word ∷ words) zero d within = refl
+renewed-more (word ∷ words) (suc i) d within = ap (λ l. renewed_word word ∷ l) (renewed-more words i d (omega (arith, within)))
+
+pub renewed-all : (words : List Pointer) (i : ℕ) → length words ≤ i → renewed_before words i ≡ map renewed_word words
+renewed-all words i all = rw (take_all i words all, drop_all i words all) (append-nil (map renewed_word words))
+
+module _ {K L : Type 0} where
+  abbrev pub entries-renewed : List (Entry K) → List (Option L) → List (Entry L)
+  entries-renewed entries tickets = map (λ (e : Entry K × Option L). renewed_entry e.0 e.1) (zip entries tickets)
+
+  -- where one of two lists of one length is spent, no record is left
+  pub none-left : (entries : List (Entry K)) (tickets : List (Option L)) → length entries ≡ length tickets → (length entries ≡ 0) ⊎ (length tickets ≡ 0) → entries-renewed entries tickets ≡ []
+  none-left [] tickets even spent = refl
+  none-left (e ∷ entries) [] even spent = refl
+  none-left (e ∷ entries) (t ∷ tickets) even (inl spent) = absurd (omega (arith, spent))
+  none-left (e ∷ entries) (t ∷ tickets) even (inr spent) = absurd (omega (arith, spent))
+
+  length-renewed : (entries : List (Entry K)) (tickets : List (Option L)) → length tickets ≡ length entries → length (entries-renewed entries tickets) ≡ length entries
+  length-renewed [] tickets even = refl
+  length-renewed (e ∷ entries) [] even = absurd (omega (arith, even))
+  length-renewed (e ∷ entries) (t ∷ tickets) even = ap suc (length-renewed entries tickets (omega (arith, even)))
+
+  entry-renewed : (entries : List (Entry K)) (tickets : List (Option L)) (o : ℕ) → length tickets ≡ length entries → slice_get (entries-renewed entries tickets) o ≡ option_map (λ e. renewed_entry e (ticket_in tickets o)) (slice_get entries o)
+  entry-renewed [] tickets o even = refl
+  entry-renewed (e ∷ entries) [] o even = absurd (omega (arith, even))
+  entry-renewed (e ∷ entries) (t ∷ tickets) zero even = refl
+  entry-renewed (e ∷ entries) (t ∷ tickets) (suc o) even = entry-renewed entries tickets o (omega (arith, even))
+
+  ticket-renewed : (entries : List (Entry K)) (tickets : List (Option L)) (o : ℕ) → length tickets ≡ length entries → option_and_then (λ (e : Entry L). e.ticket) (slice_get (entries-renewed entries tickets) o) ≡ ticket_in tickets o
+  ticket-renewed [] [] o even = refl
+  ticket-renewed [] (t ∷ tickets) o even = absurd (omega (arith, even))
+  ticket-renewed (e ∷ entries) [] o even = absurd (omega (arith, even))
+  ticket-renewed (e ∷ entries) (t ∷ tickets) zero even = refl
+  ticket-renewed (e ∷ entries) (t ∷ tickets) (suc o) even = ticket-renewed entries tickets o (omega (arith, even))
+
+map-twice : {A B C : Type 0} (f : A → B) (g : B → C) (o : Option A) → option_map (λ x. g (f x)) o ≡ option_map g (option_map f o)
+map-twice f g None = refl
+map-twice f g (Some x) = refl
+
+-- two tickets, or none, of one content
+module _ {K L : Type 0} (content : K → List ℕ) (content' : L → List ℕ) where
+  both-some : (old : Option K) (new : Option L) → option_map content' new ≡ option_map content old → is_some old ≡ is_some new
+  both-some None None is = refl
+  both-some None (Some t) is = cc
+  both-some (Some k) None is = cc
+  both-some (Some k) (Some t) is = refl
+
+  and-some : (P : List ℕ → Type 0) (old : Option K) (new : Option L) → option_map content' new ≡ option_map content old → IsSomeAnd old (λ k. P (content k)) → IsSomeAnd new (λ t. P (content' t))
+  and-some P None new is h = absurd h
+  and-some P (Some k) None is h = cc
+  and-some P (Some k) (Some t) is h = let same : Some (content' t) ≡ Some (content k) = is in subst P (let e : content k ≡ content' t = cc in e) h
+
+  if-some : (P : List ℕ → Type 0) (old : Option K) (new : Option L) → option_map content' new ≡ option_map content old → IfSome old (λ k. P (content k)) → IfSome new (λ t. P (content' t))
+  if-some P old None is h = tt
+  if-some P None (Some t) is h = cc
+  if-some P (Some k) (Some t) is h = let same : Some (content' t) ≡ Some (content k) = is in subst P (let e : content k ≡ content' t = cc in e) h
+
+module _ {X K L : Type 0} (meaning : List ℕ → List X) (content : K → List ℕ) (content' : L → List ℕ) (spelled : List X → List ℕ → Type 0) where
+  -- what holds of one object
+  one-renewed : (changes leavings : ℕ) (word : Pointer) (list : Option (List X)) (entry : Entry K) (ticket : Option L) → IsTracked meaning content spelled changes leavings word list entry
+      → option_map content' ticket ≡ cond (is_some (at_of word)) None (option_map content entry.ticket) → IsTracked meaning content' spelled changes leavings (renewed_word word) list (renewed_entry entry ticket)
+  one-renewed changes leavings (Local at dirty hot far) list entry None t is = record { version = t.version; left = t.left; some = t.some; long = t.long; away = λ remote. cc; copy = refl; far = tt }
+  one-renewed changes leavings (Local at dirty hot far) list entry (Some k) t is = cc
+  one-renewed changes leavings Remote list entry ticket t is = record {
+    version = t.version;
+    left = t.left;
+    some = t.some;
+    long = t.long;
+    away = λ remote. ((t.away refl).0, and-some content content' (λ bytes. length (meaning bytes) ≡ entry.len) entry.ticket ticket is (t.away refl).1);
+    copy = t.copy ∙ both-some content content' entry.ticket ticket is;
+    far = if-some content content' (λ bytes. spelled (meaning bytes) bytes) entry.ticket ticket is t.far;
+  }
+
+  module _ (m : Movement X K) (tickets : List (Option L)) (renews : Renews content content' m tickets) where
+    pub here-renewed : (is_of : L → List ℕ → Type 0) (name : List ℕ) → AreTicketsHere is_of name tickets → AreHere is_of name (renewed m tickets)
+    here-renewed is_of name here o = rw (ticket-renewed m.entries tickets o renews.even) (here o)
+
+    meant-renewed : (o : ℕ) → option_map (λ k. meaning (content' k)) (ticket_of (renewed m tickets) o) ≡ cond (is_local m o) None (option_map (λ k. meaning (content k)) (ticket_of m o))
+    meant-renewed o = ap (option_map (λ k. meaning (content' k))) (ticket-renewed m.entries tickets o renews.even) ∙ map-twice content' meaning (ticket_in tickets o) ∙ ap (option_map meaning) (renews.each o) ∙ through (is_local m o)
+      where
+        through : (b : Bool) → option_map meaning (cond b None (option_map content (ticket_of m o))) ≡ cond b None (option_map (λ k. meaning (content k)) (ticket_of m o))
+        through true = refl
+        through false = sym (map-twice content meaning (ticket_of m o))
+
+    list-first : (l rest : Option (List X)) → IsSome l → option_or l rest ≡ l
+    list-first None rest there = cc
+    list-first (Some xs) rest there = refl
+
+    pub lists-renewed : ((p : ℕ) → IsSome (place_of m.memory.words p) → IsSome (list_in m.memory p)) → (o : ℕ) → list_of meaning content' (renewed m tickets) o ≡ list_of meaning content m o
+    lists-renewed placed o = ap (λ l. option_or l (option_map (λ k. meaning (content' k)) (ticket_of (renewed m tickets) o))) (list-renewed m.memory o) ∙ elim (cases_Bool (is_local m o)) [
+      | inl local ↦ (let there = placed o (some-true (place_of m.memory.words o) local) in list-first (list_in m.memory o) _ there ∙ sym (list-first (list_in m.memory o) _ there))
+      | inr away ↦ ap (option_or (list_in m.memory o)) (meant-renewed o ∙ ap (λ b. cond b None (option_map (λ k. meaning (content k)) (ticket_of m o))) away)
+    ]
+
+    clean-word : (word : Option Pointer) → option_map_or is_dirty (option_map renewed_word word) false ≡ false → option_and_then at_of word ≡ None
+    clean-word None clean = refl
+    clean-word (Some (Local at dirty hot far)) clean = cc
+    clean-word (Some Remote) clean = refl
+
+    pub clean-renewed : AreClean meaning content' (renewed m tickets)
+    clean-renewed o clean =
+        let away : place_of m.memory.words o ≡ None = clean-word (slice_get m.memory.words o) (ap (λ w. option_map_or is_dirty w false) (sym (slice_get-map renewed_word m.memory.words o)) ∙ clean) in
+        ap (λ l. option_or l (option_map (λ k. meaning (content' k)) (ticket_of (renewed m tickets) o))) (list-renewed m.memory o ∙ ap (option_and_then (part_of m.memory.room)) away)
+
+    was : {A B : Type 0} (f : A → B) (old : Option A) (new : Option B) (now : B) → new ≡ option_map f old → new ≡ Some now → (x : A) × (old ≡ Some x) × (now ≡ f x)
+    was f None new now is there = absurd (none_or_some new is there)
+    was f (Some x) new now is there = (x, refl, same_some new there is)
+
+    pub tracked-renewed : AreTracked meaning content spelled m → AreTracked meaning content' spelled (renewed m tickets)
+    tracked-renewed tracked = record {
+      even = length-renewed m.entries tickets renews.even ∙ tracked.even ∙ sym (length-map m.memory.words renewed_word);
+      few = rw (length-renewed m.entries tickets renews.even) tracked.few;
+      each = λ o word entry w e.
+          let (word', w', same) = was renewed_word (slice_get m.memory.words o) _ word (slice_get-map renewed_word m.memory.words o) w in
+          let (entry', e', is) = was (λ x. renewed_entry x (ticket_in tickets o)) (slice_get m.entries o) _ entry (entry-renewed m.entries tickets o renews.even) e in
+          let content-is : option_map content' (ticket_in tickets o) ≡ cond (is_some (at_of word')) None (option_map content entry'.ticket) = renews.each o ∙ ap (λ w. cond (is_some (option_and_then at_of w)) None (option_map content (ticket_of m o))) w' ∙ ap (λ x. cond (is_some (at_of word')) None (option_map content (option_and_then (λ (r : Entry K). r.ticket) x))) e' in
+          rw (same, is, list-renewed m.memory o) (one-renewed m.changes m.leavings word' (list_in m.memory o) entry' (ticket_in tickets o) (tracked.each o word' entry' w' e') content-is);
+      once = tracked.once;
+      ordered = λ o. tracked.ordered o ∙ sym (ap is_some (place-renewed m.memory.words o));
+    }

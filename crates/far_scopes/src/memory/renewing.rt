@@ -1,0 +1,34 @@
+// Words of objects whose far copies are in another store.
+ghost use Rattle.std.specs.Prelude.{◌≡◌, ℕ, IsSome};
+ghost use Rattle.far_scopes.specs.Memory.{place_of, list_in};
+ghost use Rattle.far_scopes.specs.Renewal.{renewed_word, renewed_memory};
+
+use super::LocalMemory;
+use far_codec::Elem;
+use far_pointer::{Pointer, Word};
+
+impl<T: Elem> LocalMemory<T> {
+    /// No local object has a far copy from now on, so each is dirty.
+    pub fn forget_copies(&mut self)
+        ensures renewed { self.new ≡ renewed_memory self.old }
+        ensures lists { (p : ℕ) → list_in self.new p ≡ list_in self.old p }
+        ensures placed { (p : ℕ) → IsSome (place_of self.old.words p) → IsSome (list_in self.old p) }
+    {
+        for word in self.words.iter_mut() {
+            *word = without_copy(*word);
+        }
+    }
+}
+
+// The word of the same object, without a far copy where it is local.
+fn without_copy(word: Word) -> Word
+    ensures { result ≡ renewed_word word }
+{
+    let Pointer::Local { at, hot, .. } = word.read() else {
+        return word;
+    };
+    let Some(word) = Word::local(at, true, hot, false) else {
+        unreachable!()
+    };
+    word
+}

@@ -1,0 +1,115 @@
+// Objects whose far copies go into another store.
+ghost use Rattle.std.specs.Prelude.{◌≡◌, ◌+◌, ◌<◌, ◌^◌, ℕ, List, [], ◌∷◌, length, if◌then◌else◌, None, IfOk, option_map};
+ghost use Rattle.far_store.specs.Faults.{faults_in, RefusedBy};
+ghost use Rattle.far_scopes.specs.Movement.{list_of, AreClean, AreHere, is_local, ticket_of};
+ghost use Rattle.far_scopes.specs.Renewal.{Renews, renewed, AreTicketsHere};
+
+use super::{Entry, Objects};
+use crate::renewal::Renewal;
+use far_codec::Elem;
+use far_store::{FarRead, FarStore, Meter};
+use far_types::Refusal;
+use std::alloc::Global;
+
+impl<T: Elem, S: FarRead> Objects<T, S> {
+    /// Puts the content of each object that is away into another store, by rising object number, and makes all room that
+    /// `renew` needs. These objects stay as they are.
+    ///
+    /// Refused with `FarFault` (21) where one of the stores fails, with `FarFull` (22) where the new one gives out no
+    /// more numbers, and with `NoMemory` (1). It ends at the first object that is refused; what was put before stays in
+    /// the new store.
+    pub fn renewal<N: FarStore>(
+        &self,
+        alloc: Global,
+        store: &S,
+        new_store: &N,
+        meter: &mut Meter,
+    ) -> Result<Renewal<N>, Refusal>
+        requires few { meter.old < 2 ^ 63 }
+        requires here { AreHere S.is_of (S.name store.now) self.now }
+        ensures renews { IfOk result (λ tickets. Renews S.content N.content self.now tickets) }
+        ensures there { IfOk result (λ tickets. AreTicketsHere N.is_of (N.name new_store.now) tickets) }
+        ensures faults { meter.new ≡ meter.old + faults_in result }
+        ensures refused { RefusedBy (21 ∷ 22 ∷ 1 ∷ []) result }
+    {
+        let entries = Vec::with_capacity(alloc, self.entries.len())?;
+        let mut tickets = Vec::with_capacity(alloc, self.entries.len())?;
+        let mut buffer = Vec::new(alloc);
+        for o in 0..self.entries.len() as u32 {
+            let ticket = match self.away_ticket(o) {
+                Some(ticket) => Some(put_again(
+                    alloc,
+                    store,
+                    ticket,
+                    new_store,
+                    meter,
+                    &mut buffer,
+                )?),
+                None => None,
+            };
+            tickets.push_reserved(ticket);
+        }
+        Ok(Renewal { tickets, entries })
+    }
+
+    /// The same objects, whose far copies are those of the renewal from now on. Those that are away have their tickets
+    /// there; the local ones are dirty, since they have no copy there. Every list, what is local, hot or pinned, versions,
+    /// leavings, the order of use and the room stay. Takes no memory.
+    pub fn renew<N: FarRead>(self, renewal: Renewal<N>) -> Objects<T, N>
+        requires { Renews S.content N.content self renewal }
+        ensures renewed { result ≡ renewed self renewal }
+        ensures lists { (p : ℕ) → list_of T.meaning N.content result p ≡ list_of T.meaning S.content self p }
+        ensures clean { AreClean T.meaning N.content result }
+        ensures store { (name : List ℕ) → AreTicketsHere N.is_of name renewal → AreHere N.is_of name result }
+    {
+        let Renewal {
+            tickets,
+            mut entries,
+        } = renewal;
+        for (entry, ticket) in self.entries.into_iter().zip(tickets) {
+            entries.push_reserved(entry.renewed(ticket));
+        }
+        let mut memory = self.memory;
+        memory.forget_copies();
+        Objects {
+            number: self.number,
+            changes: self.changes,
+            leavings: self.leavings,
+            memory,
+            entries,
+            order: self.order,
+        }
+    }
+
+    // The ticket of an object that is away; none for a local one.
+    fn away_ticket(&self, o: u32) -> Option<&S::Ticket>
+        requires { o < length self.now.entries }
+        ensures { option_map (λ ticket. ticket.now) result ≡ (if is_local self.now o then None else ticket_of self.now o) }
+    {
+        if self.is_away(o) {
+            self.ticket(o)
+        } else {
+            None
+        }
+    }
+}
+
+// Puts the content of a ticket into another store. The buffer is room that is used again.
+fn put_again<S: FarRead, N: FarStore>(
+    alloc: Global,
+    store: &S,
+    ticket: &S::Ticket,
+    new_store: &N,
+    meter: &mut Meter,
+    buffer: &mut Vec<u8>,
+) -> Result<N::Ticket, Refusal>
+    requires few { meter.old < 2 ^ 63 }
+    requires here { S.is_of ticket.now (S.name store.now) }
+    ensures there { IfOk result (λ new. N.is_of new (N.name new_store.now)) }
+    ensures content { IfOk result (λ new. N.content new ≡ S.content ticket.now) }
+    ensures faults { meter.new ≡ meter.old + faults_in result }
+    ensures refused { RefusedBy (21 ∷ 22 ∷ 1 ∷ []) result }
+{
+    store.get(alloc, meter, ticket, buffer)?;
+    new_store.put(alloc, meter, buffer)
+}

@@ -1,0 +1,28 @@
+// The far copies of objects in another store.
+use super::entry::Entry;
+use far_store::FarRead;
+use std::marker::Model;
+
+/// The far copies that `Objects::renewal` put into another store. Contracts see, by object number, the ticket of each
+/// object that was away, and `None` for each that was local.
+///
+/// It has the room for the records of the objects too, so that `Objects::renew` takes no memory.
+#[derive(Drop)]
+pub struct Renewal<N: FarRead> {
+    pub(crate) tickets: Vec<Option<N::Ticket>>,
+    /// The room: no record, and space for one for each ticket.
+    pub(crate) entries: Vec<Entry<N::Ticket>>,
+}
+
+impl<N: FarRead> Model for Renewal<N> {
+    ghost use Rattle.std.specs.Prelude.{List, Option};
+
+    ghost Value = { List (Option N.Ticket) };
+
+    ghost use Rattle.std.specs.Prelude.{◌≡◌, ◌≤◌, [], length};
+    ghost use Rattle.std.specs.Vec.{vec_capacity};
+
+    ghost view = { λ r. r.tickets.items };
+
+    ghost invariant = { λ r. (r.entries.items ≡ []) × (length r.tickets.items ≤ vec_capacity r.entries) };
+}
