@@ -3,3 +3,4 @@ mod coldest;
 mod coming;
 mod moving;
 mod pins;
+mod renewing;

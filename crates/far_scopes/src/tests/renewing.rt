@@ -1,0 +1,202 @@
+// Objects whose far copies go into another store: worked examples.
+ghost use Rattle.std.specs.Prelude.{◌<◌, length};
+ghost use Rattle.far_scopes.specs.Movement.{AreHere};
+
+use super::coming::{empty, name_of};
+use crate::Objects;
+use far_codec::Elem;
+use far_store::{AgentStore, FarStore, FaultyStore, Meter};
+use far_types::Refusal;
+use std::alloc::Global;
+use std::test::Fail;
+
+/// What is known of an object beside its list.
+#[derive(Drop, Debug, PartialEq)]
+struct Seen {
+    version: u64,
+    leavings: u64,
+    pins: u32,
+    dirty: bool,
+    hot: bool,
+    has_ticket: bool,
+}
+
+impl Seen {
+    fn of<S: FarStore>(objects: &Objects<i64, S>, o: u32) -> Seen
+        requires { o < length objects.now.entries }
+    {
+        let word = objects.word(o);
+        Seen {
+            version: objects.version(o),
+            leavings: objects.leavings(o),
+            pins: objects.pins(o),
+            dirty: word.dirty(),
+            hot: word.hot(),
+            has_ticket: objects.ticket(o).is_some(),
+        }
+    }
+}
+
+/// The list of an object that is away, read from its store.
+fn list_in_store<S: FarStore>(
+    alloc: Global,
+    store: &S,
+    objects: &Objects<i64, S>,
+    o: u32,
+) -> Result<Option<Vec<i64>>, Refusal>
+    requires within { o < length objects.now.entries }
+    requires here { AreHere S.is_of (S.name store.now) objects.now }
+{
+    let Some(ticket) = objects.ticket(o) else {
+        return Ok(None);
+    };
+    let mut bytes = Vec::new(alloc);
+    store.get(alloc, &mut Meter::new(), ticket, &mut bytes)?;
+    i64::unspell(alloc, &bytes)
+}
+
+/// An object that was written twice and is pinned, after a renewal; its list; and which of two others goes away first
+/// then, that were made in turn.
+fn written_and_pinned<S: FarStore, N: FarStore>(
+    alloc: Global,
+    store: &S,
+    new_store: &N,
+) -> Result<(Seen, Vec<i64>, Option<u32>), Refusal> {
+    let mut objects: Objects<i64, S> = empty(alloc, store)?;
+    objects.create(name_of(0), &[1, 2])?;
+    objects.create(name_of(1), &[3])?;
+    objects.create(name_of(2), &[4])?;
+    objects.replace(0, &[8, 8])?;
+    objects.replace(0, &[9, 9])?;
+    objects.pin(0)?;
+    let renewal = objects.renewal(alloc, store, new_store, &mut Meter::new())?;
+    let objects = objects.renew(renewal);
+    let list = objects.lend(0)?.to_vec(alloc)?;
+    Ok((Seen::of(&objects, 0), list, objects.coldest()))
+}
+
+/// An object that is away, before and after a renewal, and its list in the new store.
+fn away<S: FarStore, N: FarStore>(
+    alloc: Global,
+    store: &S,
+    new_store: &N,
+) -> Result<([Seen; 2], Option<Vec<i64>>), Refusal> {
+    let mut objects: Objects<i64, S> = empty(alloc, store)?;
+    objects.create(name_of(0), &[3])?;
+    let bytes = i64::spell(alloc, &[3])?;
+    let ticket = store.put(alloc, &mut Meter::new(), &bytes)?;
+    objects.leave(store, 0, &ticket);
+    let before = Seen::of(&objects, 0);
+    let renewal = objects.renewal(alloc, store, new_store, &mut Meter::new())?;
+    let objects = objects.renew(renewal);
+    let list = list_in_store(alloc, new_store, &objects, 0)?;
+    Ok(([before, Seen::of(&objects, 0)], list))
+}
+
+/// An object that went away and came back, before and after a renewal, and its list then.
+fn back<S: FarStore, N: FarStore>(
+    alloc: Global,
+    store: &S,
+    new_store: &N,
+) -> Result<([Seen; 2], Vec<i64>), Refusal> {
+    let mut objects: Objects<i64, S> = empty(alloc, store)?;
+    objects.create(name_of(0), &[3])?;
+    let bytes = i64::spell(alloc, &[3])?;
+    let ticket = store.put(alloc, &mut Meter::new(), &bytes)?;
+    objects.leave(store, 0, &ticket);
+    objects.arrive(0, &[3])?;
+    let before = Seen::of(&objects, 0);
+    let renewal = objects.renewal(alloc, store, new_store, &mut Meter::new())?;
+    let objects = objects.renew(renewal);
+    let list = objects.lend(0)?.to_vec(alloc)?;
+    Ok(([before, Seen::of(&objects, 0)], list))
+}
+
+/// Why two renewals of an object that is away are refused, if they are, and how many faults were met.
+fn refused_twice<S: FarStore, N: FarStore>(
+    alloc: Global,
+    store: &S,
+    new_store: &N,
+) -> Result<([Option<Refusal>; 2], u64), Refusal> {
+    let mut objects: Objects<i64, S> = empty(alloc, store)?;
+    objects.create(name_of(0), &[3])?;
+    let mut meter = Meter::new();
+    let bytes = i64::spell(alloc, &[3])?;
+    let ticket = store.put(alloc, &mut meter, &bytes)?;
+    objects.leave(store, 0, &ticket);
+    let first = objects.renewal(alloc, store, new_store, &mut meter).err();
+    let second = objects.renewal(alloc, store, new_store, &mut meter).err();
+    Ok(([first, second], meter.faults()))
+}
+
+#[test]
+fn a_renewal_keeps_writes_pins_and_the_order_of_use(rt: HostRuntime) -> Result<(), Fail> {
+    let store = AgentStore::new(&rt, rt.alloc(), 4)?;
+    let new_store = AgentStore::new(&rt, rt.alloc(), 0)?;
+    let (seen, list, coldest) = written_and_pinned(rt.alloc(), &store, &new_store)?;
+    let wanted = Seen {
+        version: 2,
+        leavings: 0,
+        pins: 1,
+        dirty: true,
+        hot: true,
+        has_ticket: false,
+    };
+    assert_eq!(rt; seen, wanted);
+    assert_eq!(rt; list.as_slice(), [9, 9].as_slice());
+    assert_eq!(rt; coldest, Some(1));
+    Ok(())
+}
+
+#[test]
+fn an_object_that_is_away_has_its_content_in_the_new_store(rt: HostRuntime) -> Result<(), Fail> {
+    let store = AgentStore::new(&rt, rt.alloc(), 4)?;
+    let new_store = AgentStore::new(&rt, rt.alloc(), 1)?;
+    let ([before, after], list) = away(rt.alloc(), &store, &new_store)?;
+    let wanted = Seen {
+        version: 0,
+        leavings: 1,
+        pins: 0,
+        dirty: false,
+        hot: false,
+        has_ticket: true,
+    };
+    assert_eq!(rt; before, wanted);
+    assert_eq!(rt; after, wanted);
+    let list = list.unwrap_or(Vec::new(rt.alloc()));
+    assert_eq!(rt; list.as_slice(), [3].as_slice());
+    Ok(())
+}
+
+#[test]
+fn a_clean_object_is_dirty_in_a_new_store(rt: HostRuntime) -> Result<(), Fail> {
+    let store = AgentStore::new(&rt, rt.alloc(), 4)?;
+    let new_store = AgentStore::new(&rt, rt.alloc(), 0)?;
+    let ([before, after], list) = back(rt.alloc(), &store, &new_store)?;
+    assert!(rt; before.has_ticket && !before.dirty);
+    assert!(rt; !after.has_ticket && after.dirty);
+    assert!(rt; after.hot);
+    assert_eq!(rt; after.leavings, 1);
+    assert_eq!(rt; list.as_slice(), [3].as_slice());
+    Ok(())
+}
+
+#[test]
+fn a_renewal_into_a_full_store_is_refused(rt: HostRuntime) -> Result<(), Fail> {
+    let store = AgentStore::new(&rt, rt.alloc(), 4)?;
+    let new_store = AgentStore::new(&rt, rt.alloc(), 0)?;
+    let (refused, faults) = refused_twice(rt.alloc(), &store, &new_store)?;
+    assert_eq!(rt; refused, [Some(Refusal::FarFull), Some(Refusal::FarFull)]);
+    assert_eq!(rt; faults, 0);
+    Ok(())
+}
+
+#[test]
+fn a_renewal_that_met_a_fault_can_be_made_again(rt: HostRuntime) -> Result<(), Fail> {
+    let store = FaultyStore::new(AgentStore::new(&rt, rt.alloc(), 4)?, 0, 1);
+    let new_store = AgentStore::new(&rt, rt.alloc(), 1)?;
+    let (refused, faults) = refused_twice(rt.alloc(), &store, &new_store)?;
+    assert_eq!(rt; refused, [Some(Refusal::FarFault), None]);
+    assert_eq!(rt; faults, 1);
+    Ok(())
+}
