@@ -28,5 +28,6 @@ pub mod Arrivals
 pub mod Replacements
 pub mod Undone
 pub mod CompactedObjects
+pub mod RenewedWords
 pub mod Renewed
 pub mod Renewing
