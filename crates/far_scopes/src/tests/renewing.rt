@@ -55,6 +55,36 @@ fn list_in_store<S: FarStore>(
     i64::unspell(alloc, &bytes)
 }
 
+/// The number of an object's ticket in its store.
+fn number_in_store<S: FarStore>(store: &S, objects: &Objects<i64, S>, o: u32) -> Option<u64>
+    requires within { o < length objects.now.entries }
+    requires here { AreHere S.is_of (S.name store.now) objects.now }
+{
+    let ticket = objects.ticket(o)?;
+    Some(store.number(ticket))
+}
+
+/// The numbers that two objects have in a new store, of which the second went away first.
+fn numbers<S: FarStore, N: FarStore>(
+    alloc: Global,
+    store: &S,
+    new_store: &N,
+) -> Result<[Option<u64>; 2], Refusal> {
+    let mut objects: Objects<i64, S> = empty(alloc, store)?;
+    objects.create(name_of(0), &[3])?;
+    objects.create(name_of(1), &[3])?;
+    let bytes = i64::spell(alloc, &[3])?;
+    let ticket = store.put(alloc, &mut Meter::new(), &bytes)?;
+    objects.leave(store, 1, &ticket);
+    objects.leave(store, 0, &ticket);
+    let renewal = objects.renewal(alloc, store, new_store, &mut Meter::new())?;
+    let objects = objects.renew(renewal);
+    Ok([
+        number_in_store(new_store, &objects, 0),
+        number_in_store(new_store, &objects, 1),
+    ])
+}
+
 /// An object that was written twice and is pinned, after a renewal; its list; and which of two others goes away first
 /// then, that were made in turn.
 fn written_and_pinned<S: FarStore, N: FarStore>(
@@ -165,6 +195,15 @@ fn an_object_that_is_away_has_its_content_in_the_new_store(rt: HostRuntime) -> R
     assert_eq!(rt; after, wanted);
     let list = list.unwrap_or(Vec::new(rt.alloc()));
     assert_eq!(rt; list.as_slice(), [3].as_slice());
+    Ok(())
+}
+
+#[test]
+fn contents_are_put_by_rising_object_number(rt: HostRuntime) -> Result<(), Fail> {
+    let store = AgentStore::new(&rt, rt.alloc(), 4)?;
+    let new_store = AgentStore::new(&rt, rt.alloc(), 4)?;
+    let numbers = numbers(rt.alloc(), &store, &new_store)?;
+    assert_eq!(rt; numbers, [Some(0), Some(1)]);
     Ok(())
 }
 
