@@ -7,3 +7,4 @@ pub mod TestLaws
 pub mod KindLaws
 pub mod PrintLaws
 pub mod Reaching
+pub mod BoundLaws

@@ -9,3 +9,4 @@ pub mod Printing
 pub mod Scripts
 pub mod Faults
 pub mod Listings
+pub mod Bounds

@@ -1,9 +1,9 @@
 // What ends a script early.
-ghost use Rattle.std.specs.Prelude.{◌≡◌};
+ghost use Rattle.std.specs.Prelude.{◌≡◌, ◌≢◌};
 
 use far_types::Refusal;
 use std::alloc::{AllocError, AllocFailed};
-use std::io;
+use std::io::{self, ErrorKind};
 
 /// What ends a script before its end. What was answered before stands.
 #[derive(Drop, Debug, Clone, Copy, PartialEq, Eq)]
@@ -51,6 +51,7 @@ impl From<Refusal> for ShellFault {
 
 impl ShellFault {
     ghost use Rattle.far_shell.specs.Faults.{status_of};
+    ghost use Rattle.std.specs.IoError.{error_kind};
 
     /// The exit status of a program that ends by the fault.
     pub fn status(self) -> u8
@@ -64,17 +65,23 @@ impl ShellFault {
     }
 
     /// The fault of a read that failed.
-    pub fn of_read(error: &io::Error) -> ShellFault {
+    pub fn of_read(error: &io::Error) -> ShellFault
+        ensures memory { error_kind error.now ≡ ErrorKind.OutOfMemory → result ≡ ShellFault.Memory }
+        ensures other { error_kind error.now ≢ ErrorKind.OutOfMemory → result ≡ ShellFault.Input }
+    {
         match error.kind() {
-            io::ErrorKind::OutOfMemory => ShellFault::Memory,
+            ErrorKind::OutOfMemory => ShellFault::Memory,
             _ => ShellFault::Input,
         }
     }
 
     /// The fault of a write that failed.
-    pub fn of_write(error: &io::Error) -> ShellFault {
+    pub fn of_write(error: &io::Error) -> ShellFault
+        ensures memory { error_kind error.now ≡ ErrorKind.OutOfMemory → result ≡ ShellFault.Memory }
+        ensures other { error_kind error.now ≢ ErrorKind.OutOfMemory → result ≡ ShellFault.Output }
+    {
         match error.kind() {
-            io::ErrorKind::OutOfMemory => ShellFault::Memory,
+            ErrorKind::OutOfMemory => ShellFault::Memory,
             _ => ShellFault::Output,
         }
     }

@@ -1,5 +1,6 @@
 // Lines and loads of a script, as they come.
-ghost use Rattle.std.specs.Prelude.{◌≡◌, ◌≤◌, ◌<◌, ◌+◌, IfOk, IfSome, OnOk, vec_len};
+ghost use Rattle.std.specs.Prelude.{◌≡◌, ◌≤◌, ◌<◌, ◌+◌, length, false, true, IfNone, IfOk, IfSome, OnOk, option_map, vec_len};
+ghost use Rattle.far_shell.specs.Bounds.{IsSameScript, script_length};
 
 use super::bounded::{Bounded, MAX_READS};
 use super::fault::ShellFault;
@@ -10,6 +11,13 @@ use std::str;
 
 /// How many bytes are read at a time, at least.
 const CHUNK: usize = 65_536;
+
+/// Where a line or a load stands in what was read.
+#[derive(Clone, Copy, Debug, Drop)]
+pub struct Span {
+    from: usize,
+    to: usize,
+}
 
 /// A script that is read as it is answered: at most one line or one load of it is held, and what came with it.
 #[derive(Drop)]
@@ -30,7 +38,9 @@ pub struct Input<R: Read + Drop> {
 
 impl<R: Read + Drop> Input<R> {
     /// A script of which nothing was read yet.
-    pub fn new(alloc: Global, reader: R) -> Input<R> {
+    pub fn new(alloc: Global, reader: R) -> Input<R>
+        ensures { script_length R.Read result.source ≡ option_map (λ bytes. length bytes) (R.remaining reader) }
+    {
         Input {
             source: Bounded::new(reader),
             buffer: Vec::new(alloc),
@@ -41,7 +51,9 @@ impl<R: Read + Drop> Input<R> {
     }
 
     /// Moves what was not taken yet to the front.
-    fn move_to_front(&mut self) {
+    fn move_to_front(&mut self)
+        ensures { self.new.source ≡ self.old.source }
+    {
         if self.start == 0 {
             return;
         }
@@ -53,7 +65,8 @@ impl<R: Read + Drop> Input<R> {
 
     /// Makes room for more bytes.
     fn make_room(&mut self) -> Result<(), ShellFault>
-        ensures { OnOk result (self.new.filled < vec_len self.new.buffer) }
+        ensures room { OnOk result (self.new.filled < vec_len self.new.buffer) }
+        ensures source { self.new.source ≡ self.old.source }
     {
         self.move_to_front();
         if self.buffer.len() - self.filled < CHUNK / 2 {
@@ -67,7 +80,10 @@ impl<R: Read + Drop> Input<R> {
     }
 
     /// Reads once, and says whether bytes came. They stop at the end of the script alone.
-    fn fill(&mut self) -> Result<bool, ShellFault> {
+    fn fill(&mut self) -> Result<bool, ShellFault>
+        ensures same { OnOk result (IsSameScript R.Read self.old.source self.new.source) }
+        ensures ended { IfOk result (λ more. more ≡ false → self.new.source.ended ≡ true) }
+    {
         self.make_room()?;
         let count = self.source.read(&mut self.buffer[self.filled..])?;
         self.filled += count;
@@ -76,7 +92,8 @@ impl<R: Read + Drop> Input<R> {
 
     /// Where the first line ends that is whole in the buffer.
     fn line_end(&mut self) -> Option<usize>
-        ensures { IfSome result (λ end. (self.new.start ≤ end) × (end < self.new.filled)) }
+        ensures end { IfSome result (λ end. (self.new.start ≤ end) × (end < self.new.filled)) }
+        ensures source { self.new.source ≡ self.old.source }
     {
         match self.buffer[self.searched..self.filled]
             .iter()
@@ -96,7 +113,9 @@ impl<R: Read + Drop> Input<R> {
     /// Reads until a whole line is at hand, and says where it ends; `None` at the end of the script. Replies are written
     /// before the reader is asked.
     fn seek_line<W: Write>(&mut self, output: &mut Output<W>) -> Result<Option<usize>, ShellFault>
-        ensures { IfOk result (λ found. IfSome found (λ end. (self.new.start ≤ end) × (end < self.new.filled))) }
+        ensures end { IfOk result (λ found. IfSome found (λ end. (self.new.start ≤ end) × (end < self.new.filled))) }
+        ensures same { OnOk result (IsSameScript R.Read self.old.source self.new.source) }
+        ensures ended { IfOk result (λ found. IfNone found (self.new.source.ended ≡ true)) }
     {
         for _ in 0..=MAX_READS {
             if let Some(end) = self.line_end() {
@@ -107,43 +126,54 @@ impl<R: Read + Drop> Input<R> {
                 return Ok(None);
             }
         }
-        Ok(None)
+        Err(ShellFault::Input)
     }
 
-    /// Takes what stands up to a place, and leaves out the end of a line that follows it. It must be UTF-8, else the fault
-    /// is `Input`.
-    fn take_text(&mut self, end: usize, next: usize) -> Result<&str, ShellFault>
+    /// Takes what stands up to a place, and leaves out the end of a line that follows it.
+    fn take(&mut self, end: usize, next: usize) -> Span
         requires { (self.old.start ≤ end) × (end ≤ next) × (next ≤ self.old.filled) }
+        ensures from { result.from ≡ self.old.start }
+        ensures to { result.to ≡ end }
+        ensures buffer { self.new.buffer ≡ self.old.buffer }
+        ensures source { self.new.source ≡ self.old.source }
     {
         let from = self.start;
         self.start = next;
         self.searched = next;
-        match str::from_utf8(&self.buffer[from..end]) {
-            Ok(text) => Ok(text),
-            Err(_) => Err(ShellFault::Input),
-        }
+        Span { from, to: end }
     }
 
-    /// The next line without its end, which is a line feed and a carriage return directly before it, if there is one; the
-    /// last line may lack its end. `None` where the script has no more.
-    pub fn line<W: Write>(&mut self, output: &mut Output<W>) -> Result<Option<&str>, ShellFault> {
+    /// Where the next line stands without its end, which is a line feed and a carriage return directly before it, if there
+    /// is one; the last line may lack its end. `None` where the script has no more.
+    pub fn line<W: Write>(&mut self, output: &mut Output<W>) -> Result<Option<Span>, ShellFault>
+        ensures span { IfOk result (λ found. IfSome found (λ span. (span.from ≤ span.to) × (span.to ≤ vec_len self.new.buffer))) }
+        ensures same { OnOk result (IsSameScript R.Read self.old.source self.new.source) }
+        ensures ended { IfOk result (λ found. IfNone found (self.new.source.ended ≡ true)) }
+    {
         let Some(end) = self.seek_line(output)? else {
             if self.start == self.filled {
                 return Ok(None);
             }
             let filled = self.filled;
-            return Ok(Some(self.take_text(filled, filled)?));
+            return Ok(Some(self.take(filled, filled)));
         };
-        let text = self.take_text(end, end + 1)?;
-        Ok(Some(text.strip_suffix('\r').unwrap_or(text)))
+        let returns = self.start < end && self.buffer[end - 1] == b'\r';
+        let mut line = self.take(end, end + 1);
+        if returns {
+            line.to -= 1;
+        }
+        Ok(Some(line))
     }
 
-    /// The next bytes, as many as asked. Where the script ends before them, or they are no UTF-8, the fault is `Input`.
+    /// Where the next bytes stand, as many as asked. Where the script ends before them, the fault is `Input`.
     pub fn bytes<W: Write>(
         &mut self,
         output: &mut Output<W>,
         count: usize,
-    ) -> Result<&str, ShellFault> {
+    ) -> Result<Span, ShellFault>
+        ensures span { IfOk result (λ span. (span.from ≤ span.to) × (span.to ≤ vec_len self.new.buffer)) }
+        ensures same { OnOk result (IsSameScript R.Read self.old.source self.new.source) }
+    {
         for _ in 0..=MAX_READS {
             if self.filled - self.start >= count {
                 break;
@@ -157,6 +187,16 @@ impl<R: Read + Drop> Input<R> {
             return Err(ShellFault::Input);
         }
         let end = self.start + count;
-        self.take_text(end, end)
+        Ok(self.take(end, end))
+    }
+
+    /// The text of a line or of a load that was just found. Where it is no UTF-8, the fault is `Input`.
+    pub fn text(&self, span: Span) -> Result<&str, ShellFault>
+        requires { (span.from ≤ span.to) × (span.to ≤ vec_len self.now.buffer) }
+    {
+        match str::from_utf8(&self.buffer[span.from..span.to]) {
+            Ok(text) => Ok(text),
+            Err(_) => Err(ShellFault::Input),
+        }
     }
 }

@@ -6,7 +6,6 @@ use super::bounded::MAX_BYTES;
 use super::field::record_cells;
 use super::page::Page;
 use super::print::{numbered, refused};
-use super::serve::take_step;
 use csv::{ReaderBuilder, StringRecord};
 use far_frame::{Reply, Step, World};
 use far_types::{Edit, Refusal, Row};
@@ -31,7 +30,7 @@ pub fn load(alloc: Global, world: &mut World, text: &str, page: &mut Page) -> Re
         }
         let cells = record_cells(alloc, world.frame().schema().as_slice(), &fields)?;
         let step = Step::Edit(Edit::Insert(Row::new(cells)));
-        if let Reply::Refused(refusal) = take_step(world, step) {
+        if let Reply::Refused(refusal) = world.serve(step) {
             numbered(page, "loaded", u64::from(count))?;
             return refused(page, &refusal);
         }

@@ -1,5 +1,6 @@
 // Scripts, read as they are answered.
-ghost use Rattle.std.specs.Prelude.{◌≡◌};
+ghost use Rattle.std.specs.Prelude.{◌≡◌, ◌≤◌, length, true, IfSome, OnOk};
+ghost use Rattle.far_shell.specs.Bounds.{IsSameScript};
 ghost use Rattle.far_shell.specs.Scripts.{Reaches};
 
 use super::bounded::MAX_BYTES;
@@ -46,15 +47,19 @@ fn open<R: Read + Drop, W: Write>(
     alloc: Global,
     input: &mut Input<R>,
     output: &mut Output<W>,
-) -> Result<World, ShellFault> {
+) -> Result<World, ShellFault>
+    ensures same { OnOk result (IsSameScript R.Read input.old.source input.new.source) }
+{
     for _ in 0..=MAX_BYTES {
-        match input.line(output)? {
-            None => return Err(ShellFault::BadStart),
-            Some("") => {}
-            Some(line) => return open_line(alloc, line, &mut output.page),
+        let Some(line) = input.line(output)? else {
+            return Err(ShellFault::BadStart);
+        };
+        let line = input.text(line)?;
+        if !line.is_empty() {
+            return open_line(alloc, line, &mut output.page);
         }
     }
-    Err(ShellFault::BadStart)
+    Err(ShellFault::Input)
 }
 
 /// Answers what follows a command: the rows of a load, or those of a dump.
@@ -65,13 +70,14 @@ fn finish<R: Read + Drop, W: Write>(
     output: &mut Output<W>,
     next: Next,
 ) -> Result<(), ShellFault>
-    ensures { Reaches world.old world.new }
+    ensures reached { Reaches world.old world.new }
+    ensures same { OnOk result (IsSameScript R.Read input.old.source input.new.source) }
 {
     match next {
         Next::Line => Ok(()),
         Next::Load(bytes) => {
-            let text = input.bytes(output, bytes as usize)?;
-            load(alloc, world, text, &mut output.page)?;
+            let rows = input.bytes(output, bytes as usize)?;
+            load(alloc, world, input.text(rows)?, &mut output.page)?;
             Ok(())
         }
         Next::Dump => dump(world.frame(), output),
@@ -85,13 +91,16 @@ fn serve_lines<R: Read + Drop, W: Write>(
     input: &mut Input<R>,
     output: &mut Output<W>,
 ) -> Result<(), ShellFault>
-    ensures { Reaches world.old world.new }
+    ensures reached { Reaches world.old world.new }
+    ensures same { OnOk result (IsSameScript R.Read input.old.source input.new.source) }
+    ensures ended { OnOk result (input.new.source.ended ≡ true) }
 {
     let mut number = 1u32;
     for _ in 0..=MAX_BYTES {
         let Some(line) = input.line(output)? else {
             return Ok(());
         };
+        let line = input.text(line)?;
         if line.is_empty() {
             continue;
         }
@@ -100,7 +109,7 @@ fn serve_lines<R: Read + Drop, W: Write>(
         finish(alloc, world, input, output, next)?;
         output.flush_if_full()?;
     }
-    Ok(())
+    Err(ShellFault::Input)
 }
 
 /// Opens the table of a script, and answers its commands.
@@ -108,7 +117,9 @@ fn serve<R: Read + Drop, W: Write>(
     alloc: Global,
     reader: R,
     output: &mut Output<W>,
-) -> Result<(), ShellFault> {
+) -> Result<(), ShellFault>
+    ensures { OnOk result (IfSome (R.remaining reader) (λ bytes. length bytes ≤ MAX_BYTES)) }
+{
     let mut input = Input::new(alloc, reader);
     let mut world = open(alloc, &mut input, output)?;
     serve_lines(alloc, &mut world, &mut input, output)
@@ -124,7 +135,9 @@ pub fn run_script<T: AllocGlobal, R: Read + Drop, W: Write>(
     rt: &T,
     reader: R,
     writer: &mut W,
-) -> Result<(), ShellFault> {
+) -> Result<(), ShellFault>
+    ensures bytes { OnOk result (IfSome (R.remaining reader) (λ bytes. length bytes ≤ 16777216)) }
+{
     let mut output = Output::new(rt.alloc(), writer);
     let outcome = serve(rt.alloc(), reader, &mut output);
     output.flush()?;

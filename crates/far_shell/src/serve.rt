@@ -8,7 +8,7 @@ ghost use Rattle.far_shell.specs.Scripts.{Answers, AnswersLine, Reaches, Takes, 
 use super::command::{Command, parse};
 use super::page::Page;
 use super::print::{answer, numbered, refused};
-use far_frame::{Reply, Step, World};
+use far_frame::{Reply, Step, World, run};
 use far_types::Refusal;
 use std::alloc::Global;
 
@@ -37,26 +37,38 @@ pub fn print_reply(page: &mut Page, reply: &Reply) -> Result<(), Refusal>
     }
 }
 
-/// The reply to one step.
-pub fn take_step(world: &mut World, step: Step) -> Reply
-    ensures step { IsStep world.old step result world.new }
+/// The reply to one step, which `run` takes. Refused with `NoMemory` (1) alone, where it was not taken.
+pub fn take_step(alloc: Global, world: &mut World, step: Step) -> Result<Reply, Refusal>
+    ensures step { IfOk result (λ reply. IsStep world.old step reply world.new) }
     ensures reached { Reaches world.old world.new }
+    ensures memory { IfErr result (λ e. e ≡ Refusal.NoMemory) }
 {
-    world.serve(step)
+    let mut steps = Vec::with_capacity(alloc, 1)?;
+    steps.push_reserved(step);
+    let mut replies = run(world, steps)?;
+    match replies.pop() {
+        Some(reply) => Ok(reply),
+        None => unreachable!(),
+    }
 }
 
 /// Takes a step, and prints its reply.
-fn answer_step(world: &mut World, step: Step, page: &mut Page) -> Result<(), Refusal>
+fn answer_step(alloc: Global, world: &mut World, step: Step, page: &mut Page) -> Result<(), Refusal>
     ensures ok { OnOk result (Takes world.old step world.new page.old page.new) }
     ensures reached { Reaches world.old world.new }
     ensures memory { IfErr result (λ e. e ≡ Refusal.NoMemory) }
 {
-    let reply = take_step(world, step);
+    let reply = take_step(alloc, world, step)?;
     print_reply(page, &reply)
 }
 
 /// Answers a command, but for the rows of a load or a dump, which follow.
-fn answer_command(world: &mut World, command: Command, page: &mut Page) -> Result<Next, Refusal>
+fn answer_command(
+    alloc: Global,
+    world: &mut World,
+    command: Command,
+    page: &mut Page,
+) -> Result<Next, Refusal>
     ensures ok { OnOk result (Answers world.old (step_of command) world.new page.old page.new) }
     ensures reached { Reaches world.old world.new }
     ensures memory { IfErr result (λ e. e ≡ Refusal.NoMemory) }
@@ -70,7 +82,7 @@ fn answer_command(world: &mut World, command: Command, page: &mut Page) -> Resul
         Command::Load(bytes) => return Ok(Next::Load(bytes)),
         Command::Dump => return Ok(Next::Dump),
     };
-    answer_step(world, step, page)?;
+    answer_step(alloc, world, step, page)?;
     Ok(Next::Line)
 }
 
@@ -87,7 +99,7 @@ fn answer_words(
     ensures memory { IfErr result (λ e. e ≡ Refusal.NoMemory) }
 {
     match parse(alloc, world.frame().schema().as_slice(), line)? {
-        Some(command) => answer_command(world, command, page),
+        Some(command) => answer_command(alloc, world, command, page),
         None => {
             numbered(page, "syntax command", u64::from(number))?;
             Ok(Next::Line)

@@ -2,11 +2,14 @@ use Rattle.std.proofs.Common.{refl}
 use Rattle.far_shell.proofs.Reaching.{stays}
 use Rattle.far_shell.proofs.script.finish.Goals as goal
 
-pub returns-in_err-text-in-Load : goal.returns-in_err-text-in-Load
-returns-in_err-text-in-Load g c = stays _ _ refl
+pub returns-in_err-text-in-Load-clause-reached : goal.returns-in_err-text-in-Load-clause-reached
+returns-in_err-text-in-Load-clause-reached g c = stays _ _ refl
 
-pub returns-in-Line : goal.returns-in-Line
-returns-in-Line g c = stays _ _ refl
+pub returns-in-Line-clause-reached : goal.returns-in-Line-clause-reached
+returns-in-Line-clause-reached g c = stays _ _ refl
 
-pub returns-in-Dump : goal.returns-in-Dump
-returns-in-Dump g c = stays _ _ refl
+pub returns-in-Dump-clause-reached : goal.returns-in-Dump-clause-reached
+returns-in-Dump-clause-reached g c = stays _ _ refl
+
+pub returns-in_err-rows-in-Load-clause-reached : goal.returns-in_err-rows-in-Load-clause-reached
+returns-in_err-rows-in-Load-clause-reached g c = stays _ _ refl

@@ -1,0 +1,34 @@
+#![tactic(auto)]
+//! Times of the far memory's parts, each beside plain copies or folds of the same values in the same program.
+//!
+//! With the argument `times` the times are printed on standard error, and the work is done many times; without it the
+//! program only shows that it ends.
+
+mod folds;
+mod forms;
+
+use far_store::AgentStore;
+use std::env;
+use std::io;
+
+/// How often work is repeated. The least time of all counts.
+const ROUNDS: u32 = 200;
+
+fn main(rt: HostRuntime) -> io::Result<()> {
+    let with_times = env::args(&rt)?.count() > 1;
+    let rounds = if with_times { ROUNDS } else { 1 };
+    let store = AgentStore::new(&rt, rt.alloc(), 1_024).map_err(forms::io_error)?;
+    let forms = forms::measure(&rt, rounds)?;
+    let folds = folds::measure(&rt, &store, rounds)?;
+    println!(rt; "forms: ended")?;
+    println!(rt; "folds: ended")?;
+    if with_times {
+        eprintln!(rt; "copy of a form: {} ns", forms.copy)?;
+        eprintln!(rt; "encoding it: {} ns", forms.encode)?;
+        eprintln!(rt; "decoding it: {} ns", forms.decode)?;
+        eprintln!(rt; "fold of a list: {} ns", folds.plain)?;
+        eprintln!(rt; "fold of its form: {} ns", folds.offloaded)?;
+        eprintln!(rt; "seen: {} and {}", forms.seen, folds.seen)?;
+    }
+    Ok(())
+}
