@@ -24,3 +24,12 @@ pub mod Arrivals
 pub mod Replacements
 pub mod Undone
 pub mod CompactedObjects
+pub mod TakenOver
+pub mod PlacedAll
+pub mod Relisted
+pub mod FitsAll
+pub mod PlacedFirst
+pub mod TakenWords
+pub mod MarkedAll
+pub mod RefusedAll
+pub mod ReplacedAll

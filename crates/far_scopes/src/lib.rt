@@ -5,10 +5,12 @@ mod entry;
 mod memory;
 mod objects;
 mod recency;
+mod replacement;
 mod scope;
 
 pub use entry::Entry;
 pub use objects::Objects;
+pub use replacement::Replacement;
 pub use scope::Scope;
 
 #[cfg(test)]

@@ -10,6 +10,7 @@ ghost use Rattle.far_scopes.specs.Placing.{added, removed, marked, heated, sent_
 
 mod compaction;
 mod lending;
+mod replacing;
 
 use far_codec::Elem;
 use far_log::Region;
