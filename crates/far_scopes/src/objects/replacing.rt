@@ -69,6 +69,7 @@ impl<T: Elem, S: FarRead> Objects<T, S> {
         requires once { AreListedOnce lists.now }
         ensures replaced { OnOk result (self.new ≡ replaced_all self.old lists.now) }
         ensures lists { OnOk result (ChangesLists (list_of T.meaning S.content self.old) (list_of T.meaning S.content self.new) lists.now) }
+        ensures count { length self.new.entries ≡ length self.old.entries }
         ensures clean { AreClean T.meaning S.content self.old → AreClean T.meaning S.content self.new }
         ensures free { OnOk result (replace_all_refusal self.old lists.now ≡ None) }
         ensures refused { IfErr result (λ e. (replace_all_refusal self.old lists.now ≡ Some e) ⊎ ((first_absent self.old (map (λ r. r.object) lists.now) ≡ None) × (e ≡ Refusal.NoMemory))) }
@@ -115,6 +116,7 @@ impl<T: Elem, S: FarRead> Objects<T, S> {
         requires free { All (λ r. write_refusal self.old r.object ≡ None) lists.now }
         requires once { AreListedOnce lists.now }
         ensures written { self.new ≡ written_all self.old lists.now }
+        ensures count { length self.new.entries ≡ length self.old.entries }
         ensures lists { (p : ℕ) → list_of T.meaning S.content self.new p ≡ list_of T.meaning S.content self.old p }
         ensures clean { AreCleanBeside T.meaning S.content self.old lists.now → AreClean T.meaning S.content self.new }
     {

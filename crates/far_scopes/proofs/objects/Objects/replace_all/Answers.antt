@@ -62,3 +62,10 @@ returns-clause-clean g c =
     let items = with_items_is c.self.inside.entries c.set_lens.new.entries (ap (λ es. length es) entries ∙ length-lens c.self.inside.entries.items c.args.lists.now ∙ sym c.self.inside.entries.ok.0) in
     λ clean. (rw (items, entries) at c.mark_all.ensures.clean) (clean-mid g.T.Elem.meaning g.S.FarRead.content _ _ c.self.invariant c.args.lists.now c.requires.some c.requires.once here c.replace_all.new.self c.in_ok-replace_all.ensures.ok c.in_ok-replace_all.ensures.lists
     (subst (AreClean g.T.Elem.meaning g.S.FarRead.content) (sym c.self.view_is) clean))
+
+pub returns-clause-count : goal.returns-clause-count
+returns-clause-count g c =
+    let entries = c.set_lens.ensures ∙ ap (λ es. with_lens es c.args.lists.now) c.deref_mut.ensures.value in
+    let long = ap (λ es. length es) entries ∙ length-lens c.self.inside.entries.items c.args.lists.now in
+    let items = with_items_is c.self.inside.entries c.set_lens.new.entries (long ∙ sym c.self.inside.entries.ok.0) in
+    c.mark_all.ensures.count ∙ ap (λ es. length es) items ∙ long ∙ ap (λ m. length m.entries) c.self.view_is
