@@ -8,7 +8,8 @@ use Rattle.far_pointer.specs.declared.pointer.Pointer.{Pointer}
 use Rattle.far_scopes.specs.declared.entry.Entry.{Entry}
 use Rattle.far_scopes.specs.Memory.{Memory}
 use Rattle.far_scopes.specs.Placing.{with_word}
-use Rattle.far_scopes.specs.Effects.{with_entry, pinned, unpinned, written, overwritten, replaced}
+use Rattle.far_scopes.specs.declared.replacement.Replacement.{Replacement}
+use Rattle.far_scopes.specs.Effects.{with_entry, with_lens, pinned, unpinned, written, written_all, overwritten, replaced}
 use Rattle.far_scopes.specs.Entering.{pinned_all, closed}
 use Rattle.far_scopes.specs.Movement.{Movement, ChangesObject, AreHere, AreTracked, has_copy, word_of, ticket_of, pins_of}
 use Rattle.far_scopes.proofs.Places.{cases_option}
@@ -91,3 +92,17 @@ copy-told meaning content spelled m tracked o h =
     let (entry, e) = some-within m.entries o h in
     let (word, w) = some-within m.memory.words o (omega (arith, tracked.even, h)) in
     rw (e, w) (sym (tracked.each o word entry w e).copy)
+
+module _ {X K : Type 0} (is_of : K → List ℕ → Type 0) (name : List ℕ) where
+  here-lens : (m : Movement X K) (lists : List (Replacement X)) → AreHere is_of name m → AreHere is_of name record m { entries = with_lens m.entries lists }
+  here-lens m [] here = here
+  here-lens m (r ∷ rs) here =
+      here-lens record m { entries = with_entry m.entries r.object (λ entry. record entry { len = length r.list.items }) } rs (here-recorded m r.object is_of name here (λ entry. record entry { len = length r.list.items }) (λ e. refl))
+
+  here-written_all : (m : Movement X K) (lists : List (Replacement X)) → AreHere is_of name m → AreHere is_of name (written_all m lists)
+  here-written_all m [] here = here
+  here-written_all m (r ∷ rs) here = here-written_all (written m r.object) rs (here-written m r.object is_of name here)
+
+  -- several objects get other lists
+  pub here-replaced_all : (m now : Movement X K) (lists : List (Replacement X)) → now.entries ≡ with_lens m.entries lists → AreHere is_of name m → AreHere is_of name (written_all now lists)
+  here-replaced_all m now lists entries here = here-written_all now lists (λ o. rw entries (here-lens m lists here o))

@@ -31,3 +31,12 @@ pub mod CompactedObjects
 pub mod RenewedWords
 pub mod Renewed
 pub mod Renewing
+pub mod TakenOver
+pub mod PlacedAll
+pub mod Relisted
+pub mod FitsAll
+pub mod PlacedFirst
+pub mod TakenWords
+pub mod MarkedAll
+pub mod RefusedAll
+pub mod ReplacedAll

@@ -6,9 +6,9 @@ use Rattle.std.proofs.lemmas.Option.{slice_get_within}
 use Rattle.far_types.specs.declared.refusal.Refusal.{Refusal}
 use Rattle.far_types.specs.declared.refusal.Refusal.TheVariants as refusal
 use Rattle.far_scopes.specs.Movement.{Movement, is_local, pins_of}
-use Rattle.far_scopes.specs.Refusing.{absent, pin_refusal}
+use Rattle.far_scopes.specs.Refusing.{absent, pin_refusal, first_absent}
 use Rattle.far_scopes.specs.Effects.{pinned}
-use Rattle.far_scopes.specs.Entering.{first_absent, pins_overflow}
+use Rattle.far_scopes.specs.Entering.{pins_overflow}
 use Rattle.far_scopes.proofs.Places.{cases_option}
 use Rattle.far_scopes.proofs.WordPlaces.{slice_get-set_same, slice_get-set_other}
 

@@ -5,7 +5,7 @@ use Rattle.std.proofs.lemmas.Bool.{ltb-true}
 use Rattle.far_types.specs.declared.refusal.Refusal.{Refusal}
 use Rattle.far_types.specs.FirstOf.{first_of}
 use Rattle.far_scopes.specs.Movement.{Movement, is_local, version_of}
-use Rattle.far_scopes.specs.Refusing.{absent, written_out, write_refusal, lend_refusal}
+use Rattle.far_scopes.specs.Refusing.{absent, no_room, written_out, write_refusal, lend_refusal, replace_refusal}
 
 pub none-one : (a : Bool) (r : Refusal) → first_of ((a, r) ∷ []) ≡ None → a ≡ false
 none-one true r is = cc
@@ -15,6 +15,15 @@ pub none-two : (a b : Bool) (r s : Refusal) → first_of ((a, r) ∷ (b, s) ∷ 
 none-two true b r s is = cc
 none-two false true r s is = cc
 none-two false false r s is = (refl, refl)
+
+pub none-three : (a b c : Bool) (r s t : Refusal) → first_of ((a, r) ∷ (b, s) ∷ (c, t) ∷ []) ≡ None → (a ≡ false) × (c ≡ false)
+none-three true b c r s t is = cc
+none-three false true c r s t is = cc
+none-three false false true r s t is = cc
+none-three false false false r s t is = (refl, refl)
+
+pub two-none : (a b : Bool) (r s : Refusal) → a ≡ false → b ≡ false → first_of ((a, r) ∷ (b, s) ∷ []) ≡ None
+two-none a b r s e f = rw (e, f) refl
 
 pub not-not : (b : Bool) → not b ≡ false → b ≡ true
 not-not true is = refl
@@ -29,6 +38,13 @@ module _ {X K : Type 0} (m : Movement X K) (o : ℕ) where
 
   pub left-written : write_refusal m o ≡ None → version_of m o < m.changes
   left-written free = ltb-true (version_of m o) m.changes (not-not (nat_lt (version_of m o) m.changes) (none-two (not (is_local m o)) (written_out m o).0 (absent m o).1 (written_out m o).1 free).1)
+
+module _ {X K : Type 0} (m : Movement X K) (o n : ℕ) (free : replace_refusal m o n ≡ None) where
+  pub free-parts : (not (is_local m o) ≡ false) × (not (nat_lt (version_of m o) m.changes) ≡ false)
+  free-parts = none-three (absent m o).0 (no_room m o n).0 (written_out m o).0 (absent m o).1 (no_room m o n).1 (written_out m o).1 free
+
+  pub local-replaced : is_local m o ≡ true
+  local-replaced = not-not (is_local m o) free-parts.0
 
 pub away-is : (b : Bool) → true ≡ not b → b ≡ false
 away-is true is = cc

@@ -1,11 +1,9 @@
 -- What holds of all objects once one gets another list.
-use Rattle.std.proofs.Common.{◌≡◌, ◌≢◌, ℕ, ◌+◌, ◌<◌, get_or, nat_lt, Bool, true, false, inl, inr, List, [], ◌∷◌, length, Some, None, refl, sym, ap, subst, ◌∙◌}
+use Rattle.std.proofs.Common.{◌≡◌, ◌≢◌, ℕ, ◌+◌, ◌<◌, get_or, nat_lt, Bool, true, false, inl, inr, List, length, Some, None, refl, sym, ap, subst, ◌∙◌}
 use Rattle.std.specs.Prelude.{not, is_some, slice_set}
 use Rattle.std.specs.Option.{option_and_then}
 use Rattle.std.proofs.lemmas.Bool.{cases_eq}
 use Rattle.std.proofs.lemmas.List.{length-set}
-use Rattle.far_types.specs.declared.refusal.Refusal.{Refusal}
-use Rattle.far_types.specs.FirstOf.{first_of}
 use Rattle.far_pointer.specs.declared.pointer.At.{At}
 use Rattle.far_pointer.specs.declared.pointer.Pointer.{Pointer}
 use Rattle.far_pointer.specs.declared.pointer.Pointer.TheVariants.{Local, Remote}
@@ -15,13 +13,13 @@ use Rattle.far_scopes.specs.Recency.{has}
 use Rattle.far_scopes.specs.Memory.{Memory, at_of, list_in, ChangesList}
 use Rattle.far_scopes.specs.Placing.{spot, replaced as replaced_in}
 use Rattle.far_scopes.specs.Movement.{Movement, has_copy, word_of, entry_of, is_local, dirty, version_of, list_of, AreClean, IsTracked, AreTracked}
-use Rattle.far_scopes.specs.Refusing.{absent, no_room, written_out, write_refusal, replace_refusal}
+use Rattle.far_scopes.specs.Refusing.{absent, written_out, write_refusal, replace_refusal}
 use Rattle.far_scopes.specs.Effects.{written}
 use Rattle.far_scopes.proofs.WordPlaces.{word-read, slice_get-set_same, slice_get-set_other}
 use Rattle.far_scopes.proofs.MemoryLaws.{at-dirty_hot}
 use Rattle.far_scopes.proofs.Tracked.{Others, clean-one, list-one, each-one}
 use Rattle.far_scopes.proofs.Transitions.{some-one, words-other}
-use Rattle.far_scopes.proofs.Refused.{not-not}
+use Rattle.far_scopes.proofs.Refused.{two-none, free-parts, local-replaced}
 use Rattle.std.proofs.lemmas.Option.{slice_get-get_or}
 
 -- a word of an object that was local and lies elsewhere
@@ -37,24 +35,8 @@ copy-at : (word : Pointer) (to : At) → has_copy (with_at word to) ≡ has_copy
 copy-at (Local at d h f) to = refl
 copy-at Remote to = refl
 
-none-three : (a b c : Bool) (r s t : Refusal) → first_of ((a, r) ∷ (b, s) ∷ (c, t) ∷ []) ≡ None → (a ≡ false) × (c ≡ false)
-none-three true b c r s t is = cc
-none-three false true c r s t is = cc
-none-three false false true r s t is = cc
-none-three false false false r s t is = (refl, refl)
-
-two-none : (a b : Bool) (r s : Refusal) → a ≡ false → b ≡ false → first_of ((a, r) ∷ (b, s) ∷ []) ≡ None
-two-none a b r s e f = rw (e, f) refl
-
 true-false : (b : Bool) → b ≡ true → b ≡ false → ⊥
 true-false b one other = cc
-
-module _ {X K : Type 0} (m : Movement X K) (o n : ℕ) (free : replace_refusal m o n ≡ None) where
-  free-parts : (not (is_local m o) ≡ false) × (not (nat_lt (version_of m o) m.changes) ≡ false)
-  free-parts = none-three (absent m o).0 (no_room m o n).0 (written_out m o).0 (absent m o).1 (no_room m o n).1 (written_out m o).1 free
-
-  pub local-replaced : is_local m o ≡ true
-  local-replaced = not-not (is_local m o) free-parts.0
 
 module _ {X K : Type 0} (meaning : List ℕ → List X) (content : K → List ℕ) (spelled : List X → List ℕ → Type 0) (m : Movement X K) (tracked : AreTracked meaning content spelled m) (o : ℕ) (within : o < length m.entries) (entry : Entry K) (read : entry ≡ get_or m.entries o entry) (list : List X) (free : replace_refusal m o (length list) ≡ None)
     (memory : Memory X) (is : memory ≡ replaced_in m.memory o list) (change : ChangesList (list_in m.memory) (list_in memory) o (Some list)) where

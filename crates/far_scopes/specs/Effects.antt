@@ -5,7 +5,9 @@ use Rattle.far_types.specs.declared.name.Name.{Name}
 use Rattle.far_scopes.specs.declared.entry.Entry.{Entry}
 use Rattle.far_scopes.specs.Recency.{without, used}
 use Rattle.far_scopes.specs.Placing.{added, removed, marked, heated, sent_away, brought, replaced as replaced_in, overwritten as overwritten_in}
+use Rattle.far_scopes.specs.declared.replacement.Replacement.{Replacement}
 use Rattle.far_scopes.specs.Movement.{Movement}
+use Rattle.far_scopes.specs.Replacing.{replaced_all as replaced_all_in}
 
 -- the record of a new object
 abbrev pub new_entry : {K : Type 0} → Name → ℕ → Entry K
@@ -54,6 +56,20 @@ module _ {X K : Type 0} where
     memory = replaced_in m.memory o list;
     entries = with_entry m.entries o (λ entry. record entry { len = length list });
   }) o
+
+  -- each listed object has a list of so many elements
+  abbrev pub with_lens : List (Entry K) → List (Replacement X) → List (Entry K)
+  with_lens entries [] = entries
+  with_lens entries (r ∷ rs) = with_lens (with_entry entries r.object (λ entry. record entry { len = length r.list.items })) rs
+
+  -- the listed objects count as written, one after the other
+  abbrev pub written_all : Movement X K → List (Replacement X) → Movement X K
+  written_all m [] = m
+  written_all m (r ∷ rs) = written_all (written m r.object) rs
+
+  -- each listed object has its new list
+  abbrev pub replaced_all : Movement X K → List (Replacement X) → Movement X K
+  replaced_all m lists = written_all (record m { memory = replaced_all_in m.memory lists; entries = with_lens m.entries lists }) lists
 
   -- object o is pinned once more
   abbrev pub pinned : Movement X K → ℕ → Movement X K

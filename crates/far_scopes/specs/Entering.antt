@@ -3,8 +3,8 @@ use Rattle.std.specs.Prelude.{ℕ, ◌+◌, ◌==◌, if◌then◌else◌, List,
 use Rattle.std.specs.Option.{option_or}
 use Rattle.far_types.specs.declared.refusal.Refusal.{Refusal}
 use Rattle.far_types.specs.declared.refusal.Refusal.TheVariants as refusal
-use Rattle.far_scopes.specs.Movement.{Movement, is_local, pins_of}
-use Rattle.far_scopes.specs.Refusing.{absent}
+use Rattle.far_scopes.specs.Movement.{Movement, pins_of}
+use Rattle.far_scopes.specs.Refusing.{first_absent}
 use Rattle.far_scopes.specs.Effects.{pinned, unpinned}
 
 module _ {X K : Type 0} where
@@ -12,11 +12,6 @@ module _ {X K : Type 0} where
   abbrev pub pinned_all : Movement X K → List ℕ → Movement X K
   pinned_all m [] = m
   pinned_all m (o ∷ objects) = pinned_all (pinned m o) objects
-
-  -- the refusal that names the first listed object that is away
-  abbrev pub first_absent : Movement X K → List ℕ → Option Refusal
-  first_absent m [] = None
-  first_absent m (o ∷ objects) = if is_local m o then first_absent m objects else Some (absent m o).1
 
   -- the refusal where some listed object has 65,535 pins when its turn comes
   abbrev pub pins_overflow : Movement X K → List ℕ → Option Refusal

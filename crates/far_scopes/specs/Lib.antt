@@ -3,6 +3,7 @@ pub mod Memory
 pub mod Compaction
 pub mod SegmentObjects
 pub mod Placing
+pub mod Replacing
 pub mod Lending
 pub mod Movement
 pub mod Coldest

@@ -1,12 +1,15 @@
 -- Why calls on objects are refused.
-use Rattle.std.specs.Prelude.{ℕ, ◌==◌, nat_lt, not, Bool, [], ◌∷◌, Option, None, Some, Result}
+use Rattle.std.specs.Prelude.{ℕ, ◌==◌, nat_lt, not, if◌then◌else◌, Bool, List, [], ◌∷◌, map, Option, None, Some, Result}
+use Rattle.std.specs.List.{list_any}
 use Rattle.std.specs.declared.result.Result.TheVariants.{Ok, Err}
-use Rattle.std.specs.Option.{option_map_or}
+use Rattle.std.specs.Option.{option_map_or, option_or}
 use Rattle.far_types.specs.declared.refusal.Refusal.{Refusal}
 use Rattle.far_types.specs.declared.refusal.Refusal.TheVariants as refusal
 use Rattle.far_types.specs.FirstOf.{first_of}
 use Rattle.far_log.specs.Room.{fits_in}
+use Rattle.far_scopes.specs.declared.replacement.Replacement.{Replacement}
 use Rattle.far_scopes.specs.Movement.{Movement, entry_of, is_local, version_of, pins_of}
+use Rattle.far_scopes.specs.Replacing.{no_room_for_all}
 
 -- the refusal that a call answered
 abbrev pub refusal_in : {A : Type 0} → Result A Refusal → Option Refusal
@@ -44,3 +47,17 @@ module _ {X K : Type 0} (m : Movement X K) (o : ℕ) where
 
   abbrev pub replace_refusal : ℕ → Option Refusal
   replace_refusal n = first_of (absent ∷ no_room n ∷ written_out ∷ [])
+
+module _ {X K : Type 0} where
+  -- the refusal that names the first listed object that is away
+  abbrev pub first_absent : Movement X K → List ℕ → Option Refusal
+  first_absent m [] = None
+  first_absent m (o ∷ objects) = if is_local m o then first_absent m objects else Some (absent m o).1
+
+  -- the writes of some listed object are used up
+  abbrev pub any_written_out : Movement X K → List (Replacement X) → Bool × Refusal
+  any_written_out m lists = (list_any (λ r. (written_out m r.object).0) lists, refusal.EditsUsedUp)
+
+  abbrev pub replace_all_refusal : Movement X K → List (Replacement X) → Option Refusal
+  replace_all_refusal m lists =
+      option_or (first_absent m (map (λ r. r.object) lists)) (first_of (no_room_for_all m.memory.room lists ∷ any_written_out m lists ∷ []))

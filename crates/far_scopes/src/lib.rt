@@ -6,11 +6,13 @@ mod memory;
 mod objects;
 mod recency;
 mod renewal;
+mod replacement;
 mod scope;
 
 pub use entry::Entry;
 pub use objects::Objects;
 pub use renewal::Renewal;
+pub use replacement::Replacement;
 pub use scope::Scope;
 
 #[cfg(test)]

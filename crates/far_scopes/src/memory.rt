@@ -11,6 +11,7 @@ ghost use Rattle.far_scopes.specs.Placing.{added, removed, marked, heated, sent_
 mod compaction;
 mod lending;
 mod renewing;
+mod replacing;
 
 use far_codec::Elem;
 use far_log::Region;

@@ -1,11 +1,15 @@
 // Objects that get another list.
-ghost use Rattle.std.specs.Prelude.{◌≡◌, ◌<◌, ◌⊎◌, length, Some, None, OnOk, OnErr, IfErr, ℕ, List};
+ghost use Rattle.std.specs.Prelude.{◌≡◌, ℕ, ◌<◌, ◌⊎◌, List, [], ◌∷◌, length, map, All, Some, None, OnOk, OnErr, IfErr};
+ghost use Rattle.far_types.specs.FirstOf.{first_of};
 ghost use Rattle.far_scopes.specs.Memory.{ChangesList};
 ghost use Rattle.far_scopes.specs.Movement.{list_of, AreClean, AreHere, ChangesObject};
-ghost use Rattle.far_scopes.specs.Refusing.{refusal_in, replace_refusal};
-ghost use Rattle.far_scopes.specs.Effects.{replaced};
+ghost use Rattle.far_scopes.specs.Replacing.{AreListedOnce, ChangesLists, AreCleanBeside};
+ghost use Rattle.far_scopes.specs.Refusing.{refusal_in, replace_refusal, write_refusal, first_absent, any_written_out, replace_all_refusal};
+ghost use Rattle.far_scopes.specs.Effects.{replaced, with_lens, written_all, replaced_all};
 
 use super::Objects;
+use crate::entry::Entry;
+use crate::replacement::Replacement;
 use far_codec::Elem;
 use far_store::FarRead;
 use far_types::Refusal;
@@ -51,5 +55,86 @@ impl<T: Elem, S: FarRead> Objects<T, S> {
             return Err(Refusal::EditsUsedUp);
         }
         Ok(())
+    }
+
+    /// Gives several objects other lists, all or none: all new parts are placed, in the given order, before an old one is
+    /// dropped. The objects count as written in that order: each is dirty and hot, its version is one more, and the last
+    /// is the one that was used last. Their tickets stay.
+    ///
+    /// Refused with `Absent` (16) exactly where a listed object is away, naming the first such; else with `RegionFull`
+    /// (17) where the new parts, placed one after the other, do not find room beside all that is there; else with
+    /// `EditsUsedUp` (24) where some listed object was written as often as objects may be; and with `NoMemory` (1) where a
+    /// growth was refused, which may come before it is seen that 17 or 24 applies. Then nothing is changed.
+    pub fn replace_all(&mut self, lists: &[Replacement<T>]) -> Result<(), Refusal>
+        requires some { All (λ r. 0 < length r.list.items) lists.now }
+        requires within { All (λ r. r.object < length self.old.entries) lists.now }
+        requires once { AreListedOnce lists.now }
+        ensures replaced { OnOk result (self.new ≡ replaced_all self.old lists.now) }
+        ensures lists { OnOk result (ChangesLists (list_of T.meaning S.content self.old) (list_of T.meaning S.content self.new) lists.now) }
+        ensures count { length self.new.entries ≡ length self.old.entries }
+        ensures clean { AreClean T.meaning S.content self.old → AreClean T.meaning S.content self.new }
+        ensures store { (name : List ℕ) → AreHere S.is_of name self.old → AreHere S.is_of name self.new }
+        ensures free { OnOk result (replace_all_refusal self.old lists.now ≡ None) }
+        ensures refused { IfErr result (λ e. (replace_all_refusal self.old lists.now ≡ Some e) ⊎ ((first_absent self.old (map (λ r. r.object) lists.now) ≡ None) × (e ≡ Refusal.NoMemory))) }
+        ensures err { OnErr result (self.new ≡ self.old) }
+    {
+        self.all_here(lists)?;
+        let checked = self.all_writable(lists);
+        self.memory.replace_all(lists, checked)?;
+        set_lens(&mut self.entries, lists);
+        self.mark_all(lists);
+        Ok(())
+    }
+
+    // Whether listed objects are local; the refusal names the first that is away.
+    fn all_here(&self, lists: &[Replacement<T>]) -> Result<(), Refusal>
+        requires { All (λ r. r.object < length self.now.entries) lists.now }
+        ensures { refusal_in result ≡ first_absent self.now (map (λ r. r.object) lists.now) }
+    {
+        for replacement in lists {
+            let o = replacement.object;
+            if self.is_away(o) {
+                return Err(self.absent(o));
+            }
+        }
+        Ok(())
+    }
+
+    // Whether listed objects may be written once more.
+    fn all_writable(&self, lists: &[Replacement<T>]) -> Result<(), Refusal>
+        requires { All (λ r. r.object < length self.now.entries) lists.now }
+        ensures { refusal_in result ≡ first_of (any_written_out self.now lists.now ∷ []) }
+    {
+        for replacement in lists {
+            if self.entries[replacement.object as usize].version >= self.changes {
+                return Err(Refusal::EditsUsedUp);
+            }
+        }
+        Ok(())
+    }
+
+    // The listed objects count as written, one after the other.
+    fn mark_all(&mut self, lists: &[Replacement<T>])
+        requires within { All (λ r. r.object < length self.old.entries) lists.now }
+        requires free { All (λ r. write_refusal self.old r.object ≡ None) lists.now }
+        requires once { AreListedOnce lists.now }
+        ensures written { self.new ≡ written_all self.old lists.now }
+        ensures count { length self.new.entries ≡ length self.old.entries }
+        ensures lists { (p : ℕ) → list_of T.meaning S.content self.new p ≡ list_of T.meaning S.content self.old p }
+        ensures clean { AreCleanBeside T.meaning S.content self.old lists.now → AreClean T.meaning S.content self.new }
+    {
+        for replacement in lists {
+            self.mark(replacement.object);
+        }
+    }
+}
+
+// Notes how long the lists of listed objects are.
+fn set_lens<T, K>(entries: &mut [Entry<K>], lists: &[Replacement<T>])
+    requires { All (λ r. r.object < length entries.old) lists.now }
+    ensures { entries.new ≡ with_lens entries.old lists.now }
+{
+    for replacement in lists {
+        entries[replacement.object as usize].len = replacement.list.len();
     }
 }

@@ -2,8 +2,8 @@
 ghost use Rattle.std.specs.Prelude.{◌≡◌, ◌⊎◌, ◌==◌, not, false, IsTrue, ◌<◌, ◌≤◌, ◌^◌, ℕ, List, length, take, All, Some, None, OnOk, OnErr, IfOk, IfErr};
 ghost use Rattle.far_scopes.specs.Movement.{Movement, list_of, AreClean, pins_of, AreHere};
 ghost use Rattle.far_scopes.specs.Effects.{unpinned};
-ghost use Rattle.far_scopes.specs.Refusing.{refusal_in};
-ghost use Rattle.far_scopes.specs.Entering.{pinned_all, first_absent, enter_refusal, pins_overflow, closed};
+ghost use Rattle.far_scopes.specs.Refusing.{refusal_in, first_absent};
+ghost use Rattle.far_scopes.specs.Entering.{pinned_all, enter_refusal, pins_overflow, closed};
 
 use super::Objects;
 use crate::scope::Scope;

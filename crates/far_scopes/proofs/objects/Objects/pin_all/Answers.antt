@@ -2,7 +2,8 @@ use Rattle.std.proofs.Common.{◌≡◌, ◌+◌, ◌∷◌, suc, None, get_or, 
 use Rattle.std.proofs.lemmas.List.{at_drop_more}
 use Rattle.std.proofs.Math.Seq.{take-suc}
 use Rattle.far_scopes.specs.Effects.{pinned}
-use Rattle.far_scopes.specs.Entering.{pinned_all, first_absent, pins_overflow}
+use Rattle.far_scopes.specs.Refusing.{first_absent}
+use Rattle.far_scopes.specs.Entering.{pinned_all, pins_overflow}
 use Rattle.far_scopes.proofs.Pins.{pinned_all-last, length-with}
 use Rattle.far_scopes.proofs.Listed.{first-local, first_absent-pinned, overflow-now, overflow-later}
 use Rattle.far_scopes.proofs.objects.Objects.pin_all.Goals as goal

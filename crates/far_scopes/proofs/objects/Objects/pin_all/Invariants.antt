@@ -1,7 +1,8 @@
 use Rattle.std.proofs.Common.{◌≡◌, length, None}
 use Rattle.std.specs.Prelude.{take, drop}
 use Rattle.far_scopes.specs.Movement.{AreClean}
-use Rattle.far_scopes.specs.Entering.{pinned_all, first_absent, pins_overflow}
+use Rattle.far_scopes.specs.Refusing.{first_absent}
+use Rattle.far_scopes.specs.Entering.{pinned_all, pins_overflow}
 use Rattle.far_scopes.proofs.objects.Objects.pin_all.Given as goal
 
 abbrev pub invariant-loop-k : goal.invariant-loop-k

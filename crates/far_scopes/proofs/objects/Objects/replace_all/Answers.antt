@@ -1,0 +1,81 @@
+use Rattle.std.proofs.Common.{◌≡◌, ◌⊎◌, inl, inr, [], ◌∷◌, length, map, None, Some, sym, ap, subst, ◌∙◌}
+use Rattle.std.proofs.lemmas.List.{with_items_is}
+use Rattle.std.specs.Option.{option_or}
+use Rattle.far_types.specs.declared.refusal.Refusal.TheVariants.{NoMemory}
+use Rattle.far_types.specs.FirstOf.{first_of}
+use Rattle.far_scopes.specs.Movement.{AreClean, AreHere}
+use Rattle.far_scopes.specs.Refusing.{refusal_in, first_absent, any_written_out, replace_all_refusal}
+use Rattle.far_scopes.specs.Replacing.{no_room_for_all}
+use Rattle.far_scopes.specs.Effects.{with_lens}
+use Rattle.far_scopes.proofs.Framing.{here-replaced_all}
+use Rattle.far_scopes.proofs.Relisted.{length-lens}
+use Rattle.far_scopes.proofs.RefusedAll.{all-placed, refusal-is, checked-free, err-handed}
+use Rattle.far_scopes.proofs.ReplacedAll.{tracked-mid, lists-new, clean-mid, free-mid}
+use Rattle.far_scopes.proofs.objects.Objects.replace_all.Goals as goal
+
+pub replace_all-requires-clause-local : goal.replace_all-requires-clause-local
+replace_all-requires-clause-local g c κs within = rw (← c.self.view_is) at (all-placed c.args.self.now c.args.lists.now (sym c.in_ok-all_here.ensures))
+
+pub returns-in_err-replace_all-clause-clean : goal.returns-in_err-replace_all-clause-clean
+returns-in_err-replace_all-clause-clean g c = rw (← c.self.view_is, c.in_err-replace_all.ensures.err) (λ clean. clean)
+
+pub returns-in_err-replace_all-clause-refused : goal.returns-in_err-replace_all-clause-refused
+returns-in_err-replace_all-clause-refused g c =
+    let here = sym c.in_ok-all_here.ensures in
+    let all = refusal-is c.args.self.now c.args.lists.now (refusal_in c.all_writable-checked.result) here c.all_writable-checked.ensures in
+    let room = ap (λ m. option_or (first_of (no_room_for_all m.memory.room c.args.lists.now ∷ [])) (refusal_in c.all_writable-checked.result)) c.self.view_is in
+    err-handed c.from_residual-in_err-replace_all.result c.in_err-replace_all.field-0.0
+    (λ e. (replace_all_refusal c.args.self.now c.args.lists.now ≡ Some e) ⊎ ((first_absent c.args.self.now (map (λ r. r.object) c.args.lists.now) ≡ None) × (e ≡ NoMemory)))
+    (elim c.in_err-replace_all.ensures.refused [
+      | inl told ↦ inl (all ∙ sym room ∙ told)
+      | inr memory ↦ inr (here, memory)
+    ])
+    c.from_residual-in_err-replace_all.ensures.1
+
+pub invariant_of-self-2 : goal.invariant_of-self-2
+invariant_of-self-2 g c =
+    let here = subst (λ m. first_absent m (map (λ r. r.object) c.args.lists.now) ≡ None) (sym c.self.view_is) (sym c.in_ok-all_here.ensures) in
+    let entries = c.set_lens.ensures ∙ ap (λ es. with_lens es c.args.lists.now) c.deref_mut.ensures.value in
+    let items = with_items_is c.self.inside.entries c.set_lens.new.entries (ap (λ es. length es) entries ∙ length-lens c.self.inside.entries.items c.args.lists.now ∙ sym c.self.inside.entries.ok.0) in
+    rw (items, entries) (tracked-mid g.T.Elem.meaning g.S.FarRead.content _ _ c.self.invariant c.args.lists.now c.requires.some c.requires.once here c.replace_all.new.self c.in_ok-replace_all.ensures.ok c.in_ok-replace_all.ensures.lists)
+
+pub mark_all-requires-clause-free : goal.mark_all-requires-clause-free
+mark_all-requires-clause-free g c κs within =
+    let here = subst (λ m. first_absent m (map (λ r. r.object) c.args.lists.now) ≡ None) (sym c.self.view_is) (sym c.in_ok-all_here.ensures) in
+    let entries = c.set_lens.ensures ∙ ap (λ es. with_lens es c.args.lists.now) c.deref_mut.ensures.value in
+    let items = with_items_is c.self.inside.entries c.set_lens.new.entries (ap (λ es. length es) entries ∙ length-lens c.self.inside.entries.items c.args.lists.now ∙ sym c.self.inside.entries.ok.0) in
+    let checked = sym c.all_writable-checked.ensures ∙ checked-free _ _ c.in_ok-replace_all.ensures.free in
+    let free = subst (λ m. first_of (any_written_out m c.args.lists.now ∷ []) ≡ None) (sym c.self.view_is) checked in
+    rw (items, entries) (free-mid g.T.Elem.meaning g.S.FarRead.content _ _ c.self.invariant c.args.lists.now c.requires.some c.requires.once here c.replace_all.new.self c.in_ok-replace_all.ensures.ok c.in_ok-replace_all.ensures.lists free)
+
+pub returns-clause-lists : goal.returns-clause-lists
+returns-clause-lists g c =
+    let here = subst (λ m. first_absent m (map (λ r. r.object) c.args.lists.now) ≡ None) (sym c.self.view_is) (sym c.in_ok-all_here.ensures) in
+    let entries = c.set_lens.ensures ∙ ap (λ es. with_lens es c.args.lists.now) c.deref_mut.ensures.value in
+    let items = with_items_is c.self.inside.entries c.set_lens.new.entries (ap (λ es. length es) entries ∙ length-lens c.self.inside.entries.items c.args.lists.now ∙ sym c.self.inside.entries.ok.0) in
+    rw (← c.self.view_is) (lists-new g.T.Elem.meaning g.S.FarRead.content _ _ c.self.invariant c.args.lists.now c.requires.some c.requires.once here c.replace_all.new.self c.in_ok-replace_all.ensures.ok c.in_ok-replace_all.ensures.lists
+    c.mark_all.new.self (rw (items, entries) at c.mark_all.ensures.lists))
+
+pub returns-clause-clean : goal.returns-clause-clean
+returns-clause-clean g c =
+    let here = subst (λ m. first_absent m (map (λ r. r.object) c.args.lists.now) ≡ None) (sym c.self.view_is) (sym c.in_ok-all_here.ensures) in
+    let entries = c.set_lens.ensures ∙ ap (λ es. with_lens es c.args.lists.now) c.deref_mut.ensures.value in
+    let items = with_items_is c.self.inside.entries c.set_lens.new.entries (ap (λ es. length es) entries ∙ length-lens c.self.inside.entries.items c.args.lists.now ∙ sym c.self.inside.entries.ok.0) in
+    λ clean. (rw (items, entries) at c.mark_all.ensures.clean) (clean-mid g.T.Elem.meaning g.S.FarRead.content _ _ c.self.invariant c.args.lists.now c.requires.some c.requires.once here c.replace_all.new.self c.in_ok-replace_all.ensures.ok c.in_ok-replace_all.ensures.lists
+    (subst (AreClean g.T.Elem.meaning g.S.FarRead.content) (sym c.self.view_is) clean))
+
+pub returns-clause-count : goal.returns-clause-count
+returns-clause-count g c =
+    let entries = c.set_lens.ensures ∙ ap (λ es. with_lens es c.args.lists.now) c.deref_mut.ensures.value in
+    let long = ap (λ es. length es) entries ∙ length-lens c.self.inside.entries.items c.args.lists.now in
+    let items = with_items_is c.self.inside.entries c.set_lens.new.entries (long ∙ sym c.self.inside.entries.ok.0) in
+    c.mark_all.ensures.count ∙ ap (λ es. length es) items ∙ long ∙ ap (λ m. length m.entries) c.self.view_is
+
+pub returns-in_err-replace_all-clause-store : goal.returns-in_err-replace_all-clause-store
+returns-in_err-replace_all-clause-store g c = λ name here. subst (AreHere g.S.FarRead.is_of name) (sym c.self.view_is) here
+
+pub returns-clause-store : goal.returns-clause-store
+returns-clause-store g c =
+    let entries = c.set_lens.ensures ∙ ap (λ es. with_lens es c.args.lists.now) c.deref_mut.ensures.value in
+    let items = with_items_is c.self.inside.entries c.set_lens.new.entries (ap (λ es. length es) entries ∙ length-lens c.self.inside.entries.items c.args.lists.now ∙ sym c.self.inside.entries.ok.0) in
+    λ name here. rw c.mark_all.ensures.written (here-replaced_all g.S.FarRead.is_of name c.args.self.now _ c.args.lists.now (items ∙ entries ∙ ap (λ m. with_lens m.entries c.args.lists.now) c.self.view_is) here)

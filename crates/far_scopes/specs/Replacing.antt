@@ -1,0 +1,70 @@
+-- Objects that get other lists together.
+use Rattle.std.specs.Prelude.{◌≡◌, ◌≢◌, ℕ, ◌-◌, not, Bool, false, List, [], ◌∷◌, length, take, map, Option, Some, option_map, All, AllPairs, slice_get, slice_set}
+use Rattle.std.specs.Option.{option_map_or}
+use Rattle.far_types.specs.declared.refusal.Refusal.{Refusal}
+use Rattle.far_types.specs.declared.refusal.Refusal.TheVariants as refusal
+use Rattle.far_pointer.specs.declared.pointer.At.{At}
+use Rattle.far_pointer.specs.declared.pointer.Pointer.{Pointer}
+use Rattle.far_pointer.specs.Layout.{with_at}
+use Rattle.far_log.specs.Room.{Room, spaces_of, fit_in_order}
+use Rattle.far_scopes.specs.declared.replacement.Replacement.{Replacement}
+use Rattle.far_scopes.specs.Memory.{Memory, place_of}
+use Rattle.far_scopes.specs.Placing.{spot, with_new, without_at}
+use Rattle.far_scopes.specs.Movement.{Movement, dirty, ticket_of, meant, list_of}
+
+-- the words once that of object o says another place
+abbrev pub with_place : List Pointer → ℕ → At → List Pointer
+with_place words o at = option_map_or (λ word. slice_set words o (with_at word at)) (slice_get words o) words
+
+module _ {X : Type 0} where
+  -- no object is listed twice
+  abbrev pub AreListedOnce : List (Replacement X) → Type 0
+  AreListedOnce lists = AllPairs (λ r s. r.object ≢ s.object) lists
+
+  -- an object is not listed
+  abbrev pub IsUnlisted : List (Replacement X) → ℕ → Type 0
+  IsUnlisted lists o = All (λ r. o ≢ r.object) lists
+
+  -- the lists of objects by number change in those that are listed: each gets what is listed for it
+  pub record ChangesLists (old new : ℕ → Option (List X)) (lists : List (Replacement X)) : Type 0 where
+    pub here : All (λ r. new r.object ≡ Some r.list.items) lists
+    pub others : (p : ℕ) → IsUnlisted lists p → new p ≡ old p
+
+  -- the new lists do not find room, placed one after the other
+  abbrev pub no_room_for_all : Room X → List (Replacement X) → Bool × Refusal
+  no_room_for_all room lists = (not (fit_in_order (spaces_of room) (map (λ r. length r.list.items) lists)), refusal.RegionFull)
+
+  -- the room with the new lists, placed one after the other
+  abbrev pub with_all : Room X → List (Replacement X) → Room X
+  with_all room [] = room
+  with_all room (r ∷ rs) = with_all (with_new room r.list.items) rs
+
+  -- the room without the parts of these objects
+  abbrev pub without_all : Room X → List Pointer → List (Replacement X) → Room X
+  without_all room words [] = room
+  without_all room words (r ∷ rs) = without_at (without_all room words rs) (place_of words r.object)
+
+  -- the words, of which those of these objects say where the new lists are placed
+  abbrev pub moved_all : Room X → List Pointer → List (Replacement X) → List Pointer
+  moved_all room words [] = words
+  moved_all room words (r ∷ rs) = with_place (moved_all (with_new room r.list.items) words rs) r.object (spot room (length r.list.items))
+
+  -- each of these objects, which are local, has its new list; all of them were placed before an old one was dropped
+  abbrev pub replaced_all : Memory X → List (Replacement X) → Memory X
+  replaced_all memory lists = record {
+    words = moved_all memory.room memory.words lists;
+    room = without_all (with_all memory.room lists) memory.words lists;
+  }
+
+  -- without the last object, whose part is now that of object o
+  abbrev pub taken_over : Memory X → ℕ → Memory X
+  taken_over memory o =
+      let last : ℕ = length memory.words - 1
+      in record {
+        words = option_map_or (with_place (take last memory.words) o) (place_of memory.words last) memory.words;
+        room = without_at memory.room (place_of memory.words o);
+      }
+
+  -- the list of each object that is clean and not listed is what its ticket means
+  abbrev pub AreCleanBeside : {K : Type 0} → (List ℕ → List X) → (K → List ℕ) → Movement X K → List (Replacement X) → Type 0
+  AreCleanBeside meaning content m lists = (o : ℕ) → IsUnlisted lists o → dirty m o ≡ false → list_of meaning content m o ≡ option_map (meant meaning content) (ticket_of m o)

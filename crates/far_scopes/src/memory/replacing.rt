@@ -1,0 +1,61 @@
+// Several objects that get other lists together.
+ghost use Rattle.std.specs.Prelude.{◌≡◌, ◌≢◌, ◌⊎◌, ◌<◌, ◌-◌, ℕ, [], ◌∷◌, length, All, Some, None, IsSome, OnOk, OnErr, IfErr};
+ghost use Rattle.std.specs.Option.{option_or};
+ghost use Rattle.far_types.specs.FirstOf.{first_of};
+ghost use Rattle.far_scopes.specs.Memory.{place_of, list_in};
+ghost use Rattle.far_scopes.specs.Refusing.{refusal_in};
+ghost use Rattle.far_scopes.specs.Replacing.{AreListedOnce, ChangesLists, no_room_for_all, replaced_all, taken_over};
+
+use super::{LocalMemory, at_of};
+use crate::replacement::Replacement;
+use far_codec::Elem;
+use far_types::Refusal;
+
+impl<T: Elem> LocalMemory<T> {
+    /// Gives listed objects, which are local, other lists: places all new ones, in order, before it drops an old one.
+    /// Where they find room the answer is `checked`. Refused, nothing is changed.
+    ///
+    /// Until all are placed, each new list is that of a further object behind the others.
+    pub fn replace_all(
+        &mut self,
+        lists: &[Replacement<T>],
+        checked: Result<(), Refusal>,
+    ) -> Result<(), Refusal>
+        requires some { All (λ r. 0 < length r.list.items) lists.now }
+        requires local { All (λ r. IsSome (place_of self.old.words r.object)) lists.now }
+        requires once { AreListedOnce lists.now }
+        ensures ok { OnOk result (self.new ≡ replaced_all self.old lists.now) }
+        ensures lists { OnOk result (ChangesLists (list_in self.old) (list_in self.new) lists.now) }
+        ensures free { OnOk result (option_or (first_of (no_room_for_all self.old.room lists.now ∷ [])) (refusal_in checked) ≡ None) }
+        ensures refused { IfErr result (λ e. (option_or (first_of (no_room_for_all self.old.room lists.now ∷ [])) (refusal_in checked) ≡ Some e) ⊎ (e ≡ Refusal.NoMemory)) }
+        ensures err { OnErr result (self.new ≡ self.old) }
+    {
+        let Some((first, rest)) = lists.split_first() else {
+            return checked;
+        };
+        self.add(&first.list)?;
+        if let Err(refusal) = self.replace_all(rest, checked) {
+            self.remove_last();
+            return Err(refusal);
+        }
+        self.take_over(first.object as usize);
+        Ok(())
+    }
+
+    // Object `o`, which is local, gets the part of the last object, which is no more; its own is dropped.
+    fn take_over(&mut self, o: usize)
+        requires other { o < length self.old.words - 1 }
+        requires local { IsSome (place_of self.old.words o) }
+        requires last { IsSome (place_of self.old.words (length self.old.words - 1)) }
+        ensures taken { self.new ≡ taken_over self.old o }
+        ensures here { list_in self.new o ≡ list_in self.old (length self.old.words - 1) }
+        ensures others { (p : ℕ) → p ≢ o → p ≢ length self.old.words - 1 → list_in self.new p ≡ list_in self.old p }
+    {
+        let Some(last) = self.words.pop() else {
+            unreachable!()
+        };
+        let word = self.words[o];
+        self.words[o] = word.with_at(at_of(last));
+        self.region.drop_at(at_of(word));
+    }
+}
