@@ -9,6 +9,7 @@ mod compacting;
 mod lending;
 mod moving;
 mod pins;
+mod readers;
 mod replacing;
 mod scopes;
 
