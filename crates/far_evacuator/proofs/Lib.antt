@@ -1,0 +1,3 @@
+pub mod TicketLaws
+pub mod CopyLaws
+pub mod CommitLaws
