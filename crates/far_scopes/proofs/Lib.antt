@@ -9,6 +9,8 @@ pub mod WordPlaces
 pub mod MemoryLaws
 pub mod KeyLaws
 pub mod RecencyLaws
+pub mod Found
+pub mod ColdestLaws
 pub mod Tracked
 pub mod Transitions
 pub mod Touched
@@ -18,6 +20,7 @@ pub mod Pins
 pub mod Listed
 pub mod Written
 pub mod Comings
+pub mod Framing
 pub mod Unmade
 pub mod Departures
 pub mod Arrivals

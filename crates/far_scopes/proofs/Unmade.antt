@@ -6,7 +6,8 @@ use Rattle.std.proofs.lemmas.List.{length-take-le}
 use Rattle.std.proofs.lemmas.Option.{slice_get_past}
 use Rattle.far_scopes.specs.Recency.{has, without}
 use Rattle.far_scopes.specs.Memory.{Memory, list_in, ChangesList}
-use Rattle.far_scopes.specs.Movement.{Movement, word_of, entry_of, is_local, list_of, AreClean, AreTracked}
+use Rattle.far_scopes.specs.Movement.{Movement, ChangesObject, word_of, entry_of, is_local, list_of, AreClean, AreHere, AreTracked}
+use Rattle.far_scopes.proofs.Framing.{here-one}
 use Rattle.far_scopes.proofs.RecencyLaws.{has-without_same, has-without_other, once-without}
 use Rattle.far_scopes.proofs.Tracked.{Others, clean-one, list-one, each-one}
 
@@ -87,3 +88,9 @@ module _ {X K : Type 0} (meaning : List ℕ → List X) (content : K → List �
     once = once-without m.order last tracked.once;
     ordered = ordered-unmade;
   }
+
+  pub changes-unmade : ChangesObject m without_last last
+  changes-unmade = record { words = others-unmade.words; entries = others-unmade.entries }
+
+  pub here-unmade : (is_of : K → List ℕ → Type 0) (name : List ℕ) → AreHere is_of name m → AreHere is_of name without_last
+  here-unmade is_of name here = here-one is_of name m without_last last changes-unmade here (rw no-entry tt)

@@ -5,6 +5,7 @@ pub mod SegmentObjects
 pub mod Placing
 pub mod Lending
 pub mod Movement
+pub mod Coldest
 pub mod Refusing
 pub mod Effects
 pub mod ObjectsLending

@@ -1,6 +1,6 @@
 -- The movement record: all that is known of objects and of where they are. Objects are told apart by their numbers, 0,
 -- 1, 2 and so on in the order in which they were made.
-use Rattle.std.specs.Prelude.{◌≡◌, ℕ, ◌≤◌, ◌<◌, ◌^◌, Bool, true, false, List, length, Option, Some, is_some, IfSome, IsSomeAnd, option_map, slice_get}
+use Rattle.std.specs.Prelude.{◌≡◌, ◌≢◌, ℕ, ◌≤◌, ◌<◌, ◌^◌, Bool, true, false, List, length, Option, Some, is_some, IfSome, IsSomeAnd, option_map, slice_get}
 use Rattle.std.specs.Option.{option_map_or, option_and_then, option_or}
 use Rattle.far_pointer.specs.declared.pointer.Pointer.{Pointer}
 use Rattle.far_pointer.specs.declared.pointer.Pointer.TheVariants.{Local, Remote}
@@ -19,6 +19,11 @@ pub record Movement (X K : Type 0) : Type 0 where
   pub memory : Memory X
   pub entries : List (Entry K)
   pub order : List ℕ
+
+-- every object but o has the word and the record that it had
+pub record ChangesObject {X K : Type 0} (old new : Movement X K) (o : ℕ) : Type 0 where
+  pub words : (p : ℕ) → p ≢ o → slice_get new.memory.words p ≡ slice_get old.memory.words p
+  pub entries : (p : ℕ) → p ≢ o → slice_get new.entries p ≡ slice_get old.entries p
 
 -- whether the far store has a copy, however old
 abbrev pub has_copy : Pointer → Bool
@@ -53,6 +58,10 @@ module _ {X K : Type 0} where
 
   abbrev pub ticket_of : Movement X K → ℕ → Option K
   ticket_of m o = option_and_then (λ e. e.ticket) (entry_of m o)
+
+  -- each ticket is one of the store of this name
+  abbrev pub AreHere : (K → List ℕ → Type 0) → List ℕ → Movement X K → Type 0
+  AreHere is_of name m = (o : ℕ) → IfSome (ticket_of m o) (λ ticket. is_of ticket name)
 
   module _ (meaning : List ℕ → List X) (content : K → List ℕ) where
     -- what a ticket means

@@ -1,9 +1,11 @@
 // Objects that are local or away.
-ghost use Rattle.std.specs.Prelude.{◌≡◌, ℕ, ◌<◌, ◌≤◌, ◌^◌, List, [], length, replicate, IfOk, IfErr, Some, option_map};
+ghost use Rattle.std.specs.Prelude.{◌≡◌, ℕ, ◌<◌, ◌≤◌, ◌^◌, List, [], length, replicate, IfOk, IfErr, Some, option_map, is_some, false};
 ghost use Rattle.far_pointer.specs.Layout.{HasWord};
 ghost use Rattle.far_codec.specs.Spelling.{IsSpelled};
-ghost use Rattle.far_scopes.specs.Movement.{AreTracked, word_of, version_of, leavings_of, pins_of, ticket_of};
+ghost use Rattle.std.specs.Option.{option_map_or};
+ghost use Rattle.far_scopes.specs.Movement.{AreTracked, word_of, version_of, leavings_of, pins_of, ticket_of, has_copy};
 
+mod coldest;
 mod coming;
 mod compacting;
 mod lending;
@@ -117,7 +119,8 @@ impl<T: Elem, S: FarRead> Objects<T, S> {
     /// The newest far copy that there is of an object. Takes no memory.
     pub fn ticket(&self, o: u32) -> Option<&S::Ticket>
         requires { o < length self.now.entries }
-        ensures { option_map (λ ticket. ticket.now) result ≡ ticket_of self.now o }
+        ensures ticket { option_map (λ ticket. ticket.now) result ≡ ticket_of self.now o }
+        ensures copy { is_some result ≡ option_map_or has_copy (word_of self.now o) false }
     {
         self.entries[o as usize].ticket.as_ref()
     }

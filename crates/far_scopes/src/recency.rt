@@ -1,9 +1,10 @@
 // The order in which objects were used.
 ghost use Rattle.std.specs.Prelude.{◌≡◌, [], ◌∷◌, IfOk, IfErr, OnOk, OnErr, false};
+ghost use Rattle.std.specs.Map.{keys_of};
 ghost use Rattle.far_scopes.specs.Recency.{has, without, used};
 
 use far_types::Refusal;
-use lru::LruCache;
+use lru::{Iter, LruCache};
 use std::alloc::Global;
 use std::marker::Model;
 
@@ -59,5 +60,12 @@ impl Recency {
         ensures { self.new ≡ used self.old o }
     {
         self.cache.promote(&o);
+    }
+
+    /// The objects, the last used first. Takes no memory.
+    pub fn iter(&self) -> Iter<'_, u32, ()>
+        ensures { keys_of result ≡ self.now }
+    {
+        self.cache.iter()
     }
 }

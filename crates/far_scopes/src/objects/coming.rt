@@ -1,8 +1,8 @@
 // Objects that are made, and the last one unmade.
-ghost use Rattle.std.specs.Prelude.{◌≡◌, ◌-◌, ◌<◌, ◌^◌, ◌↔◌, ◌⊎◌, length, false, true, Some, None, OnOk, OnErr, IfOk, IfErr, IsErrOf};
+ghost use Rattle.std.specs.Prelude.{◌≡◌, ◌-◌, ◌<◌, ◌^◌, ◌↔◌, ◌⊎◌, length, false, true, Some, None, OnOk, OnErr, IfOk, IfErr, IsErrOf, ℕ, List};
 ghost use Rattle.far_log.specs.Room.{fits_in};
 ghost use Rattle.far_scopes.specs.Memory.{ChangesList};
-ghost use Rattle.far_scopes.specs.Movement.{list_of, AreClean, is_local, pins_of};
+ghost use Rattle.far_scopes.specs.Movement.{list_of, AreClean, is_local, pins_of, AreHere, ChangesObject};
 ghost use Rattle.far_scopes.specs.Effects.{created, uncreated};
 
 use super::{Entry, Objects};
@@ -24,6 +24,8 @@ impl<T: Elem, S: FarRead> Objects<T, S> {
         ensures list { OnOk result (ChangesList (list_of T.meaning S.content self.old) (list_of T.meaning S.content self.new) (length self.old.entries) (Some items.now)) }
         ensures undone { OnOk result (uncreated self.new ≡ self.old) }
         ensures clean { AreClean T.meaning S.content self.old → AreClean T.meaning S.content self.new }
+        ensures others { OnOk result (ChangesObject self.old self.new (length self.old.entries)) }
+        ensures store { (name : List ℕ) → AreHere S.is_of name self.old → AreHere S.is_of name self.new }
         ensures full { IsErrOf result Refusal.RegionFull ↔ (fits_in self.old.memory.room (length items.now) ≡ false) }
         ensures refused { IfErr result (λ e. (e ≡ Refusal.RegionFull) ⊎ (e ≡ Refusal.NoMemory)) }
         ensures err { OnErr result (self.new ≡ self.old) }
@@ -56,6 +58,8 @@ impl<T: Elem, S: FarRead> Objects<T, S> {
         ensures uncreated { self.new ≡ uncreated self.old }
         ensures list { ChangesList (list_of T.meaning S.content self.old) (list_of T.meaning S.content self.new) (length self.old.entries - 1) None }
         ensures clean { AreClean T.meaning S.content self.old → AreClean T.meaning S.content self.new }
+        ensures others { ChangesObject self.old self.new (length self.old.entries - 1) }
+        ensures store { (name : List ℕ) → AreHere S.is_of name self.old → AreHere S.is_of name self.new }
     {
         self.memory.remove_last();
         self.entries.pop();

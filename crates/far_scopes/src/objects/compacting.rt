@@ -1,8 +1,8 @@
 // A segment of the objects' local memory that is compacted.
-ghost use Rattle.std.specs.Prelude.{◌≡◌, ℕ, ◌<◌, ◌≤◌, ◌↔◌, ◌⊎◌, length, OnOk, OnErr, IfErr, IsErrOf};
+ghost use Rattle.std.specs.Prelude.{◌≡◌, ℕ, ◌<◌, ◌≤◌, ◌↔◌, ◌⊎◌, length, OnOk, OnErr, IfErr, IsErrOf, List};
 ghost use Rattle.far_log.specs.Changes.{HasNoEmptyOther};
 ghost use Rattle.far_scopes.specs.Compaction.{IsCompacted};
-ghost use Rattle.far_scopes.specs.Movement.{list_of, AreClean};
+ghost use Rattle.far_scopes.specs.Movement.{list_of, AreClean, AreHere};
 
 use super::Objects;
 use far_codec::Elem;
@@ -22,6 +22,7 @@ impl<T: Elem, S: FarRead> Objects<T, S> {
         ensures kept { self.new ≡ record self.old { memory = self.new.memory } }
         ensures lists { (p : ℕ) → list_of T.meaning S.content self.new p ≡ list_of T.meaning S.content self.old p }
         ensures clean { AreClean T.meaning S.content self.old → AreClean T.meaning S.content self.new }
+        ensures store { (name : List ℕ) → AreHere S.is_of name self.old → AreHere S.is_of name self.new }
         ensures missing { IsErrOf result Refusal.OutOfRange ↔ (length self.old.memory.room ≤ segment) }
         ensures full { IsErrOf result Refusal.RegionFull ↔ ((segment < length self.old.memory.room) × HasNoEmptyOther self.old.memory.room segment) }
         ensures refused { IfErr result (λ e. (e ≡ Refusal.OutOfRange) ⊎ ((e ≡ Refusal.RegionFull) ⊎ (e ≡ Refusal.NoMemory))) }

@@ -2,7 +2,7 @@
 ghost use Rattle.std.specs.Prelude.{◌≡◌, ℕ, ◌-◌, ◌<◌, ◌≤◌, ◌++◌, List, length, take, drop, slice_range, true, Some, None, IfOk, IsSomeAnd};
 ghost use Rattle.std.specs.Borrow.{sem};
 ghost use Rattle.far_scopes.specs.Memory.{list_in, ChangesList};
-ghost use Rattle.far_scopes.specs.Movement.{list_of, dirty, is_local, AreClean};
+ghost use Rattle.far_scopes.specs.Movement.{list_of, dirty, is_local, AreClean, AreHere, ChangesObject};
 ghost use Rattle.std.specs.Prelude.{not};
 ghost use Rattle.far_scopes.specs.Refusing.{refusal_in, absent, lend_refusal, write_refusal};
 ghost use Rattle.far_scopes.specs.Effects.{written, overwritten};
@@ -57,6 +57,8 @@ impl<T: Elem, S: FarRead> Objects<T, S> {
         ensures lent { list_in self.old.memory o ≡ Some result.now }
         ensures alone { (list : List T) → length list ≡ length result.now → ChangesList (list_of T.meaning S.content self.old) (list_of T.meaning S.content (overwritten (written self.old o) o 0 list)) o (Some list) }
         ensures clean { (list : List T) → length list ≡ length result.now → AreClean T.meaning S.content self.old → AreClean T.meaning S.content (overwritten (written self.old o) o 0 list) }
+        ensures others { (list : List T) → ChangesObject self.old (overwritten (written self.old o) o 0 list) o }
+        ensures store { (list : List T) (name : List ℕ) → AreHere S.is_of name self.old → AreHere S.is_of name (overwritten (written self.old o) o 0 list) }
     {
         self.mark(o);
         let memory = &mut self.memory;
@@ -75,6 +77,8 @@ impl<T: Elem, S: FarRead> Objects<T, S> {
         ensures lent { IsSomeAnd (list_in self.old.memory o) (λ list. result.now ≡ slice_range list from to) }
         ensures alone { IsSomeAnd (list_in self.old.memory o) (λ list. (range : List T) → length range ≡ to - from → ChangesList (list_of T.meaning S.content self.old) (list_of T.meaning S.content (overwritten (written self.old o) o from range)) o (Some (take from list ++ (range ++ drop to list)))) }
         ensures clean { (range : List T) → length range ≡ to - from → AreClean T.meaning S.content self.old → AreClean T.meaning S.content (overwritten (written self.old o) o from range) }
+        ensures others { (range : List T) → ChangesObject self.old (overwritten (written self.old o) o from range) o }
+        ensures store { (range : List T) (name : List ℕ) → AreHere S.is_of name self.old → AreHere S.is_of name (overwritten (written self.old o) o from range) }
     {
         self.mark(o);
         let memory = &mut self.memory;

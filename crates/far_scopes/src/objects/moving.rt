@@ -1,9 +1,9 @@
 // Objects that go away and come back.
-ghost use Rattle.std.specs.Prelude.{◌≡◌, ℕ, ◌<◌, ◌↔◌, ◌⊎◌, length, false, true, Some, None, OnOk, OnErr, IfErr, IfSome, IsSomeAnd, IsErrOf};
+ghost use Rattle.std.specs.Prelude.{◌≡◌, ℕ, ◌<◌, ◌↔◌, ◌⊎◌, length, false, true, Some, None, OnOk, OnErr, IfErr, IfSome, IsSomeAnd, IsErrOf, List};
 ghost use Rattle.far_codec.specs.Spelling.{IsSpelled};
 ghost use Rattle.far_log.specs.Room.{fits_in};
 ghost use Rattle.far_scopes.specs.Memory.{list_in, ChangesList};
-ghost use Rattle.far_scopes.specs.Movement.{list_of, AreClean, is_local, pins_of, leavings_of, ticket_of};
+ghost use Rattle.far_scopes.specs.Movement.{list_of, AreClean, is_local, pins_of, leavings_of, ticket_of, AreHere, ChangesObject};
 ghost use Rattle.far_scopes.specs.Refusing.{write_refusal};
 ghost use Rattle.far_scopes.specs.Effects.{departed, arrived, replaced};
 
@@ -23,6 +23,8 @@ impl<T: Elem, S: FarRead> Objects<T, S> {
         ensures departed { self.new ≡ departed self.old o ticket.now }
         ensures lists { (p : ℕ) → list_of T.meaning S.content self.new p ≡ list_of T.meaning S.content self.old p }
         ensures clean { AreClean T.meaning S.content self.old → AreClean T.meaning S.content self.new }
+        ensures others { ChangesObject self.old self.new o }
+        ensures store { AreHere S.is_of (S.name store.now) self.old → AreHere S.is_of (S.name store.now) self.new }
     {
         self.memory.send_away(o as usize);
         let entry = &mut self.entries[o as usize];
@@ -42,6 +44,8 @@ impl<T: Elem, S: FarRead> Objects<T, S> {
         ensures arrived { OnOk result (self.new ≡ arrived self.old o items.now) }
         ensures lists { (p : ℕ) → list_of T.meaning S.content self.new p ≡ list_of T.meaning S.content self.old p }
         ensures clean { AreClean T.meaning S.content self.old → AreClean T.meaning S.content self.new }
+        ensures others { OnOk result (ChangesObject self.old self.new o) }
+        ensures store { (name : List ℕ) → AreHere S.is_of name self.old → AreHere S.is_of name self.new }
         ensures full { IsErrOf result Refusal.RegionFull ↔ (fits_in self.old.memory.room (length items.now) ≡ false) }
         ensures refused { IfErr result (λ e. (e ≡ Refusal.RegionFull) ⊎ (e ≡ Refusal.NoMemory)) }
         ensures err { OnErr result (self.new ≡ self.old) }

@@ -1,8 +1,8 @@
 // Pins, which keep objects from going away.
-ghost use Rattle.std.specs.Prelude.{◌≡◌, ◌<◌, length, OnOk, OnErr};
+ghost use Rattle.std.specs.Prelude.{◌≡◌, ◌<◌, List, ℕ, length, OnOk, OnErr};
 ghost use Rattle.far_scopes.specs.Refusing.{refusal_in, pin_refusal, unpin_refusal};
 ghost use Rattle.far_scopes.specs.Effects.{pinned, unpinned, touched};
-ghost use Rattle.far_scopes.specs.Movement.{AreClean};
+ghost use Rattle.far_scopes.specs.Movement.{AreClean, AreHere, ChangesObject};
 
 use super::Objects;
 use far_codec::Elem;
@@ -18,6 +18,8 @@ impl<T: Elem, S: FarRead> Objects<T, S> {
         requires { o < length self.old.entries }
         ensures pinned { OnOk result (self.new ≡ pinned self.old o) }
         ensures clean { AreClean T.meaning S.content self.old → AreClean T.meaning S.content self.new }
+        ensures others { OnOk result (ChangesObject self.old self.new o) }
+        ensures store { (name : List ℕ) → AreHere S.is_of name self.old → AreHere S.is_of name self.new }
         ensures refused { refusal_in result ≡ pin_refusal self.old o }
         ensures err { OnErr result (self.new ≡ self.old) }
     {
@@ -39,6 +41,8 @@ impl<T: Elem, S: FarRead> Objects<T, S> {
         requires { o < length self.old.entries }
         ensures unpinned { OnOk result (self.new ≡ unpinned self.old o) }
         ensures clean { AreClean T.meaning S.content self.old → AreClean T.meaning S.content self.new }
+        ensures others { OnOk result (ChangesObject self.old self.new o) }
+        ensures store { (name : List ℕ) → AreHere S.is_of name self.old → AreHere S.is_of name self.new }
         ensures refused { refusal_in result ≡ unpin_refusal self.old o }
         ensures err { OnErr result (self.new ≡ self.old) }
     {
@@ -55,6 +59,8 @@ impl<T: Elem, S: FarRead> Objects<T, S> {
         requires { o < length self.old.entries }
         ensures touched { self.new ≡ touched self.old o }
         ensures clean { AreClean T.meaning S.content self.old → AreClean T.meaning S.content self.new }
+        ensures others { ChangesObject self.old self.new o }
+        ensures store { (name : List ℕ) → AreHere S.is_of name self.old → AreHere S.is_of name self.new }
     {
         self.memory.heat(o as usize);
         self.order.touch(o);

@@ -1,7 +1,7 @@
 // Objects that get another list.
-ghost use Rattle.std.specs.Prelude.{◌≡◌, ◌<◌, ◌⊎◌, length, Some, None, OnOk, OnErr, IfErr};
+ghost use Rattle.std.specs.Prelude.{◌≡◌, ◌<◌, ◌⊎◌, length, Some, None, OnOk, OnErr, IfErr, ℕ, List};
 ghost use Rattle.far_scopes.specs.Memory.{ChangesList};
-ghost use Rattle.far_scopes.specs.Movement.{list_of, AreClean};
+ghost use Rattle.far_scopes.specs.Movement.{list_of, AreClean, AreHere, ChangesObject};
 ghost use Rattle.far_scopes.specs.Refusing.{refusal_in, replace_refusal};
 ghost use Rattle.far_scopes.specs.Effects.{replaced};
 
@@ -23,6 +23,8 @@ impl<T: Elem, S: FarRead> Objects<T, S> {
         ensures replaced { OnOk result (self.new ≡ replaced self.old o items.now) }
         ensures list { OnOk result (ChangesList (list_of T.meaning S.content self.old) (list_of T.meaning S.content self.new) o (Some items.now)) }
         ensures clean { AreClean T.meaning S.content self.old → AreClean T.meaning S.content self.new }
+        ensures others { OnOk result (ChangesObject self.old self.new o) }
+        ensures store { (name : List ℕ) → AreHere S.is_of name self.old → AreHere S.is_of name self.new }
         ensures free { OnOk result (replace_refusal self.old o (length items.now) ≡ None) }
         ensures refused { IfErr result (λ e. (replace_refusal self.old o (length items.now) ≡ Some e) ⊎ ((replace_refusal self.old o (length items.now) ≡ None) × (e ≡ Refusal.NoMemory))) }
         ensures err { OnErr result (self.new ≡ self.old) }

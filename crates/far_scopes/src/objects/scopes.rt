@@ -1,6 +1,6 @@
-// Objects that are pinned together, and the object that is used least.
+// Objects that are pinned together.
 ghost use Rattle.std.specs.Prelude.{◌≡◌, ◌⊎◌, ◌==◌, not, false, IsTrue, ◌<◌, ◌≤◌, ◌^◌, ℕ, List, length, take, All, Some, None, OnOk, OnErr, IfOk, IfErr};
-ghost use Rattle.far_scopes.specs.Movement.{Movement, AreClean, pins_of};
+ghost use Rattle.far_scopes.specs.Movement.{Movement, AreClean, pins_of, AreHere};
 ghost use Rattle.far_scopes.specs.Effects.{unpinned};
 ghost use Rattle.far_scopes.specs.Refusing.{refusal_in};
 ghost use Rattle.far_scopes.specs.Entering.{pinned_all, first_absent, enter_refusal, pins_overflow, closed};
@@ -24,6 +24,7 @@ impl<T: Elem, S: FarRead> Objects<T, S> {
         ensures scope { IfOk result (λ scope. scope ≡ objects.now) }
         ensures pinned { OnOk result (self.new ≡ pinned_all self.old objects.now) }
         ensures clean { AreClean T.meaning S.content self.old → AreClean T.meaning S.content self.new }
+        ensures store { (name : List ℕ) → AreHere S.is_of name self.old → AreHere S.is_of name self.new }
         ensures free { OnOk result (enter_refusal self.old objects.now ≡ None) }
         ensures refused { IfErr result (λ e. (enter_refusal self.old objects.now ≡ Some e) ⊎ ((enter_refusal self.old objects.now ≡ None) × (e ≡ Refusal.NoMemory))) }
         ensures err { OnErr result (self.new ≡ self.old) }
@@ -101,6 +102,7 @@ impl<T: Elem, S: FarRead> Objects<T, S> {
         ensures closed { self.new ≡ (closed self.old scope).0 }
         ensures count { result ≡ (closed self.old scope).1 }
         ensures clean { AreClean T.meaning S.content self.old → AreClean T.meaning S.content self.new }
+        ensures store { (name : List ℕ) → AreHere S.is_of name self.old → AreHere S.is_of name self.new }
     {
         let Scope { objects } = scope;
         let mut taken = 0;

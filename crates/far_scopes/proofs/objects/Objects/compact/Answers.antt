@@ -1,5 +1,5 @@
 use Rattle.std.proofs.Common.{sym, subst}
-use Rattle.far_scopes.specs.Movement.{Movement, AreClean}
+use Rattle.far_scopes.specs.Movement.{Movement, AreClean, AreHere}
 use Rattle.far_scopes.proofs.CompactedObjects.{tracked-compacted, clean-compacted}
 use Rattle.far_scopes.proofs.objects.Objects.compact.Goals as goal
 
@@ -14,3 +14,6 @@ returns-clause-clean g c =
 
 pub returns-clause-full : goal.returns-clause-full
 returns-clause-full g c = rw (← c.self.view_is) c.in_ok-compact.ensures.full
+
+pub returns-clause-store : goal.returns-clause-store
+returns-clause-store g c = λ name here. subst (AreHere g.S.FarRead.is_of name) (sym c.self.view_is) here

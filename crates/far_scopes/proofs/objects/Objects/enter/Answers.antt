@@ -1,7 +1,12 @@
 use Rattle.std.proofs.Common.{◌<◌, get_or, length, sym, ap, subst, ◌∙◌}
 use Rattle.far_scopes.proofs.Pins.{length-pinned_all}
+use Rattle.far_scopes.specs.Movement.{AreHere}
+use Rattle.far_scopes.proofs.Framing.{here-pinned_all}
 use Rattle.far_scopes.proofs.objects.Objects.enter.Goals as goal
 
 pub unpin_all-requires-after_bounds : goal.unpin_all-requires-after_bounds
 unpin_all-requires-after_bounds g c =
     λ κs le k d within. subst (λ n. get_or c.args.objects.now k d < n) (sym (ap (λ m. length m.entries) c.in_ok-pin_all.ensures.pinned ∙ length-pinned_all c.args.self.now c.args.objects.now)) (c.requires.within k d within)
+
+pub returns-in-Ok-clause-store : goal.returns-in-Ok-clause-store
+returns-in-Ok-clause-store g c = λ name here. subst (AreHere g.S.FarRead.is_of name) (sym c.in_ok-pin_all.ensures.pinned) (here-pinned_all g.S.FarRead.is_of name c.args.self.now c.args.objects.now here)

@@ -5,6 +5,7 @@ use Rattle.far_scopes.specs.Memory.{place_of, list_in, ChangesList}
 use Rattle.far_scopes.specs.Effects.{written, overwritten}
 use Rattle.far_scopes.proofs.WordPlaces.{some-true}
 use Rattle.far_scopes.proofs.Overwritten.{tracked-overwritten, list-since, clean-overwritten}
+use Rattle.far_scopes.proofs.Framing.{others-overwritten, here-written}
 use Rattle.far_scopes.proofs.objects.Objects.lend_mut.Goals as goal
 
 pub lend_mut-requires-after_bounds : goal.lend_mut-requires-after_bounds
@@ -29,5 +30,7 @@ returns g c =
             let change = subst (λ m. ChangesList (list_in m.memory) (list_in (overwritten m c.args.o 0 list).memory) c.args.o (Some list)) c.self.view_is (c.lend_mut.ensures.alone list long) in
             subst (λ m. AreClean g.T.Elem.meaning g.S.FarRead.content (overwritten m c.args.o 0 list)) c.mark.ensures.written
             (clean-overwritten g.T.Elem.meaning g.S.FarRead.content (IsSpelled g.T.Elem.in_range g.T.Elem.has_spelling g.T.Elem.spelling) c.mark.new.self c.args.o 0 list list change c.mark.ensures.dirty (c.mark.ensures.clean clean));
+        others = others-overwritten c.args.self.now c.args.o 0;
+        store = λ list name here. here-written c.args.self.now c.args.o g.S.FarRead.is_of name here;
       },
     )

@@ -5,6 +5,7 @@ use Rattle.far_scopes.specs.Movement.{list_of, AreClean}
 use Rattle.far_scopes.specs.Memory.{list_in, ChangesList}
 use Rattle.far_scopes.specs.Effects.{overwritten}
 use Rattle.far_scopes.proofs.Overwritten.{tracked-overwritten, range-since, clean-range}
+use Rattle.far_scopes.proofs.Framing.{others-overwritten, here-written}
 use Rattle.far_scopes.proofs.objects.Objects.lend_range_mut.Goals as goal
 
 pub lend_range_mut-requires-clause-within : goal.lend_range_mut-requires-clause-within
@@ -30,5 +31,7 @@ returns g c =
             let alone = subst (λ m. IsSomeAnd (list_in m.memory c.args.o) (λ list. (range : List g.row.T.Denot) → length range ≡ c.args.to - c.args.from → ChangesList (list_in m.memory) (list_in (overwritten m c.args.o c.args.from range).memory) c.args.o (Some (take c.args.from list ++ (range ++ drop c.args.to list))))) c.self.view_is c.lend_range_mut.ensures.alone in
             subst (λ m. AreClean g.T.Elem.meaning g.S.FarRead.content (overwritten m c.args.o c.args.from range)) c.mark.ensures.written
             (clean-range g.T.Elem.meaning g.S.FarRead.content (IsSpelled g.T.Elem.in_range g.T.Elem.has_spelling g.T.Elem.spelling) c.args.self.now c.mark.new.self c.args.o c.args.from c.args.to c.mark.ensures.parts c.mark.ensures.lists c.mark.ensures.dirty alone range long (c.mark.ensures.clean clean));
+        others = others-overwritten c.args.self.now c.args.o c.args.from;
+        store = λ list name here. here-written c.args.self.now c.args.o g.S.FarRead.is_of name here;
       },
     )

@@ -1,6 +1,8 @@
 use Rattle.std.proofs.Common.{◌≡◌, ◌<◌, length, None, refl, sym, subst}
 use Rattle.far_scopes.specs.Refusing.{replace_refusal}
 use Rattle.far_scopes.proofs.Replacements.{entry-was, tracked-mid, free-mid, lists-new, clean-new}
+use Rattle.far_scopes.specs.Movement.{AreHere}
+use Rattle.far_scopes.proofs.Framing.{here-replaced}
 use Rattle.far_scopes.proofs.objects.Objects.replace.Goals as goal
 
 pub invariant_of-self-2 : goal.invariant_of-self-2
@@ -32,3 +34,6 @@ returns-clause-clean g c =
     let within = subst (λ m. c.args.o < length m.entries) (sym c.self.view_is) c.requires.within in
     let free = subst (λ m. replace_refusal m c.args.o (length c.args.items.now) ≡ None) (sym c.self.view_is) (sym c.in_ok-may_replace.ensures) in
     rw (← c.self.view_is) (clean-new g.T.Elem.meaning g.S.FarRead.content _ _ c.self.invariant c.args.o within c.index_mut.result.now c.index_mut.ensures.value c.args.items.now free c.replace.new.self c.in_ok-replace.ensures.ok c.in_ok-replace.ensures.list c.mark.new.self c.mark.ensures.written c.mark.ensures.parts c.mark.ensures.dirty)
+
+pub returns-clause-store : goal.returns-clause-store
+returns-clause-store g c = λ name here. subst (AreHere g.S.FarRead.is_of name) (sym (returns-clause-replaced g c)) (here-replaced c.args.self.now c.args.o c.args.items.now g.S.FarRead.is_of name here)

@@ -2,7 +2,7 @@ use Rattle.std.proofs.Common.{◌≡◌, ◌-◌, length, true, sym, ap, subst}
 use Rattle.far_scopes.specs.Memory.{place_of}
 use Rattle.far_scopes.specs.Movement.{is_local}
 use Rattle.far_scopes.proofs.WordPlaces.{some-true}
-use Rattle.far_scopes.proofs.Unmade.{cut-length, tracked-unmade, lists-unmade, clean-unmade}
+use Rattle.far_scopes.proofs.Unmade.{cut-length, tracked-unmade, lists-unmade, clean-unmade, changes-unmade, here-unmade}
 use Rattle.far_scopes.proofs.objects.Objects.uncreate.Goals as goal
 
 pub remove_last-requires-after_bounds : goal.remove_last-requires-after_bounds
@@ -18,3 +18,11 @@ returns-clause-list g c = rw (← c.self.view_is, c.pop.ensures.rest, c.self.ins
 
 pub returns-clause-clean : goal.returns-clause-clean
 returns-clause-clean g c = rw (← c.self.view_is, c.pop.ensures.rest, c.self.inside.entries.ok.0) (clean-unmade g.T.Elem.meaning g.S.FarRead.content _ _ c.self.invariant c.remove_last.new.self (ap (λ m. m.words) c.remove_last.ensures.removed) c.remove_last.ensures.list)
+
+pub returns-clause-others : goal.returns-clause-others
+returns-clause-others g c =
+    let changes = changes-unmade g.T.Elem.meaning g.S.FarRead.content _ _ c.self.invariant c.remove_last.new.self (ap (λ m. m.words) c.remove_last.ensures.removed) c.remove_last.ensures.list in
+    rw (← c.self.view_is, c.pop.ensures.rest, c.self.inside.entries.ok.0) record { words = changes.words; entries = changes.entries }
+
+pub returns-clause-store : goal.returns-clause-store
+returns-clause-store g c = rw (← c.self.view_is, c.pop.ensures.rest, c.self.inside.entries.ok.0) (λ name. here-unmade g.T.Elem.meaning g.S.FarRead.content _ _ c.self.invariant c.remove_last.new.self (ap (λ m. m.words) c.remove_last.ensures.removed) c.remove_last.ensures.list g.S.FarRead.is_of name)

@@ -1,0 +1,95 @@
+-- Which object goes away first, looked for from the end of the order of use.
+use Rattle.std.proofs.Common.{◌≡◌, ◌≢◌, ℕ, ◌<◌, ◌||◌, ◌&&◌, nat_eq, length, subst, not, Bool, true, false, inl, inr, List, [], ◌∷◌, ◌++◌, Option, Some, None, reverse, refl, sym, ap, ◌∙◌}
+use Rattle.std.specs.Prelude.{◌↔◌, IfSome}
+use Rattle.std.specs.Map.{keys_of}
+use Rattle.std.specs.Option.{option_or}
+use Rattle.std.specs.List.{find}
+use Rattle.std.proofs.lemmas.List.{map_push, append_assoc}
+use Rattle.std.proofs.Math.Bool.{or_comm}
+use Rattle.std.proofs.lemmas.Bool.{eq-eqb, eqb-true}
+use Rattle.std.proofs.lemmas.List.Folds.{list_any-append}
+use Rattle.far_scopes.specs.Recency.{has}
+use Rattle.far_scopes.specs.Memory.{place_of}
+use Rattle.far_scopes.specs.Movement.{Movement, hot, pins_of, is_local, AreTracked}
+use Rattle.far_scopes.specs.Coldest.{is_unpinned, is_cold, coldest}
+use Rattle.far_scopes.proofs.Places.{cases_option}
+use Rattle.far_scopes.proofs.RecencyLaws.{has-cons_same}
+use Rattle.far_scopes.proofs.WordPlaces.{place-within, some-true}
+use Rattle.far_scopes.proofs.Found.{has-reverse, found-is, found-none}
+
+module _ {X K : Type 0} (m : Movement X K) where
+  -- what is found in the part of the order that is left, where this object is the first without pins in the part that was
+  -- looked at, and none there is cold
+  abbrev pub coldest_in : Option ℕ → List ℕ → Option ℕ
+  coldest_in found order = option_or (find (is_cold m) (reverse order)) (option_or found (find (is_unpinned m) (reverse order)))
+
+  -- none is left
+  pub coldest-none : (found : Option ℕ) → coldest_in found [] ≡ found
+  coldest-none None = refl
+  coldest-none (Some o) = refl
+
+  -- it is local and has no pin, and there is one exactly where a local object has none
+  module _ (ordered : (o : ℕ) → has m.order o ≡ is_local m o) where
+    local-has : (o : ℕ) → has (reverse m.order) o ≡ is_local m o
+    local-has o = has-reverse m.order o ∙ ordered o
+
+    and-first : (a b : Bool) → a && b ≡ true → a ≡ true
+    and-first true b both = refl
+    and-first false b both = cc
+
+    and-not : (a b : Bool) → a ≡ false → a && b ≡ false
+    and-not true b is = cc
+    and-not false b is = refl
+
+    coldest-is : (o : ℕ) → coldest m ≡ Some o → (is_local m o ≡ true) × (pins_of m o ≡ 0)
+    coldest-is o is = elim (cases_option (find (is_cold m) (reverse m.order))) [
+      | inl none ↦
+          let found = found-is (is_unpinned m) (reverse m.order) o (sym (rw none refl) ∙ is) in
+          (sym (local-has o) ∙ found.1, eqb-true (pins_of m o) 0 found.0)
+      | inr (p, some) ↦
+          let same : Some p ≡ Some o = sym (rw some refl) ∙ is in
+          let found = found-is (is_cold m) (reverse m.order) o (some ∙ same) in
+          (sym (local-has o) ∙ found.1, eqb-true (pins_of m o) 0 (and-first (is_unpinned m o) (not (hot m o)) found.0))
+    ]
+
+    exactly : (coldest m ≡ None) ↔ ((o : ℕ) → is_local m o ≡ true → pins_of m o ≢ 0)
+    exactly = (none-is, none-if)
+      where
+        none-is : coldest m ≡ None → (o : ℕ) → is_local m o ≡ true → pins_of m o ≢ 0
+        none-is none o local unpinned =
+            let free : is_unpinned m o ≡ true = eq-eqb (pins_of m o) 0 unpinned in
+            elim (cases_option (find (is_cold m) (reverse m.order))) [
+              | inl cold ↦ (let not_free = found-none (is_unpinned m) (reverse m.order) (sym (rw cold refl) ∙ none) o (local-has o ∙ local) in let both = sym free ∙ not_free in cc)
+              | inr (p, some) ↦ (let e : Some p ≡ None = sym (rw some refl) ∙ none in cc)
+            ]
+
+        none-if : ((o : ℕ) → is_local m o ≡ true → pins_of m o ≢ 0) → coldest m ≡ None
+        none-if pinned = elim (cases_option (coldest m)) [
+          | inl none ↦ none
+          | inr (o, is) ↦ absurd (pinned o (coldest-is o is).0 (coldest-is o is).1)
+        ]
+
+    pub coldest-local : (found : Option ℕ) → coldest m ≡ found → IfSome found (λ o. is_local m o ≡ true)
+    coldest-local None is = tt
+    coldest-local (Some o) is = (coldest-is o is).0
+
+    pub coldest-unpinned : (found : Option ℕ) → coldest m ≡ found → IfSome found (λ o. pins_of m o ≡ 0)
+    coldest-unpinned None is = tt
+    coldest-unpinned (Some o) is = (coldest-is o is).1
+
+    pub coldest-exactly : (found : Option ℕ) → coldest m ≡ found → (found ≡ None) ↔ ((o : ℕ) → is_local m o ≡ true → pins_of m o ≢ 0)
+    coldest-exactly found is = subst (λ (f : Option ℕ). (f ≡ None) ↔ ((o : ℕ) → is_local m o ≡ true → pins_of m o ≢ 0)) is exactly
+
+  -- the last of the part of the order that is left
+  module _ (left rest : List (ℕ × Unit {0})) (seen : List ℕ) (pair : ℕ × Unit {0}) (step : left ≡ rest ++ pair ∷ []) where
+    pub keys-step : keys_of left ≡ keys_of rest ++ pair.0 ∷ []
+    keys-step = ap keys_of step ∙ map_push (λ (p : ℕ × Unit {0}). p.0) rest pair
+
+    pub order-step : m.order ≡ keys_of left ++ seen → m.order ≡ keys_of rest ++ pair.0 ∷ seen
+    order-step is = is ∙ ap (λ l. l ++ seen) keys-step ∙ append_assoc (keys_of rest) (pair.0 ∷ []) seen
+
+    -- it has a number
+    pub last-within : {meaning : List ℕ → List X} {content : K → List ℕ} {spelled : List X → List ℕ → Type 0} → AreTracked meaning content spelled m → m.order ≡ keys_of left ++ seen → pair.0 < length m.entries
+    last-within tracked is =
+        let there : has m.order pair.0 ≡ true = ap (λ l. has l pair.0) (order-step is) ∙ list_any-append (λ p. nat_eq pair.0 p) (keys_of rest) (pair.0 ∷ seen) ∙ ap (λ b. has (keys_of rest) pair.0 || b) (has-cons_same seen pair.0) ∙ or_comm (has (keys_of rest) pair.0) true in
+        subst (λ n. pair.0 < n) (sym tracked.even) (place-within m.memory.words pair.0 (some-true (place_of m.memory.words pair.0) (sym (tracked.ordered pair.0) ∙ there)))

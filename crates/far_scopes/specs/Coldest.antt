@@ -1,0 +1,18 @@
+-- Which object goes away first.
+use Rattle.std.specs.Prelude.{ℕ, ◌==◌, ◌&&◌, not, Bool, Option, reverse}
+use Rattle.std.specs.Option.{option_or}
+use Rattle.std.specs.List.{find}
+use Rattle.far_scopes.specs.Movement.{Movement, hot, pins_of}
+
+module _ {X K : Type 0} (m : Movement X K) where
+  -- whether an object has no pin
+  abbrev pub is_unpinned : ℕ → Bool
+  is_unpinned o = pins_of m o == 0
+
+  -- whether it has none and is not hot
+  abbrev pub is_cold : ℕ → Bool
+  is_cold o = is_unpinned o && not (hot m o)
+
+  -- the last in the order of use, without pins, among those not hot; where there is none, among all without pins
+  abbrev pub coldest : Option ℕ
+  coldest = option_or (find is_cold (reverse m.order)) (find is_unpinned (reverse m.order))

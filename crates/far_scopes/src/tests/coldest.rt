@@ -1,0 +1,52 @@
+// The object that goes away first: worked examples.
+use super::coming::{empty, name_of};
+use crate::Objects;
+use far_store::{AgentStore, FarRead};
+use far_types::Refusal;
+use std::alloc::Global;
+use std::test::Fail;
+
+/// Which of two objects goes away first that were made in turn: at first, once the first of them is used, and once the
+/// other is pinned then.
+fn of_two_hot<S: FarRead>(alloc: Global, store: &S) -> Result<[Option<u32>; 3], Refusal> {
+    let mut objects: Objects<i64, S> = empty(alloc, store)?;
+    objects.create(name_of(0), &[1])?;
+    objects.create(name_of(1), &[2])?;
+    let made = objects.coldest();
+    objects.touch(0);
+    let touched = objects.coldest();
+    objects.pin(1)?;
+    Ok([made, touched, objects.coldest()])
+}
+
+/// Which of two objects goes away first, of which the one that was used last is not hot: at first, once it is pinned, and
+/// once both are.
+fn of_one_cold<S: FarRead>(alloc: Global, _store: &S) -> Result<[Option<u32>; 3], Refusal> {
+    let mut objects: Objects<i64, S> = Objects::new(alloc, 7, 3, 2, 2, 1)?;
+    objects.create(name_of(0), &[1, 2])?;
+    objects.create(name_of(1), &[3, 4])?;
+    objects.compact(alloc, 1)?;
+    let cold = objects.coldest();
+    objects.pin(1)?;
+    let hot = objects.coldest();
+    objects.pin(0)?;
+    Ok([cold, hot, objects.coldest()])
+}
+
+#[test]
+fn the_hot_object_used_longest_ago_goes_first_where_all_are_hot(
+    rt: HostRuntime,
+) -> Result<(), Fail> {
+    let store = AgentStore::new(&rt, rt.alloc(), 4)?;
+    let coldest = of_two_hot(rt.alloc(), &store)?;
+    assert_eq!(rt; coldest, [Some(0), Some(1), Some(0)]);
+    Ok(())
+}
+
+#[test]
+fn a_cold_object_goes_before_a_hot_one_and_a_pinned_one_stays(rt: HostRuntime) -> Result<(), Fail> {
+    let store = AgentStore::new(&rt, rt.alloc(), 4)?;
+    let coldest = of_one_cold(rt.alloc(), &store)?;
+    assert_eq!(rt; coldest, [Some(1), Some(0), None]);
+    Ok(())
+}
