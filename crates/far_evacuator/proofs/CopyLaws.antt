@@ -1,14 +1,13 @@
 -- What the far copies of objects are.
-use Rattle.std.proofs.Common.{◌≡◌, ℕ, ◌<◌, Bool, true, false, inl, inr, List, length, Option, Some, None, IsSome, refl, sym, ap, subst, ◌∙◌}
-use Rattle.std.specs.Prelude.{◌||◌, IsTrue, IfSome, IsSomeAnd, is_some, option_map, slice_get}
+use Rattle.std.proofs.Common.{◌≡◌, ℕ, ◌<◌, true, false, inl, inr, List, length, Option, Some, None, refl, sym, ap, subst, ◌∙◌}
+use Rattle.std.specs.Prelude.{IfSome, IsSomeAnd, option_map, slice_get}
 use Rattle.std.specs.Option.{option_and_then, option_or}
 use Rattle.far_pointer.specs.declared.pointer.Pointer.{Pointer}
 use Rattle.far_pointer.specs.declared.pointer.Pointer.TheVariants.{Local, Remote}
 use Rattle.far_pointer.specs.Layout.{HasWord, is_dirty}
 use Rattle.far_scopes.specs.declared.entry.Entry.{Entry}
-use Rattle.far_scopes.specs.Memory.{place_of, list_in}
-use Rattle.far_scopes.specs.Movement.{Movement, has_copy, word_of, entry_of, dirty, is_local, ticket_of, list_of, AreClean, IsTracked, AreTracked}
-use Rattle.far_scopes.proofs.WordPlaces.{some-true}
+use Rattle.far_scopes.specs.Memory.{list_in}
+use Rattle.far_scopes.specs.Movement.{Movement, has_copy, word_of, entry_of, dirty, ticket_of, list_of, AreClean, IsTracked, AreTracked}
 use Rattle.far_scopes.proofs.Places.{cases_option}
 use Rattle.far_scopes.proofs.Departures.{word-there}
 use Rattle.far_scopes.proofs.Arrivals.{not-within}
@@ -47,10 +46,6 @@ module _ {X K : Type 0} (meaning : List ℕ → List X) (content : K → List �
 
   of-entry : IsTracked meaning content spelled m.changes m.leavings word-was.0 (list_in m.memory o) entry
   of-entry = tracked.each o word-was.0 entry word-was.1 was
-
-  -- an object whose word says that there is a far copy has a ticket
-  pub ticket-there : (word : Pointer) → word_of m o ≡ Some word → has_copy word ≡ true → IsSome (ticket_of m o)
-  ticket-there word is copy = rw ticket-was (some-true entry.ticket (sym (tracked.each o word entry is was).copy ∙ copy))
 
   -- what a ticket means is spelled by its content
   pub far-spelled : (ticket : K) → ticket_of m o ≡ Some ticket → spelled (meaning (content ticket)) (content ticket)

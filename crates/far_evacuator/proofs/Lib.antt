@@ -1,3 +1,2 @@
-pub mod TicketLaws
 pub mod CopyLaws
 pub mod CommitLaws

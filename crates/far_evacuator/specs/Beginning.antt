@@ -1,13 +1,14 @@
 -- Jobs as they are begun.
-use Rattle.std.specs.Prelude.{◌≡◌, ℕ, ◌<◌, true, false, List, [], ◌∷◌, length, Option, Some, option_map}
+use Rattle.std.specs.Prelude.{◌≡◌, ℕ, ◌<◌, true, false, List, [], ◌∷◌, length, Option, Some, option_map, is_none}
 use Rattle.far_types.specs.declared.refusal.Refusal.{Refusal}
 use Rattle.far_types.specs.declared.refusal.Refusal.TheVariants as refusal
 use Rattle.far_types.specs.FirstOf.{first_of}
 use Rattle.far_scopes.specs.Memory.{list_in}
 use Rattle.far_scopes.specs.Movement.{Movement, is_local, dirty, version_of, leavings_of, ticket_of}
 use Rattle.far_scopes.specs.Refusing.{lend_refusal}
+use Rattle.far_scopes.specs.Coldest.{coldest}
 use Rattle.far_evacuator.specs.declared.beginning.Want.{Want}
-use Rattle.far_evacuator.specs.declared.beginning.Want.TheVariants.{Object}
+use Rattle.far_evacuator.specs.declared.beginning.Want.TheVariants.{Object, Coldest}
 use Rattle.far_evacuator.specs.declared.evacuation.EvacForm.{EvacForm}
 use Rattle.far_evacuator.specs.declared.evacuation.EvacForm.TheVariants.{Dirty, Clean}
 use Rattle.far_evacuator.specs.Jobs.{Evacuation, Fetch}
@@ -30,14 +31,17 @@ module _ {X K : Type 0} (m : Movement X K) where
   -- the number of an object that is named is in use
   abbrev pub IsWanted : Want → Type 0
   IsWanted (Object o) = o < length m.entries
+  IsWanted Coldest = Unit {0}
 
   -- the object that an evacuation would take
   abbrev pub taken : Want → Option ℕ
   taken (Object o) = Some o
+  taken Coldest = coldest m
 
-  -- why none is begun: the object that is named is away
+  -- why none is begun: the object that is named is away, or none is the coldest
   abbrev pub begin_refusal : Want → Option Refusal
   begin_refusal (Object o) = lend_refusal m o
+  begin_refusal Coldest = first_of ((is_none (coldest m), refusal.StaleJob) ∷ [])
 
   -- a fetch of object o, begun now
   pub record IsFetch (o : ℕ) (job : Fetch K) : Type 0 where

@@ -1,8 +1,7 @@
 -- Jobs: what they rest on and what they hold.
-use Rattle.std.specs.Prelude.{◌≡◌, ℕ, List, IfSome, Result}
+use Rattle.std.specs.Prelude.{◌≡◌, ℕ, List, Result}
 use Rattle.std.specs.declared.result.Result.TheVariants.{Ok, Err}
 use Rattle.far_types.specs.declared.refusal.Refusal.{Refusal}
-use Rattle.far_scopes.specs.Movement.{Movement, ticket_of}
 use Rattle.far_evacuator.specs.declared.evacuation.EvacForm.{EvacForm}
 use Rattle.far_evacuator.specs.declared.evacuation.EvacForm.TheVariants.{Dirty, Clean}
 
@@ -53,10 +52,6 @@ module _ {K : Type 0} where
   abbrev pub IsFormOf : (K → List ℕ → Type 0) → List ℕ → EvacForm K → Type 0
   IsFormOf is_of name (Dirty bytes) = Unit {0}
   IsFormOf is_of name (Clean own) = is_of own name
-
-  -- the tickets of objects are of the store of this name
-  abbrev pub AreHere : {X : Type 0} → (K → List ℕ → Type 0) → List ℕ → Movement X K → Type 0
-  AreHere is_of name m = (o : ℕ) → IfSome (ticket_of m o) (λ ticket. is_of ticket name)
 
 -- how a call came out that hands its job back where it is refused
 abbrev pub outcome : {A J : Type 0} → Result A (Refusal × J) → Result A Refusal

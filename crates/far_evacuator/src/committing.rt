@@ -2,9 +2,8 @@
 ghost use Rattle.std.specs.Prelude.{◌≡◌, ◌≢◌, ℕ, ◌<◌, ◌↔◌, ◌⊎◌, length, IsTrue, OnOk, OnErr, IfErr, IsErrOf, IsSomeAnd};
 ghost use Rattle.far_codec.specs.Spelling.{IsSpelled};
 ghost use Rattle.far_scopes.specs.Memory.{list_in};
-ghost use Rattle.far_scopes.specs.Movement.{list_of, pins_of, AreClean, AreTracked};
+ghost use Rattle.far_scopes.specs.Movement.{ChangesObject, list_of, pins_of, AreClean, AreHere, AreTracked};
 ghost use Rattle.far_scopes.specs.Effects.{departed};
-ghost use Rattle.far_evacuator.specs.Jobs.{AreHere};
 ghost use Rattle.far_evacuator.specs.Acceptance.{IsCommittable, IsStill};
 
 use crate::evacuation::{Carried, EvacForm};
@@ -33,6 +32,7 @@ pub fn commit<T: Elem, S: FarRead>(
     ensures pinned { IsErrOf result Refusal.Pinned ↔ (IsCommittable S.number_of T.spelling objects.old carried.now × (pins_of objects.old carried.now.job.object ≢ 0)) }
     ensures refused { IfErr result (λ e. (e ≡ Refusal.StaleJob) ⊎ (e ≡ Refusal.Pinned)) }
     ensures lists { (p : ℕ) → list_of T.meaning S.content objects.new p ≡ list_of T.meaning S.content objects.old p }
+    ensures others { ChangesObject objects.old objects.new carried.now.job.object }
     ensures clean { AreClean T.meaning S.content objects.new }
     ensures here { AreHere S.is_of (S.name store.now) objects.new }
     ensures err { OnErr result (objects.new ≡ objects.old) }

@@ -2,9 +2,8 @@
 ghost use Rattle.std.specs.Prelude.{◌≡◌, ℕ, ◌<◌, ◌↔◌, ◌⊎◌, length, false, Some, IsTrue, OnOk, OnErr, IfErr, IsErrOf, IsSomeAnd, option_map};
 ghost use Rattle.far_log.specs.Room.{fits_in};
 ghost use Rattle.far_codec.specs.Spelling.{IsSpelled};
-ghost use Rattle.far_scopes.specs.Movement.{list_of, ticket_of, AreClean};
+ghost use Rattle.far_scopes.specs.Movement.{ChangesObject, list_of, ticket_of, AreClean, AreHere};
 ghost use Rattle.far_scopes.specs.Effects.{arrived};
-ghost use Rattle.far_evacuator.specs.Jobs.{AreHere};
 ghost use Rattle.far_evacuator.specs.Acceptance.{IsInstallable};
 
 use crate::fetching::Fetched;
@@ -35,6 +34,7 @@ pub fn install<T: Elem, S: FarRead>(
     ensures full { IsErrOf result Refusal.RegionFull ↔ (IsInstallable S.number_of (IsSpelled T.in_range T.has_spelling T.spelling) objects.old fetched.now × IsSomeAnd (list_of T.meaning S.content objects.old fetched.now.job.object) (λ list. fits_in objects.old.memory.room (length list) ≡ false)) }
     ensures refused { IfErr result (λ e. (e ≡ Refusal.StaleJob) ⊎ ((e ≡ Refusal.RegionFull) ⊎ (e ≡ Refusal.NoMemory))) }
     ensures lists { (p : ℕ) → list_of T.meaning S.content objects.new p ≡ list_of T.meaning S.content objects.old p }
+    ensures others { ChangesObject objects.old objects.new fetched.now.job.object }
     ensures clean { AreClean T.meaning S.content objects.old → AreClean T.meaning S.content objects.new }
     ensures here { AreHere S.is_of (S.name store.now) objects.new }
     ensures err { OnErr result (objects.new ≡ objects.old) }

@@ -1,6 +1,7 @@
 // The tickets of objects.
-ghost use Rattle.std.specs.Prelude.{◌≡◌, ◌<◌, ◌↔◌, length, Some, IsSome, IsTrue, IfSome, option_map};
-ghost use Rattle.far_scopes.specs.Movement.{ticket_of};
+ghost use Rattle.std.specs.Prelude.{◌≡◌, ◌<◌, ◌↔◌, length, true, false, Some, IsTrue, IfSome, option_map};
+ghost use Rattle.std.specs.Option.{option_map_or};
+ghost use Rattle.far_scopes.specs.Movement.{has_copy, word_of, ticket_of};
 ghost use Rattle.far_evacuator.specs.Acceptance.{IsUnder};
 
 use far_codec::Elem;
@@ -29,7 +30,7 @@ pub(crate) fn is_under<T: Elem, S: FarRead>(
 /// The ticket of an object that has one. Takes no memory.
 pub(crate) fn again_of<T: Elem, S: FarRead>(objects: &Objects<T, S>, store: &S, o: u32) -> S::Ticket
     requires within { o < length objects.now.entries }
-    requires some { IsSome (ticket_of objects.now o) }
+    requires copy { option_map_or has_copy (word_of objects.now o) false ≡ true }
     requires here { IfSome (ticket_of objects.now o) (λ own. S.is_of own (S.name store.now)) }
     ensures ticket { ticket_of objects.now o ≡ Some result }
     ensures here { S.is_of result (S.name store.now) }

@@ -1,4 +1,4 @@
-use Rattle.std.proofs.Common.{◌≡◌, false, sym, ap, subst, ◌∙◌}
+use Rattle.std.proofs.Common.{false, sym, ap, subst, ◌∙◌}
 use Rattle.std.specs.Option.{option_map_or}
 use Rattle.far_pointer.specs.Layout.{is_dirty}
 use Rattle.far_codec.specs.Spelling.{IsSpelled}

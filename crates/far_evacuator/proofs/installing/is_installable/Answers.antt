@@ -1,5 +1,4 @@
-use Rattle.std.proofs.Common.{◌≡◌, ◌<◌, length, Some, refl, sym, ap, subst, ◌∙◌, arith}
-use Rattle.far_codec.specs.Spelling.{IsSpelled}
+use Rattle.std.proofs.Common.{◌<◌, length, Some, sym, ap, ◌∙◌, arith}
 use Rattle.far_evacuator.proofs.CopyLaws.{away-form}
 use Rattle.far_evacuator.proofs.installing.is_installable.Goals as goal
 
