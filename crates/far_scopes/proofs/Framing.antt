@@ -47,7 +47,7 @@ ticket-with {K = K} entries o change same = elim (cases_option (slice_get entrie
   | inr (entry, is) ↦ rw is (ap (option_and_then (λ (e : Entry K). e.ticket)) (slice_get-set_same entries o (change entry) (slice_get_within entries o entry is)) ∙ same entry)
 ]
 
-if-either : {A : Type 0} (P : A → Type 0) (b : Bool) (x y : A) → P x → P y → P (if b then x else y)
+pub if-either : {A : Type 0} (P : A → Type 0) (b : Bool) (x y : A) → P x → P y → P (if b then x else y)
 if-either P true x y p q = p
 if-either P false x y p q = q
 

@@ -21,6 +21,7 @@ pub mod Listed
 pub mod Written
 pub mod Comings
 pub mod Framing
+pub mod ListsKept
 pub mod Unmade
 pub mod Departures
 pub mod Arrivals

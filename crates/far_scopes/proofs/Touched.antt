@@ -78,6 +78,9 @@ module _ {X K : Type 0} (meaning : List ℕ → List X) (content : K → List �
       ordered = λ p. has-used m.order o p ∙ tracked.ordered p ∙ sym (ap is_some (places-kept m.memory o heat at-hot p));
     }
 
+    pub lists-touched : (p : ℕ) → list_of meaning content touched_m p ≡ list_of meaning content m p
+    lists-touched p = rw (lists p) refl
+
     dirty-touched : dirty touched_m o ≡ dirty m o
     dirty-touched = elim (cases_option (slice_get m.memory.words o)) [
       | inl none ↦ rw none (ap (λ w. option_map_or is_dirty w false) none)

@@ -2,7 +2,7 @@
 ghost use Rattle.std.specs.Prelude.{◌≡◌, ◌<◌, List, ℕ, length, OnOk, OnErr};
 ghost use Rattle.far_scopes.specs.Refusing.{refusal_in, pin_refusal, unpin_refusal};
 ghost use Rattle.far_scopes.specs.Effects.{pinned, unpinned, touched};
-ghost use Rattle.far_scopes.specs.Movement.{AreClean, AreHere, ChangesObject};
+ghost use Rattle.far_scopes.specs.Movement.{list_of, AreClean, AreHere, ChangesObject};
 
 use super::Objects;
 use far_codec::Elem;
@@ -17,6 +17,7 @@ impl<T: Elem, S: FarRead> Objects<T, S> {
     pub fn pin(&mut self, o: u32) -> Result<(), Refusal>
         requires { o < length self.old.entries }
         ensures pinned { OnOk result (self.new ≡ pinned self.old o) }
+        ensures lists { (p : ℕ) → list_of T.meaning S.content self.new p ≡ list_of T.meaning S.content self.old p }
         ensures clean { AreClean T.meaning S.content self.old → AreClean T.meaning S.content self.new }
         ensures others { OnOk result (ChangesObject self.old self.new o) }
         ensures store { (name : List ℕ) → AreHere S.is_of name self.old → AreHere S.is_of name self.new }
@@ -40,6 +41,7 @@ impl<T: Elem, S: FarRead> Objects<T, S> {
     pub fn unpin(&mut self, o: u32) -> Result<(), Refusal>
         requires { o < length self.old.entries }
         ensures unpinned { OnOk result (self.new ≡ unpinned self.old o) }
+        ensures lists { (p : ℕ) → list_of T.meaning S.content self.new p ≡ list_of T.meaning S.content self.old p }
         ensures clean { AreClean T.meaning S.content self.old → AreClean T.meaning S.content self.new }
         ensures others { OnOk result (ChangesObject self.old self.new o) }
         ensures store { (name : List ℕ) → AreHere S.is_of name self.old → AreHere S.is_of name self.new }
@@ -58,6 +60,7 @@ impl<T: Elem, S: FarRead> Objects<T, S> {
     pub fn touch(&mut self, o: u32)
         requires { o < length self.old.entries }
         ensures touched { self.new ≡ touched self.old o }
+        ensures lists { (p : ℕ) → list_of T.meaning S.content self.new p ≡ list_of T.meaning S.content self.old p }
         ensures clean { AreClean T.meaning S.content self.old → AreClean T.meaning S.content self.new }
         ensures others { ChangesObject self.old self.new o }
         ensures store { (name : List ℕ) → AreHere S.is_of name self.old → AreHere S.is_of name self.new }

@@ -1,6 +1,6 @@
 // Objects that are pinned together.
 ghost use Rattle.std.specs.Prelude.{◌≡◌, ◌⊎◌, ◌==◌, not, false, IsTrue, ◌<◌, ◌≤◌, ◌^◌, ℕ, List, length, take, All, Some, None, OnOk, OnErr, IfOk, IfErr};
-ghost use Rattle.far_scopes.specs.Movement.{Movement, AreClean, pins_of, AreHere};
+ghost use Rattle.far_scopes.specs.Movement.{Movement, list_of, AreClean, pins_of, AreHere};
 ghost use Rattle.far_scopes.specs.Effects.{unpinned};
 ghost use Rattle.far_scopes.specs.Refusing.{refusal_in};
 ghost use Rattle.far_scopes.specs.Entering.{pinned_all, first_absent, enter_refusal, pins_overflow, closed};
@@ -23,6 +23,7 @@ impl<T: Elem, S: FarRead> Objects<T, S> {
         requires few { length objects.now < 2 ^ 32 }
         ensures scope { IfOk result (λ scope. scope ≡ objects.now) }
         ensures pinned { OnOk result (self.new ≡ pinned_all self.old objects.now) }
+        ensures lists { (p : ℕ) → list_of T.meaning S.content self.new p ≡ list_of T.meaning S.content self.old p }
         ensures clean { AreClean T.meaning S.content self.old → AreClean T.meaning S.content self.new }
         ensures store { (name : List ℕ) → AreHere S.is_of name self.old → AreHere S.is_of name self.new }
         ensures free { OnOk result (enter_refusal self.old objects.now ≡ None) }
@@ -101,6 +102,7 @@ impl<T: Elem, S: FarRead> Objects<T, S> {
         requires { All (λ o. o < length self.old.entries) scope }
         ensures closed { self.new ≡ (closed self.old scope).0 }
         ensures count { result ≡ (closed self.old scope).1 }
+        ensures lists { (p : ℕ) → list_of T.meaning S.content self.new p ≡ list_of T.meaning S.content self.old p }
         ensures clean { AreClean T.meaning S.content self.old → AreClean T.meaning S.content self.new }
         ensures store { (name : List ℕ) → AreHere S.is_of name self.old → AreHere S.is_of name self.new }
     {

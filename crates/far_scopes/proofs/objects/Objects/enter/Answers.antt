@@ -1,7 +1,8 @@
-use Rattle.std.proofs.Common.{◌<◌, get_or, length, sym, ap, subst, ◌∙◌}
+use Rattle.std.proofs.Common.{◌≡◌, ◌<◌, get_or, length, sym, ap, subst, ◌∙◌}
 use Rattle.far_scopes.proofs.Pins.{length-pinned_all}
-use Rattle.far_scopes.specs.Movement.{AreHere}
+use Rattle.far_scopes.specs.Movement.{list_of, AreHere}
 use Rattle.far_scopes.proofs.Framing.{here-pinned_all}
+use Rattle.far_scopes.proofs.ListsKept.{lists-pinned_all}
 use Rattle.far_scopes.proofs.objects.Objects.enter.Goals as goal
 
 pub unpin_all-requires-after_bounds : goal.unpin_all-requires-after_bounds
@@ -10,3 +11,6 @@ unpin_all-requires-after_bounds g c =
 
 pub returns-in-Ok-clause-store : goal.returns-in-Ok-clause-store
 returns-in-Ok-clause-store g c = λ name here. subst (AreHere g.S.FarRead.is_of name) (sym c.in_ok-pin_all.ensures.pinned) (here-pinned_all g.S.FarRead.is_of name c.args.self.now c.args.objects.now here)
+
+pub returns-in-Ok-clause-lists : goal.returns-in-Ok-clause-lists
+returns-in-Ok-clause-lists g c = λ p. subst (λ m. list_of g.T.Elem.meaning g.S.FarRead.content m p ≡ list_of g.T.Elem.meaning g.S.FarRead.content c.args.self.now p) (sym c.in_ok-pin_all.ensures.pinned) (lists-pinned_all g.T.Elem.meaning g.S.FarRead.content c.args.self.now c.args.objects.now p)

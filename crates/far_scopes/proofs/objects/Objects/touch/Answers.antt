@@ -2,7 +2,7 @@ use Rattle.std.proofs.Common.{◌≡◌, ℕ, sym, subst}
 use Rattle.far_scopes.specs.Memory.{list_in}
 use Rattle.far_scopes.specs.Placing.{heated}
 use Rattle.far_scopes.specs.Movement.{AreClean}
-use Rattle.far_scopes.proofs.Touched.{tracked-touched, clean-touched}
+use Rattle.far_scopes.proofs.Touched.{tracked-touched, lists-touched, clean-touched}
 use Rattle.far_scopes.proofs.objects.Objects.touch.Goals as goal
 
 pub invariant_of-self : goal.invariant_of-self
@@ -14,3 +14,8 @@ pub returns-clause-clean : goal.returns-clause-clean
 returns-clause-clean g c =
     let lists : (p : ℕ) → list_in (heated c.self.inside.memory c.args.o) p ≡ list_in c.self.inside.memory p = subst (λ memory. (p : ℕ) → list_in memory p ≡ list_in c.self.inside.memory p) c.heat.ensures.heated c.heat.ensures.lists in
     λ clean. rw c.heat.ensures.heated (clean-touched g.T.Elem.meaning g.S.FarRead.content _ _ c.self.invariant c.args.o lists (subst (AreClean g.T.Elem.meaning g.S.FarRead.content) (sym c.self.view_is) clean))
+
+pub returns-clause-lists : goal.returns-clause-lists
+returns-clause-lists g c =
+    let lists : (p : ℕ) → list_in (heated c.self.inside.memory c.args.o) p ≡ list_in c.self.inside.memory p = subst (λ memory. (p : ℕ) → list_in memory p ≡ list_in c.self.inside.memory p) c.heat.ensures.heated c.heat.ensures.lists in
+    λ p. rw (← c.self.view_is, c.heat.ensures.heated) (lists-touched g.T.Elem.meaning g.S.FarRead.content _ _ c.self.invariant c.args.o lists p)

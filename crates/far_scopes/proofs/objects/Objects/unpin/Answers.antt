@@ -1,8 +1,9 @@
 use Rattle.std.proofs.Common.{◌≡◌, ◌<◌, length, refl, sym, subst}
 use Rattle.std.proofs.lemmas.Bool.{ne_eqb}
-use Rattle.far_scopes.specs.Movement.{pins_of, AreClean}
+use Rattle.far_scopes.specs.Movement.{pins_of, list_of, AreClean}
 use Rattle.far_scopes.proofs.WordPlaces.{word-read}
 use Rattle.far_scopes.proofs.Transitions.{tracked-recorded, tracked-pins, clean-recorded}
+use Rattle.far_scopes.proofs.ListsKept.{lists-unpinned}
 use Rattle.far_scopes.proofs.objects.Objects.unpin.Goals as goal
 
 pub invariant_of-self-2 : goal.invariant_of-self-2
@@ -30,3 +31,7 @@ returns-clause-refused g c =
     let was = word-read c.self.inside.entries.items c.args.o c.index_mut-entry.result.now within c.index_mut-entry.ensures.value in
     let pins : pins_of c.args.self.now c.args.o ≡ c.index_mut-entry.result.now.pins = rw (← c.self.view_is, was) refl in
     rw (pins, ne_eqb c.index_mut-entry.result.now.pins 0 c.if-entry-eq0.false) refl
+
+pub returns-clause-lists : goal.returns-clause-lists
+returns-clause-lists g c =
+    λ p. subst (λ m. list_of g.T.Elem.meaning g.S.FarRead.content m p ≡ list_of g.T.Elem.meaning g.S.FarRead.content c.args.self.now p) (sym (returns-clause-unpinned g c)) (lists-unpinned g.T.Elem.meaning g.S.FarRead.content c.args.self.now c.args.o p)
