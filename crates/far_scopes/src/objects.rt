@@ -11,6 +11,7 @@ mod compacting;
 mod lending;
 mod moving;
 mod pins;
+mod readers;
 mod renewing;
 mod replacing;
 mod scopes;

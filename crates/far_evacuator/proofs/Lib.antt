@@ -1,0 +1,2 @@
+pub mod CopyLaws
+pub mod CommitLaws

@@ -1,0 +1,42 @@
+-- When a carried job is accepted.
+use Rattle.std.specs.Prelude.{◌≡◌, ℕ, ◌<◌, true, false, List, length, Some, option_map, IsSomeAnd}
+use Rattle.far_pointer.specs.declared.pointer.Pointer.TheVariants.{Remote}
+use Rattle.far_scopes.specs.Memory.{list_in}
+use Rattle.far_scopes.specs.Movement.{Movement, word_of, entry_of, is_local, dirty, version_of, leavings_of, ticket_of}
+use Rattle.far_evacuator.specs.declared.evacuation.EvacForm.{EvacForm}
+use Rattle.far_evacuator.specs.declared.evacuation.EvacForm.TheVariants.{Dirty, Clean}
+use Rattle.far_evacuator.specs.Jobs.{CarriedEvacuation, CarriedFetch}
+
+-- the bytes are a far form of the kind and the length of object o
+abbrev pub IsFarForm : {X K : Type 0} → (List X → List ℕ → Type 0) → Movement X K → ℕ → List ℕ → Type 0
+IsFarForm {X} spelled m o bytes = IsSomeAnd (entry_of m o) (λ entry. (list : List X) × (length list ≡ entry.len) × spelled list bytes)
+
+module _ {X K : Type 0} (number_of : K → ℕ) where
+  -- the newest far copy of object o is under the number of this ticket
+  abbrev pub IsUnder : Movement X K → ℕ → K → Type 0
+  IsUnder m o ticket = option_map number_of (ticket_of m o) ≡ Some (number_of ticket)
+
+  module _ (spelling : List X → List ℕ) (m : Movement X K) where
+    -- object o is what was carried: the bytes spell its list, or, for a job begun on a clean object, it is clean under the
+    -- same ticket number
+    abbrev pub IsStill : ℕ → K → EvacForm K → Type 0
+    IsStill o ticket (Dirty bytes) = option_map spelling (list_in m.memory o) ≡ Some bytes
+    IsStill o ticket (Clean own) = (dirty m o ≡ false) × IsUnder m o ticket
+
+    -- a carried evacuation is accepted where its object has no pin
+    pub record IsCommittable (carried : CarriedEvacuation K) : Type 0 where
+      pub number : carried.job.number ≡ m.number
+      pub local : is_local m carried.job.object ≡ true
+      pub version : version_of m carried.job.object ≡ carried.job.version
+      pub leavings : leavings_of m carried.job.object ≡ carried.job.leavings
+      pub left : leavings_of m carried.job.object < m.leavings
+      pub still : IsStill carried.job.object carried.ticket carried.job.form
+
+  module _ (spelled : List X → List ℕ → Type 0) (m : Movement X K) where
+    -- a carried fetch is accepted where there is room
+    pub record IsInstallable (fetched : CarriedFetch K) : Type 0 where
+      pub number : fetched.job.number ≡ m.number
+      pub away : word_of m fetched.job.object ≡ Some Remote
+      pub leavings : leavings_of m fetched.job.object ≡ fetched.job.leavings
+      pub ticket : IsUnder m fetched.job.object fetched.job.ticket
+      pub form : IsFarForm spelled m fetched.job.object fetched.bytes

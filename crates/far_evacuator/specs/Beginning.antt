@@ -1,0 +1,55 @@
+-- Jobs as they are begun.
+use Rattle.std.specs.Prelude.{◌≡◌, ℕ, ◌<◌, true, false, List, [], ◌∷◌, length, Option, Some, option_map, is_none}
+use Rattle.far_types.specs.declared.refusal.Refusal.{Refusal}
+use Rattle.far_types.specs.declared.refusal.Refusal.TheVariants as refusal
+use Rattle.far_types.specs.FirstOf.{first_of}
+use Rattle.far_scopes.specs.Memory.{list_in}
+use Rattle.far_scopes.specs.Movement.{Movement, is_local, dirty, version_of, leavings_of, ticket_of}
+use Rattle.far_scopes.specs.Refusing.{lend_refusal}
+use Rattle.far_scopes.specs.Coldest.{coldest}
+use Rattle.far_evacuator.specs.declared.beginning.Want.{Want}
+use Rattle.far_evacuator.specs.declared.beginning.Want.TheVariants.{Object, Coldest}
+use Rattle.far_evacuator.specs.declared.evacuation.EvacForm.{EvacForm}
+use Rattle.far_evacuator.specs.declared.evacuation.EvacForm.TheVariants.{Dirty, Clean}
+use Rattle.far_evacuator.specs.Jobs.{Evacuation, Fetch}
+
+module _ {X K : Type 0} (spelling : List X → List ℕ) (m : Movement X K) (o : ℕ) where
+  -- the form of object o: the spelling of its list where it is dirty, and its ticket where it is clean
+  abbrev pub IsForm : EvacForm K → Type 0
+  IsForm (Dirty bytes) = (dirty m o ≡ true) × (option_map spelling (list_in m.memory o) ≡ Some bytes)
+  IsForm (Clean ticket) = (dirty m o ≡ false) × (ticket_of m o ≡ Some ticket)
+
+  -- an evacuation of object o, begun now
+  pub record IsBegun (job : Evacuation K) : Type 0 where
+    pub number : job.number ≡ m.number
+    pub object : job.object ≡ o
+    pub version : job.version ≡ version_of m o
+    pub leavings : job.leavings ≡ leavings_of m o
+    pub form : IsForm job.form
+
+module _ {X K : Type 0} (m : Movement X K) where
+  -- the number of an object that is named is in use
+  abbrev pub IsWanted : Want → Type 0
+  IsWanted (Object o) = o < length m.entries
+  IsWanted Coldest = Unit {0}
+
+  -- the object that an evacuation would take
+  abbrev pub taken : Want → Option ℕ
+  taken (Object o) = Some o
+  taken Coldest = coldest m
+
+  -- why none is begun: the object that is named is away, or none is the coldest
+  abbrev pub begin_refusal : Want → Option Refusal
+  begin_refusal (Object o) = lend_refusal m o
+  begin_refusal Coldest = first_of ((is_none (coldest m), refusal.StaleJob) ∷ [])
+
+  -- a fetch of object o, begun now
+  pub record IsFetch (o : ℕ) (job : Fetch K) : Type 0 where
+    pub number : job.number ≡ m.number
+    pub object : job.object ≡ o
+    pub leavings : job.leavings ≡ leavings_of m o
+    pub ticket : ticket_of m o ≡ Some job.ticket
+
+  -- an object that is local is not fetched
+  abbrev pub fetch_refusal : ℕ → Option Refusal
+  fetch_refusal o = first_of ((is_local m o, refusal.StaleJob) ∷ [])

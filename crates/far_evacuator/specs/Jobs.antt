@@ -1,0 +1,59 @@
+-- Jobs: what they rest on and what they hold.
+use Rattle.std.specs.Prelude.{◌≡◌, ℕ, List, Result}
+use Rattle.std.specs.declared.result.Result.TheVariants.{Ok, Err}
+use Rattle.far_types.specs.declared.refusal.Refusal.{Refusal}
+use Rattle.far_evacuator.specs.declared.evacuation.EvacForm.{EvacForm}
+use Rattle.far_evacuator.specs.declared.evacuation.EvacForm.TheVariants.{Dirty, Clean}
+
+-- an evacuation as it was begun: the number of the frame, the object, how often that had been written and away, and what
+-- its far form is taken from
+pub record Evacuation (K : Type 0) : Type 0 where
+  pub number : ℕ
+  pub object : ℕ
+  pub version : ℕ
+  pub leavings : ℕ
+  pub form : EvacForm K
+
+-- an evacuation that was carried, and the ticket of its far form
+pub record CarriedEvacuation (K : Type 0) : Type 0 where
+  pub job : Evacuation K
+  pub ticket : K
+
+-- a fetch as it was begun: the number of the frame, the object, how often that had been away, and its ticket
+pub record Fetch (K : Type 0) : Type 0 where
+  pub number : ℕ
+  pub object : ℕ
+  pub leavings : ℕ
+  pub ticket : K
+
+-- a fetch that was carried, and the bytes that were read
+pub record CarriedFetch (K : Type 0) : Type 0 where
+  pub job : Fetch K
+  pub bytes : List ℕ
+
+-- the bytes of a form that is to be put spell some list
+abbrev pub IsSpelledForm : {X K : Type 0} → (List X → List ℕ → Type 0) → EvacForm K → Type 0
+IsSpelledForm {X} spelled (Dirty bytes) = (list : List X) × spelled list bytes
+IsSpelledForm spelled (Clean ticket) = Unit {0}
+
+module _ {K : Type 0} where
+  -- the form is to be put
+  abbrev pub IsDirtyForm : EvacForm K → Type 0
+  IsDirtyForm (Dirty bytes) = Unit {0}
+  IsDirtyForm (Clean ticket) = ⊥
+
+  -- the far store has the form under this ticket: the bytes that were put are its content, or it is the ticket that the
+  -- object had
+  abbrev pub IsFormTicket : (K → List ℕ) → EvacForm K → K → Type 0
+  IsFormTicket content (Dirty bytes) ticket = content ticket ≡ bytes
+  IsFormTicket content (Clean own) ticket = ticket ≡ own
+
+  -- the ticket that the object had is of the store of this name
+  abbrev pub IsFormOf : (K → List ℕ → Type 0) → List ℕ → EvacForm K → Type 0
+  IsFormOf is_of name (Dirty bytes) = Unit {0}
+  IsFormOf is_of name (Clean own) = is_of own name
+
+-- how a call came out that hands its job back where it is refused
+abbrev pub outcome : {A J : Type 0} → Result A (Refusal × J) → Result A Refusal
+outcome (Ok done) = Ok done
+outcome (Err refused) = Err refused.0

@@ -1,0 +1,111 @@
+// How jobs begin.
+ghost use Rattle.std.specs.Prelude.{◌≡◌, ◌<◌, ◌⊎◌, length, None, Some, OnOk, IfOk, IfErr, IfSome, IsSomeAnd};
+ghost use Rattle.far_codec.specs.Spelling.{IsSpelled};
+ghost use Rattle.far_scopes.specs.Memory.{list_in};
+ghost use Rattle.far_scopes.specs.Movement.{AreHere, AreTracked};
+ghost use Rattle.far_scopes.specs.Refusing.{refusal_in, lend_refusal};
+ghost use Rattle.far_evacuator.specs.Jobs.{IsFormOf};
+ghost use Rattle.far_evacuator.specs.Beginning.{IsWanted, taken, begin_refusal, IsBegun, IsFetch, fetch_refusal};
+
+use crate::evacuation::{EvacForm, EvacJob};
+use crate::far_form::FarForm;
+use crate::fetching::FetchJob;
+use crate::tickets::again_of;
+use far_codec::Elem;
+use far_pointer::Pointer;
+use far_scopes::Objects;
+use far_store::FarRead;
+use far_types::Refusal;
+use std::alloc::Global;
+use std::marker::PhantomData;
+
+/// Which object is to go away.
+#[derive(Clone, Copy, Debug, PartialEq, Eq)]
+pub enum Want {
+    /// The one of this number.
+    Object(u32),
+    /// The one that goes away first: the last in the order of use without pins, of those not hot where there is one.
+    Coldest,
+}
+
+/// Begins to send an object away: takes its far form where it is dirty, and another of its ticket where it is clean. The
+/// object stays as it is.
+///
+/// Refused with `StaleJob` (20) exactly where the coldest object is wanted and there is none; with `Absent` (16), which
+/// names the object, exactly where one is named that is away; else with `NoMemory` (1) alone.
+pub fn begin_evac<T: Elem, S: FarRead>(
+    alloc: Global,
+    objects: &Objects<T, S>,
+    store: &S,
+    want: Want,
+) -> Result<EvacJob<T, S>, Refusal>
+    requires within { IsWanted objects.now want }
+    requires here { AreHere S.is_of (S.name store.now) objects.now }
+    requires spelled { IfSome (taken objects.now want) (λ o. IfSome (list_in objects.now.memory o) T.has_spelling) }
+    ensures begun { IfOk result (λ job. IsSomeAnd (taken objects.now want) (λ o. IsBegun T.spelling objects.now o job)) }
+    ensures here { IfOk result (λ job. IsFormOf S.is_of (S.name store.now) job.form) }
+    ensures free { OnOk result (begin_refusal objects.now want ≡ None) }
+    ensures refused { IfErr result (λ e. (begin_refusal objects.now want ≡ Some e) ⊎ ((begin_refusal objects.now want ≡ None) × (e ≡ Refusal.NoMemory))) }
+{
+    let number = objects.number();
+    let object = chosen(objects, want)?;
+    let list = objects.lend(object)?;
+    let form = if objects.word(object).dirty() {
+        EvacForm::Dirty(FarForm {
+            bytes: T::spell(alloc, list)?,
+        })
+    } else {
+        EvacForm::Clean(again_of(objects, store, object))
+    };
+    Ok(EvacJob {
+        number,
+        object,
+        version: objects.version(object),
+        leavings: objects.leavings(object),
+        form,
+        kind: PhantomData,
+    })
+}
+
+// The number of the object that is wanted.
+fn chosen<T: Elem, S: FarRead>(objects: &Objects<T, S>, want: Want) -> Result<u32, Refusal>
+    requires within { IsWanted objects.now want }
+    requires tracked { AreTracked T.meaning S.content (IsSpelled T.in_range T.has_spelling T.spelling) objects.now }
+    ensures taken { IfOk result (λ o. taken objects.now want ≡ Some o) }
+    ensures within { IfOk result (λ o. o < length objects.now.entries) }
+    ensures local { IfOk result (λ o. begin_refusal objects.now want ≡ lend_refusal objects.now o) }
+    ensures refused { IfErr result (λ e. (begin_refusal objects.now want ≡ Some e)) }
+{
+    match want {
+        Want::Object(o) => Ok(o),
+        Want::Coldest => match objects.coldest() {
+            Some(o) => Ok(o),
+            None => Err(Refusal::StaleJob),
+        },
+    }
+}
+
+/// Begins to bring an object back. Takes no memory.
+///
+/// Refused with `StaleJob` (20) exactly where the object is local.
+pub fn begin_fetch<T: Elem, S: FarRead>(
+    objects: &Objects<T, S>,
+    store: &S,
+    o: u32,
+) -> Result<FetchJob<S>, Refusal>
+    requires within { o < length objects.now.entries }
+    requires here { AreHere S.is_of (S.name store.now) objects.now }
+    ensures begun { IfOk result (λ job. IsFetch objects.now o job) }
+    ensures here { IfOk result (λ job. S.is_of job.ticket (S.name store.now)) }
+    ensures refused { refusal_in result ≡ fetch_refusal objects.now o }
+{
+    let Pointer::Remote = objects.word(o).read() else {
+        return Err(Refusal::StaleJob);
+    };
+    Ok(FetchJob {
+        number: objects.number(),
+        object: o,
+        leavings: objects.leavings(o),
+        ticket: again_of(objects, store, o),
+    })
+}

@@ -1,0 +1,103 @@
+// Evacuations that end.
+ghost use Rattle.std.specs.Prelude.{◌≡◌, ◌≢◌, ℕ, ◌<◌, ◌↔◌, ◌⊎◌, length, IsTrue, OnOk, OnErr, IfErr, IsErrOf, IsSomeAnd};
+ghost use Rattle.far_codec.specs.Spelling.{IsSpelled};
+ghost use Rattle.far_scopes.specs.Memory.{list_in};
+ghost use Rattle.far_scopes.specs.Movement.{ChangesObject, list_of, pins_of, AreClean, AreHere, AreTracked};
+ghost use Rattle.far_scopes.specs.Effects.{departed};
+ghost use Rattle.far_evacuator.specs.Acceptance.{IsCommittable, IsStill};
+
+use crate::evacuation::{Carried, EvacForm};
+use crate::tickets::is_under;
+use far_codec::Elem;
+use far_scopes::Objects;
+use far_store::FarRead;
+use far_types::Refusal;
+
+/// Sends an object away whose far form was carried. The carried evacuation is kept; no second commit of it is accepted.
+/// Takes no memory.
+///
+/// Refused with `StaleJob` (20) exactly where what it rests on does not hold any more (`IsCommittable`): it was begun on
+/// other objects, the object is away, was written or away since, has used up its leavings, or is no longer what was
+/// carried; and else with `Pinned` (19) exactly where the object has a pin. Then nothing is changed.
+pub fn commit<T: Elem, S: FarRead>(
+    objects: &mut Objects<T, S>,
+    store: &S,
+    carried: &Carried<T, S>,
+) -> Result<(), Refusal>
+    requires here { AreHere S.is_of (S.name store.now) objects.old }
+    requires carried_here { S.is_of carried.now.ticket (S.name store.now) }
+    requires clean { AreClean T.meaning S.content objects.old }
+    ensures committed { OnOk result (objects.new ≡ departed objects.old carried.now.job.object carried.now.ticket) }
+    ensures stale { IsErrOf result Refusal.StaleJob ↔ (¬ IsCommittable S.number_of T.spelling objects.old carried.now) }
+    ensures pinned { IsErrOf result Refusal.Pinned ↔ (IsCommittable S.number_of T.spelling objects.old carried.now × (pins_of objects.old carried.now.job.object ≢ 0)) }
+    ensures refused { IfErr result (λ e. (e ≡ Refusal.StaleJob) ⊎ (e ≡ Refusal.Pinned)) }
+    ensures lists { (p : ℕ) → list_of T.meaning S.content objects.new p ≡ list_of T.meaning S.content objects.old p }
+    ensures others { ChangesObject objects.old objects.new carried.now.job.object }
+    ensures clean { AreClean T.meaning S.content objects.new }
+    ensures here { AreHere S.is_of (S.name store.now) objects.new }
+    ensures err { OnErr result (objects.new ≡ objects.old) }
+{
+    if !is_committable(objects, store, carried) {
+        return Err(Refusal::StaleJob);
+    }
+    let job = &carried.job;
+    let o = job.object;
+    if objects.pins(o) > 0 {
+        return Err(Refusal::Pinned);
+    }
+    objects.leave(store, o, &carried.ticket);
+    Ok(())
+}
+
+// Whether what a carried evacuation rests on still holds. Takes no memory.
+fn is_committable<T: Elem, S: FarRead>(
+    objects: &Objects<T, S>,
+    store: &S,
+    carried: &Carried<T, S>,
+) -> bool
+    requires here { AreHere S.is_of (S.name store.now) objects.now }
+    requires carried_here { S.is_of carried.now.ticket (S.name store.now) }
+    requires clean { AreClean T.meaning S.content objects.now }
+    ensures exact { IsTrue result ↔ IsCommittable S.number_of T.spelling objects.now carried.now }
+    ensures within { IsTrue result → carried.now.job.object < length objects.now.entries }
+    ensures copied { IsTrue result → IsSomeAnd (list_in objects.now.memory carried.now.job.object) (λ list. IsSpelled T.in_range T.has_spelling T.spelling list (S.content carried.now.ticket)) }
+{
+    let job = &carried.job;
+    let o = job.object;
+    if job.number != objects.number() || o >= objects.count() {
+        return false;
+    }
+    let Ok(list) = objects.lend(o) else {
+        return false;
+    };
+    objects.version(o) == job.version
+        && objects.leavings(o) == job.leavings
+        && objects.may_leave(o)
+        && is_still(objects, store, carried, list)
+}
+
+// Whether an object, which has this list, is still what was carried. Takes no memory.
+fn is_still<T: Elem, S: FarRead>(
+    objects: &Objects<T, S>,
+    store: &S,
+    carried: &Carried<T, S>,
+    list: &[T],
+) -> bool
+    requires within { carried.now.job.object < length objects.now.entries }
+    requires here { AreHere S.is_of (S.name store.now) objects.now }
+    requires carried_here { S.is_of carried.now.ticket (S.name store.now) }
+    requires clean { AreClean T.meaning S.content objects.now }
+    requires tracked { AreTracked T.meaning S.content (IsSpelled T.in_range T.has_spelling T.spelling) objects.now }
+    requires lent { list_in objects.now.memory carried.now.job.object ≡ Some list.now }
+    ensures exact { IsTrue result ↔ IsStill S.number_of T.spelling objects.now carried.now.job.object carried.now.ticket carried.now.job.form }
+    ensures copied { IsTrue result → IsSpelled T.in_range T.has_spelling T.spelling list.now (S.content carried.now.ticket) }
+{
+    let job = &carried.job;
+    let o = job.object;
+    match &job.form {
+        EvacForm::Dirty(form) => T::spells(&form.bytes, list),
+        EvacForm::Clean(_) => {
+            !objects.word(o).dirty() && is_under(objects, store, o, &carried.ticket)
+        }
+    }
+}

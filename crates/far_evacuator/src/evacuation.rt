@@ -1,0 +1,109 @@
+// Jobs that send objects away.
+ghost use Rattle.std.specs.Prelude.{◌≡◌, ◌+◌, ◌<◌, ◌^◌, [], ◌∷◌, IfOk, IfErr, IsErr};
+ghost use Rattle.far_store.specs.Faults.{faults_in, RefusedBy};
+ghost use Rattle.far_codec.specs.Spelling.{IsSpelled};
+ghost use Rattle.far_evacuator.specs.Jobs.{outcome, IsFormTicket, IsFormOf, IsSpelledForm, IsDirtyForm};
+
+use crate::far_form::FarForm;
+use far_codec::Elem;
+use far_store::{FarRead, FarStore, Meter};
+use far_types::Refusal;
+use std::alloc::Global;
+use std::marker::{Model, PhantomData};
+
+/// What an evacuation was begun with.
+#[derive(Drop)]
+pub enum EvacForm<K> {
+    /// The far form of an object that was dirty, to be put into the far store.
+    Dirty(FarForm),
+    /// The ticket of an object that was clean: the far store has its far form already.
+    Clean(K),
+}
+
+/// An evacuation that was begun: of which object of which frame, how often that had been written and away, and its far
+/// form. It borrows nothing, so any thread can carry it.
+///
+/// That an object with a good far copy isn't written again is AIFM's (OSDI 2020, section 5); the phases are this project's
+/// own.
+#[derive(Drop)]
+pub struct EvacJob<T: Elem, S: FarRead> {
+    pub(crate) number: u32,
+    pub(crate) object: u32,
+    pub(crate) version: u64,
+    pub(crate) leavings: u64,
+    pub(crate) form: EvacForm<S::Ticket>,
+    pub(crate) kind: PhantomData<T>,
+}
+
+impl<T: Elem, S: FarRead> Model for EvacJob<T, S> {
+    ghost use Rattle.far_codec.specs.Spelling.{IsSpelled};
+    ghost use Rattle.far_evacuator.specs.Jobs.{Evacuation, IsSpelledForm};
+
+    ghost Value = { Evacuation S.Ticket };
+
+    ghost view = { λ job. record { number = job.number; object = job.object; version = job.version; leavings = job.leavings; form = job.form } };
+
+    ghost invariant = { λ job. IsSpelledForm (IsSpelled T.in_range T.has_spelling T.spelling) job.form };
+}
+
+/// An evacuation whose object the far store has: the job, and the ticket of its far form.
+#[derive(Drop)]
+pub struct Carried<T: Elem, S: FarRead> {
+    pub(crate) job: EvacJob<T, S>,
+    pub(crate) ticket: S::Ticket,
+}
+
+impl<T: Elem, S: FarRead> Model for Carried<T, S> {
+    ghost use Rattle.far_evacuator.specs.Jobs.{CarriedEvacuation, IsFormTicket};
+
+    ghost Value = { CarriedEvacuation S.Ticket };
+
+    ghost view = { λ carried. record { job = carried.job; ticket = carried.ticket } };
+
+    ghost invariant = { λ carried. IsFormTicket S.content carried.job.form carried.ticket };
+}
+
+impl<T: Elem, S: FarStore> EvacJob<T, S> {
+    /// Puts the far form that the job holds into the store. A job that was begun on a clean object asks the store for
+    /// nothing, and is not refused.
+    ///
+    /// Refused with `FarFault` (21) where the store fails in this call, exactly where the meter rises, by one; with
+    /// `FarFull` (22); and with `NoMemory` (1). The job then comes back whole.
+    pub fn carry(
+        self,
+        alloc: Global,
+        store: &S,
+        meter: &mut Meter,
+    ) -> Result<Carried<T, S>, (Refusal, EvacJob<T, S>)>
+        requires few { meter.old < 2 ^ 63 }
+        requires here { IsFormOf S.is_of (S.name store.now) self.form }
+        ensures job { IfOk result (λ carried. carried.job ≡ self) }
+        ensures ticket { IfOk result (λ carried. IsFormTicket S.content self.form carried.ticket) }
+        ensures here { IfOk result (λ carried. S.is_of carried.ticket (S.name store.now)) }
+        ensures back { IfErr result (λ refused. refused.1 ≡ self) }
+        ensures dirty { IsErr result → IsDirtyForm self.form }
+        ensures faults { meter.new ≡ meter.old + faults_in (outcome result) }
+        ensures refused { RefusedBy (21 ∷ 22 ∷ 1 ∷ []) (outcome result) }
+    {
+        match self.put(alloc, store, meter) {
+            Ok(ticket) => Ok(Carried { job: self, ticket }),
+            Err(refusal) => Err((refusal, self)),
+        }
+    }
+
+    // The ticket of the form, which is put if the store does not have it.
+    fn put(&self, alloc: Global, store: &S, meter: &mut Meter) -> Result<S::Ticket, Refusal>
+        requires few { meter.old < 2 ^ 63 }
+        requires here { IsFormOf S.is_of (S.name store.now) self.now.form }
+        ensures ticket { IfOk result (λ ticket. IsFormTicket S.content self.now.form ticket) }
+        ensures here { IfOk result (λ ticket. S.is_of ticket (S.name store.now)) }
+        ensures dirty { IsErr result → IsDirtyForm self.now.form }
+        ensures faults { meter.new ≡ meter.old + faults_in result }
+        ensures refused { RefusedBy (21 ∷ 22 ∷ 1 ∷ []) result }
+    {
+        match &self.form {
+            EvacForm::Dirty(form) => store.put(alloc, meter, &form.bytes),
+            EvacForm::Clean(ticket) => Ok(store.again(ticket)),
+        }
+    }
+}

@@ -1,0 +1,72 @@
+// Jobs that bring objects back.
+ghost use Rattle.std.specs.Prelude.{◌≡◌, ◌+◌, ◌<◌, ◌^◌, [], ◌∷◌, IfOk, IfErr};
+ghost use Rattle.far_store.specs.Faults.{faults_in, RefusedBy};
+ghost use Rattle.far_evacuator.specs.Jobs.{outcome};
+
+use far_store::{FarRead, Meter};
+use far_types::Refusal;
+use std::alloc::Global;
+use std::marker::Model;
+
+/// A fetch that was begun: of which object of which frame, how often that had been away, and its ticket. It borrows
+/// nothing, so any thread can carry it.
+#[derive(Drop)]
+pub struct FetchJob<S: FarRead> {
+    pub(crate) number: u32,
+    pub(crate) object: u32,
+    pub(crate) leavings: u64,
+    pub(crate) ticket: S::Ticket,
+}
+
+impl<S: FarRead> Model for FetchJob<S> {
+    ghost use Rattle.far_evacuator.specs.Jobs.{Fetch};
+
+    ghost Value = { Fetch S.Ticket };
+
+    ghost view = { λ job. record { number = job.number; object = job.object; leavings = job.leavings; ticket = job.ticket } };
+}
+
+/// A fetch whose bytes were read: the job, and its ticket's content.
+#[derive(Drop)]
+pub struct Fetched<S: FarRead> {
+    pub(crate) job: FetchJob<S>,
+    pub(crate) bytes: Vec<u8>,
+}
+
+impl<S: FarRead> Model for Fetched<S> {
+    ghost use Rattle.std.specs.Prelude.{◌≡◌};
+    ghost use Rattle.far_evacuator.specs.Jobs.{CarriedFetch};
+
+    ghost Value = { CarriedFetch S.Ticket };
+
+    ghost view = { λ fetched. record { job = fetched.job; bytes = fetched.bytes.items } };
+
+    ghost invariant = { λ fetched. fetched.bytes.items ≡ S.content fetched.job.ticket };
+}
+
+impl<S: FarRead> FetchJob<S> {
+    /// Reads the content of the job's ticket.
+    ///
+    /// Refused with `FarFault` (21) where the store fails in this call, exactly where the meter rises, by one, and with
+    /// `NoMemory` (1). The job then comes back whole.
+    pub fn carry(
+        self,
+        alloc: Global,
+        store: &S,
+        meter: &mut Meter,
+    ) -> Result<Fetched<S>, (Refusal, FetchJob<S>)>
+        requires few { meter.old < 2 ^ 63 }
+        requires here { S.is_of self.ticket (S.name store.now) }
+        ensures job { IfOk result (λ fetched. fetched.job ≡ self) }
+        ensures bytes { IfOk result (λ fetched. fetched.bytes ≡ S.content self.ticket) }
+        ensures back { IfErr result (λ refused. refused.1 ≡ self) }
+        ensures faults { meter.new ≡ meter.old + faults_in (outcome result) }
+        ensures refused { RefusedBy (21 ∷ 1 ∷ []) (outcome result) }
+    {
+        let mut bytes = Vec::new(alloc);
+        match store.get(alloc, meter, &self.ticket, &mut bytes) {
+            Ok(()) => Ok(Fetched { job: self, bytes }),
+            Err(refusal) => Err((refusal, self)),
+        }
+    }
+}

@@ -1,0 +1,76 @@
+// Fetches that end.
+ghost use Rattle.std.specs.Prelude.{◌≡◌, ℕ, ◌<◌, ◌↔◌, ◌⊎◌, length, false, Some, IsTrue, OnOk, OnErr, IfErr, IsErrOf, IsSomeAnd, option_map};
+ghost use Rattle.far_log.specs.Room.{fits_in};
+ghost use Rattle.far_codec.specs.Spelling.{IsSpelled};
+ghost use Rattle.far_scopes.specs.Movement.{ChangesObject, list_of, ticket_of, AreClean, AreHere};
+ghost use Rattle.far_scopes.specs.Effects.{arrived};
+ghost use Rattle.far_evacuator.specs.Acceptance.{IsInstallable};
+
+use crate::fetching::Fetched;
+use crate::tickets::is_under;
+use far_codec::Elem;
+use far_pointer::Pointer;
+use far_scopes::Objects;
+use far_store::FarRead;
+use far_types::Refusal;
+use std::alloc::Global;
+
+/// Brings an object back whose far form was read. The fetched bytes are kept; no second install of them is accepted.
+///
+/// Refused with `StaleJob` (20) exactly where what the fetch rests on does not hold any more (`IsInstallable`): it was
+/// begun on other objects, or the object is local, or has been away again since; else with `RegionFull` (17) exactly where
+/// no segment has the space; else with `NoMemory` (1) alone. Then nothing is changed.
+pub fn install<T: Elem, S: FarRead>(
+    alloc: Global,
+    objects: &mut Objects<T, S>,
+    store: &S,
+    fetched: &Fetched<S>,
+) -> Result<(), Refusal>
+    requires here { AreHere S.is_of (S.name store.now) objects.old }
+    requires fetched_here { S.is_of fetched.now.job.ticket (S.name store.now) }
+    ensures installed { OnOk result (IsSomeAnd (list_of T.meaning S.content objects.old fetched.now.job.object) (λ list. objects.new ≡ arrived objects.old fetched.now.job.object list)) }
+    ensures accepted { OnOk result (IsInstallable S.number_of (IsSpelled T.in_range T.has_spelling T.spelling) objects.old fetched.now) }
+    ensures stale { IsErrOf result Refusal.StaleJob ↔ (¬ IsInstallable S.number_of (IsSpelled T.in_range T.has_spelling T.spelling) objects.old fetched.now) }
+    ensures full { IsErrOf result Refusal.RegionFull ↔ (IsInstallable S.number_of (IsSpelled T.in_range T.has_spelling T.spelling) objects.old fetched.now × IsSomeAnd (list_of T.meaning S.content objects.old fetched.now.job.object) (λ list. fits_in objects.old.memory.room (length list) ≡ false)) }
+    ensures refused { IfErr result (λ e. (e ≡ Refusal.StaleJob) ⊎ ((e ≡ Refusal.RegionFull) ⊎ (e ≡ Refusal.NoMemory))) }
+    ensures lists { (p : ℕ) → list_of T.meaning S.content objects.new p ≡ list_of T.meaning S.content objects.old p }
+    ensures others { ChangesObject objects.old objects.new fetched.now.job.object }
+    ensures clean { AreClean T.meaning S.content objects.old → AreClean T.meaning S.content objects.new }
+    ensures here { AreHere S.is_of (S.name store.now) objects.new }
+    ensures err { OnErr result (objects.new ≡ objects.old) }
+{
+    if !is_installable(objects, store, fetched) {
+        return Err(Refusal::StaleJob);
+    }
+    let o = fetched.job.object;
+    if !objects.fits(objects.len(o)) {
+        return Err(Refusal::RegionFull);
+    }
+    // The object's ticket has these bytes as its content, so they are a far form of it.
+    let Some(list) = T::unspell(alloc, &fetched.bytes)? else {
+        unreachable!()
+    };
+    objects.arrive(o, &list)
+}
+
+// Whether what a fetch rests on still holds. Takes no memory.
+fn is_installable<T: Elem, S: FarRead>(
+    objects: &Objects<T, S>,
+    store: &S,
+    fetched: &Fetched<S>,
+) -> bool
+    requires here { AreHere S.is_of (S.name store.now) objects.now }
+    requires fetched_here { S.is_of fetched.now.job.ticket (S.name store.now) }
+    ensures exact { IsTrue result ↔ IsInstallable S.number_of (IsSpelled T.in_range T.has_spelling T.spelling) objects.now fetched.now }
+    ensures content { IsTrue result → option_map S.content (ticket_of objects.now fetched.now.job.object) ≡ Some fetched.now.bytes }
+{
+    let job = &fetched.job;
+    let o = job.object;
+    if job.number != objects.number() || o >= objects.count() {
+        return false;
+    }
+    let Pointer::Remote = objects.word(o).read() else {
+        return false;
+    };
+    objects.leavings(o) == job.leavings && is_under(objects, store, o, &job.ticket)
+}

@@ -1,0 +1,21 @@
+#![tactic(auto)]
+//! Movement in phases: an object goes to the far store, or comes back from it, by a job that is begun, carried, and then
+//! accepted or found stale. Only the carrying takes long, and it looks at no object, so others use them meanwhile.
+
+mod beginning;
+mod committing;
+mod evacuation;
+mod far_form;
+mod fetching;
+mod installing;
+mod tickets;
+
+pub use beginning::{Want, begin_evac, begin_fetch};
+pub use committing::commit;
+pub use evacuation::{Carried, EvacForm, EvacJob};
+pub use far_form::FarForm;
+pub use fetching::{FetchJob, Fetched};
+pub use installing::install;
+
+#[cfg(test)]
+mod tests;

@@ -1,0 +1,366 @@
+// Objects with their store, and the last job of each kind.
+ghost use Rattle.std.specs.Prelude.{◌<◌, ℕ, List, length, IsTrue, IsOk, IfOk};
+ghost use Rattle.far_scopes.specs.Movement.{AreClean, AreHere};
+ghost use Rattle.far_evacuator.specs.Jobs.{IsFormOf};
+ghost use Rattle.far_evacuator.specs.Beginning.{IsWanted};
+
+use crate::{Carried, EvacJob, FetchJob, Fetched, Want, begin_evac, begin_fetch, commit, install};
+use far_codec::{Elem, kind_of};
+use far_pointer::Pointer;
+use far_scopes::Objects;
+use far_store::{FarStore, Meter};
+use far_types::{Kind, Name, Refusal};
+use std::alloc::Global;
+use std::marker::Model;
+
+/// Elements of which a list tells whether it has a spelling.
+pub trait Sample: Elem + PartialEq {
+    fn is_spelled(list: &[Self]) -> bool
+        ensures { IsTrue result → Self.has_spelling list.now };
+}
+
+impl Sample for i64 {
+    fn is_spelled(list: &[i64]) -> bool {
+        list.len() < 1 << 32
+    }
+}
+
+impl Sample for Option<i64> {
+    fn is_spelled(list: &[Option<i64>]) -> bool {
+        list.len() < 1 << 32
+    }
+}
+
+impl Sample for u8 {
+    fn is_spelled(list: &[u8]) -> bool {
+        kind_of(list) == Some(Kind::Text)
+    }
+}
+
+/// The room of the objects, and how often each may be written and away.
+#[derive(Clone, Copy)]
+pub struct Limits {
+    pub segments: u16,
+    pub size: u32,
+    pub changes: u64,
+    pub leavings: u64,
+}
+
+/// What is known of an object beside its list.
+#[derive(Clone, Copy, Debug, PartialEq, Eq)]
+pub struct Record {
+    pub local: bool,
+    pub dirty: bool,
+    pub hot: bool,
+    pub version: u64,
+    pub leavings: u64,
+    pub pins: u32,
+    pub ticket: Option<u64>,
+}
+
+/// Objects with their store, and the last job of each kind that was begun and that was carried. A call that is refused for
+/// want of memory is made once more; an object number that is not in use is refused.
+#[derive(Drop)]
+pub struct Desk<'a, T: Sample, S: FarStore> {
+    store: &'a S,
+    objects: Objects<T, S>,
+    evac: Option<EvacJob<T, S>>,
+    carried: Option<Carried<T, S>>,
+    fetch: Option<FetchJob<S>>,
+    fetched: Option<Fetched<S>>,
+}
+
+impl<'a, T: Sample, S: FarStore> Model for Desk<'a, T, S> {
+    ghost use Rattle.std.specs.Prelude.{IfSome};
+    ghost use Rattle.far_scopes.specs.Movement.{Movement, AreClean, AreHere};
+    ghost use Rattle.far_evacuator.specs.Jobs.{IsFormOf};
+
+    ghost Value = { Movement T S.Ticket };
+
+    ghost view = { λ desk. desk.objects };
+
+    ghost invariant = { λ desk. AreHere S.is_of (S.name desk.store.now) desk.objects × AreClean T.meaning S.content desk.objects × IfSome desk.evac (λ job. IsFormOf S.is_of (S.name desk.store.now) job.form) × IfSome desk.carried (λ carried. S.is_of carried.ticket (S.name desk.store.now)) × IfSome desk.fetch (λ job. S.is_of job.ticket (S.name desk.store.now)) × IfSome desk.fetched (λ fetched. S.is_of fetched.job.ticket (S.name desk.store.now)) };
+}
+
+impl<'a, T: Sample, S: FarStore> Desk<'a, T, S> {
+    /// No object and no job.
+    pub fn new(
+        alloc: Global,
+        store: &'a S,
+        number: u32,
+        limits: Limits,
+    ) -> Result<Desk<'a, T, S>, Refusal> {
+        Ok(Desk {
+            store,
+            objects: no_objects(alloc, number, limits)?,
+            evac: None,
+            carried: None,
+            fetch: None,
+            fetched: None,
+        })
+    }
+
+    /// No object once more, under another number; the jobs stay.
+    pub fn clear(&mut self, alloc: Global, number: u32, limits: Limits) -> Result<(), Refusal> {
+        self.objects = no_objects(alloc, number, limits)?;
+        Ok(())
+    }
+
+    pub fn create(&mut self, list: &[T]) -> Result<u32, Refusal> {
+        let count = self.objects.count();
+        if list.is_empty() || count >= 1 << 28 {
+            return Err(Refusal::TableFull);
+        }
+        let name = Name {
+            column: 0,
+            group: count,
+        };
+        match self.objects.create(name, list) {
+            Err(Refusal::NoMemory) => self.objects.create(name, list),
+            reply => reply,
+        }
+    }
+
+    /// Writes a list over an object's where it is as long; else the object counts as written and no more.
+    pub fn write(&mut self, o: u32, list: &[T]) -> Result<(), Refusal> {
+        self.in_use(o)?;
+        write_over(&mut self.objects, o, list)
+    }
+
+    pub fn replace(&mut self, o: u32, list: &[T]) -> Result<(), Refusal> {
+        self.in_use(o)?;
+        if list.is_empty() {
+            return Err(Refusal::RowWidth);
+        }
+        match self.objects.replace(o, list) {
+            Err(Refusal::NoMemory) => self.objects.replace(o, list),
+            reply => reply,
+        }
+    }
+
+    pub fn pin(&mut self, o: u32) -> Result<(), Refusal> {
+        self.in_use(o)?;
+        self.objects.pin(o)
+    }
+
+    pub fn unpin(&mut self, o: u32) -> Result<(), Refusal> {
+        self.in_use(o)?;
+        self.objects.unpin(o)
+    }
+
+    pub fn touch(&mut self, o: u32) -> Result<(), Refusal> {
+        self.in_use(o)?;
+        self.objects.touch(o);
+        Ok(())
+    }
+
+    pub fn compact(&mut self, alloc: Global, segment: u32) -> Result<(), Refusal> {
+        match self.objects.compact(alloc, segment) {
+            Err(Refusal::NoMemory) => self.objects.compact(alloc, segment),
+            reply => reply,
+        }
+    }
+
+    /// Begins an evacuation of an object, or of the coldest where none is named.
+    pub fn begin(&mut self, alloc: Global, want: Want) -> Result<(), Refusal> {
+        if let Want::Object(o) = want {
+            self.in_use(o)?;
+        }
+        self.evac = Some(begin_spelled(alloc, &self.objects, self.store, want)?);
+        Ok(())
+    }
+
+    /// Carries the evacuation that was begun last.
+    pub fn carry(&mut self, alloc: Global) -> Result<(), Refusal> {
+        let Some(job) = self.evac.take() else {
+            return Err(Refusal::StaleJob);
+        };
+        let reply = match job.carry(alloc, self.store, &mut Meter::new()) {
+            Err((Refusal::NoMemory, job)) => job.carry(alloc, self.store, &mut Meter::new()),
+            reply => reply,
+        };
+        match reply {
+            Ok(carried) => {
+                self.carried = Some(carried);
+                Ok(())
+            }
+            Err((refusal, job)) => {
+                self.evac = Some(job);
+                Err(refusal)
+            }
+        }
+    }
+
+    /// Commits the evacuation that was carried last, and keeps it.
+    pub fn commit(&mut self) -> Result<(), Refusal> {
+        match &self.carried {
+            Some(carried) => commit(&mut self.objects, self.store, carried),
+            None => Err(Refusal::StaleJob),
+        }
+    }
+
+    /// Begins a fetch.
+    pub fn begin_fetch(&mut self, o: u32) -> Result<(), Refusal> {
+        self.in_use(o)?;
+        self.fetch = Some(begin_fetch(&self.objects, self.store, o)?);
+        Ok(())
+    }
+
+    /// Carries the fetch that was begun last.
+    pub fn carry_fetch(&mut self, alloc: Global) -> Result<(), Refusal> {
+        let Some(job) = self.fetch.take() else {
+            return Err(Refusal::StaleJob);
+        };
+        let reply = match job.carry(alloc, self.store, &mut Meter::new()) {
+            Err((Refusal::NoMemory, job)) => job.carry(alloc, self.store, &mut Meter::new()),
+            reply => reply,
+        };
+        match reply {
+            Ok(fetched) => {
+                self.fetched = Some(fetched);
+                Ok(())
+            }
+            Err((refusal, job)) => {
+                self.fetch = Some(job);
+                Err(refusal)
+            }
+        }
+    }
+
+    /// Installs the fetch that was carried last, and keeps it.
+    pub fn install(&mut self, alloc: Global) -> Result<(), Refusal> {
+        let Some(fetched) = &self.fetched else {
+            return Err(Refusal::StaleJob);
+        };
+        match install(alloc, &mut self.objects, self.store, fetched) {
+            Err(Refusal::NoMemory) => install(alloc, &mut self.objects, self.store, fetched),
+            reply => reply,
+        }
+    }
+
+    /// Sends an object away.
+    pub fn evacuate(&mut self, alloc: Global, o: u32) -> Result<(), Refusal> {
+        self.begin(alloc, Want::Object(o))?;
+        self.carry(alloc)?;
+        self.commit()
+    }
+
+    /// Brings an object back.
+    pub fn fetch_back(&mut self, alloc: Global, o: u32) -> Result<(), Refusal> {
+        self.begin_fetch(o)?;
+        self.carry_fetch(alloc)?;
+        self.install(alloc)
+    }
+
+    /// The list of an object.
+    pub fn list(&self, o: u32) -> Result<&[T], Refusal> {
+        self.in_use(o)?;
+        self.objects.lend(o)
+    }
+
+    /// Whether an object may be written.
+    pub fn may_write(&self, o: u32) -> Result<(), Refusal> {
+        self.in_use(o)?;
+        self.objects.may_write(o)
+    }
+
+    /// What is known of an object.
+    pub fn record(&self, o: u32) -> Result<Record, Refusal> {
+        self.in_use(o)?;
+        let word = self.objects.word(o);
+        Ok(Record {
+            local: word.read() != Pointer::Remote,
+            dirty: word.dirty(),
+            hot: word.hot(),
+            version: self.objects.version(o),
+            leavings: self.objects.leavings(o),
+            pins: self.objects.pins(o),
+            ticket: match self.objects.ticket(o) {
+                Some(ticket) => Some(self.store.number(ticket)),
+                None => None,
+            },
+        })
+    }
+
+    // Whether an object number is in use.
+    fn in_use(&self, o: u32) -> Result<(), Refusal>
+        ensures { IsOk result → o < length self.now.entries }
+    {
+        if o < self.objects.count() {
+            Ok(())
+        } else {
+            Err(Refusal::NoRow)
+        }
+    }
+}
+
+fn no_objects<T: Sample, S: FarStore>(
+    alloc: Global,
+    number: u32,
+    limits: Limits,
+) -> Result<Objects<T, S>, Refusal>
+    ensures here { IfOk result (λ m. (name : List ℕ) → AreHere S.is_of name m) }
+    ensures clean { IfOk result (AreClean T.meaning S.content) }
+{
+    let segments = u32::from(limits.segments);
+    match Objects::new(
+        alloc,
+        number,
+        segments,
+        limits.size,
+        limits.changes,
+        limits.leavings,
+    ) {
+        Err(Refusal::NoMemory) => Objects::new(
+            alloc,
+            number,
+            segments,
+            limits.size,
+            limits.changes,
+            limits.leavings,
+        ),
+        reply => reply,
+    }
+}
+
+fn write_over<T: Sample, S: FarStore>(
+    objects: &mut Objects<T, S>,
+    o: u32,
+    list: &[T],
+) -> Result<(), Refusal>
+    requires within { o < length objects.old.entries }
+    ensures clean { AreClean T.meaning S.content objects.old → AreClean T.meaning S.content objects.new }
+    ensures store { (name : List ℕ) → AreHere S.is_of name objects.old → AreHere S.is_of name objects.new }
+{
+    objects.may_write(o)?;
+    let lent = objects.lend_mut(o);
+    if lent.len() == list.len() {
+        lent.copy_from_slice(list);
+    }
+    Ok(())
+}
+
+fn begin_spelled<T: Sample, S: FarStore>(
+    alloc: Global,
+    objects: &Objects<T, S>,
+    store: &S,
+    want: Want,
+) -> Result<EvacJob<T, S>, Refusal>
+    requires within { IsWanted objects.now want }
+    requires here { AreHere S.is_of (S.name store.now) objects.now }
+    ensures { IfOk result (λ job. IsFormOf S.is_of (S.name store.now) job.form) }
+{
+    let taken = match want {
+        Want::Object(o) => Some(o),
+        Want::Coldest => objects.coldest(),
+    };
+    if let Some(o) = taken {
+        if o >= objects.count() || !T::is_spelled(objects.lend(o)?) {
+            return Err(Refusal::WrongKind);
+        }
+    }
+    match begin_evac(alloc, objects, store, want) {
+        Err(Refusal::NoMemory) => begin_evac(alloc, objects, store, want),
+        reply => reply,
+    }
+}
