@@ -2,3 +2,5 @@
 mod coming;
 mod moving;
 mod pins;
+mod replacing;
+mod writing;
