@@ -4,3 +4,5 @@ mod coming;
 mod moving;
 mod pins;
 mod renewing;
+mod replacing;
+mod writing;

@@ -1,7 +1,8 @@
 // Objects that are pinned, alone and together, and written as often as they may be: worked examples.
 use super::coming::{empty, name_of};
 use crate::Objects;
-use far_store::{AgentStore, FarRead};
+use far_codec::Elem;
+use far_store::{AgentStore, FarRead, FarStore, Meter};
 use far_types::Refusal;
 use std::alloc::Global;
 use std::test::Fail;
@@ -30,6 +31,27 @@ fn written_out<S: FarRead>(
     Ok((list, objects.may_write(0).err()))
 }
 
+/// Why a local object and one that is away are not pinned together, and how many pins the local one has then.
+fn entered_with_one_away<S: FarStore>(
+    alloc: Global,
+    store: &S,
+) -> Result<(Option<Refusal>, u32), Refusal> {
+    let mut objects: Objects<i64, S> = empty(alloc, store)?;
+    objects.create(name_of(0), &[1])?;
+    objects.create(name_of(1), &[2])?;
+    let mut meter = Meter::new();
+    let bytes = i64::spell(alloc, &[2])?;
+    let ticket = store.put(alloc, &mut meter, &bytes)?;
+    objects.leave(store, 1, &ticket);
+    match objects.enter(alloc, &[0, 1]) {
+        Ok(scope) => {
+            objects.close(scope);
+            Ok((None, objects.pins(0)))
+        }
+        Err(refusal) => Ok((Some(refusal), objects.pins(0))),
+    }
+}
+
 #[test]
 fn a_scope_gives_back_a_pin_for_each_listing(rt: HostRuntime) -> Result<(), Fail> {
     let store = AgentStore::new(&rt, rt.alloc(), 4)?;
@@ -43,5 +65,18 @@ fn an_object_is_written_as_often_as_it_may_be(rt: HostRuntime) -> Result<(), Fai
     let (list, refused) = written_out(rt.alloc(), &store)?;
     assert_eq!(rt; list.as_slice(), [8, 8].as_slice());
     assert_eq!(rt; refused, Some(Refusal::EditsUsedUp));
+    Ok(())
+}
+
+#[test]
+fn a_scope_over_an_object_that_is_away_leaves_no_pin(rt: HostRuntime) -> Result<(), Fail> {
+    let store = AgentStore::new(&rt, rt.alloc(), 4)?;
+    let (refused, pins) = entered_with_one_away(rt.alloc(), &store)?;
+    let absent = Refusal::Absent {
+        column: 0,
+        group: 1,
+    };
+    assert_eq!(rt; refused, Some(absent));
+    assert_eq!(rt; pins, 0);
     Ok(())
 }
