@@ -45,6 +45,7 @@ impl<'a> Column<'a> {
     }
 
     /// The cell of a place. Past the end there is no value.
+    #[inline(always)]
     pub fn cell(&self, place: usize) -> CellRef<'_>
         ensures cell { lent_cell result ≡ cell_of place self.now }
         ensures fits { CellFits (lent_cell result) }

@@ -11,6 +11,7 @@ use crate::kept::value_at;
 use far_types::Spec;
 
 /// A count and a sum with one value more.
+#[inline(always)]
 fn raised(tally: (u64, i128), value: i64) -> (u64, i128)
     requires few { tally.0 < 2 ^ 26 }
     requires sum { IsSumOf tally.0 tally.1 }
@@ -39,6 +40,7 @@ pub(crate) fn tally_of(spec: &Spec, columns: &[Column<'_>], alive: &[bool]) -> (
 }
 
 /// The least and the greatest of some values with one more.
+#[inline(always)]
 fn widened(span: Option<(i64, i64)>, value: i64) -> (i64, i64)
     requires { SpanFits span }
     ensures value { result ≡ widened value span }
