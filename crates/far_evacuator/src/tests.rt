@@ -1,3 +1,6 @@
-// What no clause says: that calls are served, and that worked examples come out as they should.
+// What no clause says: that calls are served, that worked examples come out as they should, and that random calls agree with
+// plain lists and records.
 mod desk;
 mod jobs;
+mod plain;
+mod walk;
