@@ -4,6 +4,7 @@
 //! With the argument `times` the times are printed on standard error, and the work is done many times; without it the
 //! program only shows that it ends.
 
+mod copies;
 mod folds;
 mod forms;
 mod mover;

@@ -1,4 +1,5 @@
 // Objects that go away and come back, beside copies of their lists.
+use crate::copies::Copies;
 use crate::forms::{io_error, numbers};
 use crate::mover::Mover;
 use far_store::FarStore;
@@ -28,37 +29,6 @@ fn move_all<S: FarStore>(
     Ok(())
 }
 
-/// Copies each list away, to a list that is kept, and back, to another list. Says how many numbers came back.
-fn copy_all(
-    alloc: Global,
-    lists: &[Vec<Option<i64>>],
-    kept: &mut Vec<Vec<Option<i64>>>,
-    back: &mut Vec<Vec<Option<i64>>>,
-) -> Result<u64, Refusal> {
-    let mut seen = 0u64;
-    for list in lists {
-        let away = Vec::from_slice(alloc, list)?;
-        let returned = Vec::from_slice(alloc, &away)?;
-        seen = seen.wrapping_add(returned.len() as u64);
-        kept.push(away)?;
-        back.push(returned)?;
-    }
-    Ok(seen)
-}
-
-/// Lists of these numbers, as many as said.
-fn lists_of(
-    alloc: Global,
-    numbers: &[Option<i64>],
-    count: u32,
-) -> Result<Vec<Vec<Option<i64>>>, Refusal> {
-    let mut lists = Vec::new(alloc);
-    for _ in 0..count {
-        lists.push(Vec::from_slice(alloc, numbers)?)?;
-    }
-    Ok(lists)
-}
-
 /// Objects of 4,096 numbers each, as many as said.
 fn fill<S: FarStore>(
     mover: &mut Mover<'_, Option<i64>, S>,
@@ -84,15 +54,29 @@ fn time_moves<S: FarStore>(
     Ok(start.elapsed(rt)?.as_nanos())
 }
 
-/// How long it takes to copy so many lists away and back, and how many numbers came back.
-fn time_copies(rt: &HostRuntime, count: u32) -> io::Result<(u128, u64)> {
-    let alloc = rt.alloc();
-    let lists = lists_of(alloc, &numbers(), count).map_err(io_error)?;
-    let mut kept = Vec::new(alloc);
-    let mut back = Vec::new(alloc);
+/// How long it takes to copy so many lists away and back.
+fn time_copies(
+    rt: &HostRuntime,
+    copies: &mut Copies,
+    numbers: &[Option<i64>],
+    count: u32,
+) -> io::Result<u128> {
+    for _ in 0..count {
+        copies.add(rt.alloc(), numbers).map_err(io_error)?;
+    }
     let start = Instant::now(rt)?;
-    let seen = copy_all(alloc, &lists, &mut kept, &mut back).map_err(io_error)?;
-    Ok((start.elapsed(rt)?.as_nanos(), seen))
+    for o in 0..count as usize {
+        copies.move_one(rt.alloc(), o).map_err(io_error)?;
+    }
+    Ok(start.elapsed(rt)?.as_nanos())
+}
+
+/// How long lists take that are made for it, and how many came back.
+fn copies_of(rt: &HostRuntime, count: u32) -> io::Result<(u128, u64)> {
+    let mut copies = Copies::new(rt.alloc());
+    let took = time_copies(rt, &mut copies, &numbers(), count);
+    let seen = copies.count();
+    took.map(|took| (took, seen))
 }
 
 /// How long objects take that are made for it, 16 in a segment. A segment more is there for those that come back before
@@ -106,7 +90,7 @@ fn moves_of<S: FarStore>(rt: &HostRuntime, store: &S, count: u16) -> io::Result<
 
 /// Times the way away and back of so many objects, and the copies.
 pub fn measure<S: FarStore>(rt: &HostRuntime, store: &S, count: u16) -> io::Result<MoveTimes> {
-    let (copies, seen) = time_copies(rt, u32::from(count))?;
+    let (copies, seen) = copies_of(rt, u32::from(count))?;
     let moves = moves_of(rt, store, count)?;
     Ok(MoveTimes {
         copies,
