@@ -33,6 +33,20 @@ fn of_one_cold<S: FarRead>(alloc: Global, _store: &S) -> Result<[Option<u32>; 3]
     Ok([cold, hot, objects.coldest()])
 }
 
+/// Which of two objects goes away first that were cooled by a compaction after the first was used: at first, and once both
+/// are pinned.
+fn of_two_cold<S: FarRead>(alloc: Global, _store: &S) -> Result<[Option<u32>; 2], Refusal> {
+    let mut objects: Objects<i64, S> = Objects::new(alloc, 7, 2, 4, 2, 1)?;
+    objects.create(name_of(0), &[1, 2])?;
+    objects.create(name_of(1), &[3, 4])?;
+    objects.touch(0);
+    objects.compact(alloc, 0)?;
+    let cold = objects.coldest();
+    objects.pin(0)?;
+    objects.pin(1)?;
+    Ok([cold, objects.coldest()])
+}
+
 #[test]
 fn the_hot_object_used_longest_ago_goes_first_where_all_are_hot(
     rt: HostRuntime,
@@ -48,5 +62,15 @@ fn a_cold_object_goes_before_a_hot_one_and_a_pinned_one_stays(rt: HostRuntime) -
     let store = AgentStore::new(&rt, rt.alloc(), 4)?;
     let coldest = of_one_cold(rt.alloc(), &store)?;
     assert_eq!(rt; coldest, [Some(1), Some(0), None]);
+    Ok(())
+}
+
+#[test]
+fn the_cold_object_used_longest_ago_goes_first_and_none_where_all_are_pinned(
+    rt: HostRuntime,
+) -> Result<(), Fail> {
+    let store = AgentStore::new(&rt, rt.alloc(), 4)?;
+    let coldest = of_two_cold(rt.alloc(), &store)?;
+    assert_eq!(rt; coldest, [Some(1), None]);
     Ok(())
 }
