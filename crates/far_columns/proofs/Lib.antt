@@ -1,0 +1,3 @@
+pub mod Joined
+pub mod Groups
+pub mod InUse
