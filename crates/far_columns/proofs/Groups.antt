@@ -1,5 +1,5 @@
 -- The row groups of a column of texts.
-use Rattle.std.proofs.Common.{◌≡◌, ℕ, zero, suc, min, ◌+◌, ◌-◌, ◌*◌, ◌/◌, ◌%◌, ◌<◌, ◌≤◌, List, [], ◌∷◌, ◌++◌, length, get_or, take, drop, Option, None, Some, refl, sym, ap, subst, ◌∙◌, arith, mul-le-mul_right}
+use Rattle.std.proofs.Common.{◌≡◌, ℕ, suc, ◌+◌, ◌*◌, ◌/◌, ◌%◌, ◌<◌, ◌≤◌, List, [], ◌∷◌, ◌++◌, length, get_or, take, Option, None, Some, refl, sym, ap, subst, ◌∙◌, arith, mul-le-mul_right}
 use Rattle.std.specs.Prelude.{IsSomeAnd, IfOk, Result, unwrap_or, slice_get}
 use Rattle.std.specs.declared.result.Result.TheVariants.{Ok, Err}
 use Rattle.std.specs.Borrow.{Bor}
@@ -11,7 +11,7 @@ use Rattle.std.proofs.lemmas.List.Concat.{flat_map-append}
 use Rattle.std.proofs.lemmas.Nat.{div-add-mod', div_below, mod_below}
 use Rattle.std.proofs.lemmas.Option.{slice_get-get_or}
 use Rattle.far_codec.specs.TextForm.{texts_meaning}
-use Rattle.far_columns.specs.Texts.{Texts, Lists, HasGroups, IsTextColumn, IsGroupForm, texts_at, texts_in, used_in}
+use Rattle.far_columns.specs.Texts.{Texts, Lists, HasGroups, IsTextColumn, IsGroupForm, texts_at, texts_in}
 use Rattle.far_columns.proofs.Joined.{length-before, joined-at}
 
 -- what holds of the list of an object holds of the list that it has, where it has one

@@ -1,10 +1,10 @@
 -- An object that has a list is in use.
-use Rattle.std.proofs.Common.{◌≡◌, ℕ, ◌<◌, ◌≤◌, List, [], length, Option, None, Some, inl, inr, refl, sym, ap, subst, ◌∙◌, arith}
+use Rattle.std.proofs.Common.{◌≡◌, ℕ, ◌<◌, ◌≤◌, List, length, None, Some, inl, inr, sym, ap, ◌∙◌, arith}
 use Rattle.std.specs.Prelude.{option_map, slice_get}
 use Rattle.std.specs.Option.{option_and_then, option_or}
 use Rattle.std.proofs.lemmas.Option.{slice_get_past, none-some}
 use Rattle.std.proofs.lemmas.Bool.{cases_lt}
-use Rattle.far_scopes.specs.Memory.{at_of, list_in}
+use Rattle.far_scopes.specs.Memory.{at_of}
 use Rattle.far_log.specs.Room.{part_of}
 use Rattle.far_scopes.specs.Movement.{Movement, AreTracked, list_of, ticket_of, meant}
 

@@ -1,3 +1,6 @@
 pub mod Joined
 pub mod Groups
 pub mod InUse
+pub mod Changed
+pub mod Setting
+pub mod Pushing

@@ -1,5 +1,5 @@
 -- A column of texts that lies in objects, one for each row group: what it is, and which texts it has.
-use Rattle.std.specs.Prelude.{◌≡◌, ◌≢◌, ℕ, min, ◌-◌, ◌*◌, ◌+◌, ◌≤◌, ◌<◌, ◌^◌, List, [], length, Option, Some, IsSomeAnd, unwrap_or, slice_get, AllPairs}
+use Rattle.std.specs.Prelude.{◌≡◌, ◌≢◌, ℕ, min, ◌-◌, ◌*◌, ◌/◌, ◌+◌, ◌≤◌, ◌<◌, ◌^◌, List, [], length, Option, Some, IsSomeAnd, unwrap_or, slice_get, slice_index, AllPairs}
 use Rattle.std.specs.List.{flat_map}
 use Rattle.far_codec.specs.TextForm.{texts_meaning, IsTextsForm}
 use Rattle.far_scopes.specs.Movement.{Movement, list_of}
@@ -37,6 +37,10 @@ texts_at lists o = texts_meaning (unwrap_or (lists o) [])
 -- the texts of a column: those of its objects, joined
 abbrev pub texts_in : Lists → Texts → List (Option (List ℕ))
 texts_in lists c = flat_map (texts_at lists) c.objects
+
+-- the object of a place
+abbrev pub object_at : Texts → ℕ → ℕ
+object_at c place = slice_index c.objects (place / c.size)
 
 -- how many places of a row group have a text
 abbrev pub used_in : Texts → ℕ → ℕ

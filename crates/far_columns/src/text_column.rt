@@ -2,7 +2,10 @@
 ghost use Rattle.std.specs.Prelude.{◌≡◌, ◌<◌, ◌≤◌, ◌^◌, ℕ, [], length, slice_get, slice_index};
 ghost use Rattle.far_columns.specs.Texts.{HasGroups};
 
+mod lengths;
+mod pushing;
 mod reading;
+mod setting;
 
 use std::alloc::Global;
 use std::marker::Model;

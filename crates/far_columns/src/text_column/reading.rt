@@ -13,7 +13,7 @@ use far_types::Refusal;
 
 impl TextColumn {
     // The object of a row group that is begun.
-    fn object_in_use<S: FarRead>(&self, objects: &Objects<u8, S>, group: usize) -> u32
+    pub(super) fn object_in_use<S: FarRead>(&self, objects: &Objects<u8, S>, group: usize) -> u32
         requires begun { group < length self.now.objects }
         requires is { IsTextColumn (lists_of S.content objects.now) self.now }
         ensures object { result ≡ slice_index self.now.objects group }
@@ -25,7 +25,7 @@ impl TextColumn {
     }
 
     // The far form of a row group that is begun, lent in place.
-    fn form<'a, S: FarRead>(
+    pub(super) fn form<'a, S: FarRead>(
         &self,
         objects: &'a Objects<u8, S>,
         group: usize,
@@ -52,7 +52,7 @@ impl TextColumn {
     ) -> Result<Option<&'a str>, Refusal>
         requires { IsTextColumn (lists_of S.content objects.now) self.now }
         ensures text { IfOk result (λ text. slice_get (texts_in (lists_of S.content objects.now) self.now) place ≡ Some (option_copied text)) }
-        ensures refused { refusal_in result ≡ text_refusal objects.now self.now place }
+        ensures refused { refusal_in result ≡ text_refusal S.content objects.now self.now place }
     {
         if place >= self.len {
             return Err(Refusal::NoRow);
