@@ -1,5 +1,5 @@
 -- Why calls on vectors are refused.
-use Rattle.std.specs.Prelude.{◌≡◌, ℕ, ◌-◌, ◌/◌, ◌==◌, ◌&&◌, ◌||◌, nat_lt, nat_le, not, if◌then◌else◌, Bool, List, [], ◌∷◌, Option, None, take, drop}
+use Rattle.std.specs.Prelude.{◌≡◌, ℕ, ◌-◌, ◌/◌, ◌==◌, ◌&&◌, ◌||◌, nat_lt, nat_le, not, if◌then◌else◌, Bool, List, [], ◌∷◌, length, Option, None, take, drop}
 use Rattle.std.specs.Option.{option_or}
 use Rattle.far_types.specs.declared.refusal.Refusal.{Refusal}
 use Rattle.far_types.specs.declared.refusal.Refusal.TheVariants as refusal
@@ -52,7 +52,7 @@ module _ {X K : Type 0} (m : Movement X K) (v : Vector X) where
 
   -- an element that begins a row group needs room, another a row group that may be written
   abbrev pub push_refusal : Option Refusal
-  push_refusal = if is_full v then first_of (no_room m v.size ∷ []) else write_refusal m (object_at v v.len)
+  push_refusal = if is_full v then first_of (no_room m (length m.entries) v.size ∷ []) else write_refusal m (object_at v v.len)
 
 -- the elements `from` up to `to` are there, and their objects are local
 pub record IsLendable {X K : Type 0} (meaning : List ℕ → List X) (content : K → List ℕ) (m : Movement X K) (v : Vector X) (from to : ℕ) : Type 0 where

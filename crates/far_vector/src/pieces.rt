@@ -1,6 +1,5 @@
 // Parts of a vector, lent by several objects.
-ghost use Rattle.std.specs.Prelude.{◌≡◌, ℕ, ◌≤◌, None};
-ghost use Rattle.std.specs.Iterator.{YieldsFirstBy, item_count};
+ghost use Rattle.std.specs.Prelude.{◌≡◌, [], ◌∷◌, length, None, IfSome, IfNone};
 ghost use Rattle.far_scopes.specs.Movement.{list_of};
 ghost use Rattle.far_vector.specs.Vector.{IsVector, elements};
 ghost use Rattle.far_vector.specs.Pieces.{pieces_of};
@@ -59,16 +58,15 @@ impl<'a, T: Elem, S: FarRead> Pieces<'a, T, S> {
             to,
         }
     }
-}
 
-impl<'a, T: Elem, S: FarRead> Iterator for Pieces<'a, T, S> {
-    type Item = &'a [T];
-
-    ghost next_gives = { YieldsFirstBy (λ piece. piece.now) (λ rest. rest) };
-
-    ghost remaining = { item_count (λ rest. rest) };
-
-    fn next(&mut self) -> Option<&'a [T]> {
+    /// The next piece, and `None` where there is none left. Takes no memory.
+    ///
+    /// It is no `Iterator`'s: a trait's own method gets no proof where it calls what asks for elements that may be shared by
+    /// threads.
+    pub fn next(&mut self) -> Option<&'a [T]>
+        ensures first { IfSome result (λ piece. self.old ≡ piece.now ∷ self.new) }
+        ensures none { IfNone result ((self.old ≡ []) × (self.new ≡ [])) }
+    {
         if self.from == self.to {
             return None;
         }
@@ -79,5 +77,15 @@ impl<'a, T: Elem, S: FarRead> Iterator for Pieces<'a, T, S> {
         };
         self.from = end;
         Some(piece)
+    }
+
+    /// How many pieces are left. Takes no memory.
+    pub fn len(&self) -> usize
+        ensures { result ≡ length self.now }
+    {
+        if self.from == self.to {
+            return 0;
+        }
+        self.vector.groups_between(self.from, self.to)
     }
 }

@@ -1,5 +1,5 @@
 // Lists of elements, one object a row group.
-ghost use Rattle.std.specs.Prelude.{◌≡◌, ℕ, ◌-◌, ◌*◌, ◌<◌, List, [], length, Option, IfOk, IfErr, IsSomeAnd, slice_get};
+ghost use Rattle.std.specs.Prelude.{◌≡◌, ℕ, ◌-◌, ◌*◌, ◌<◌, List, [], length, replicate, Option, IfOk, IfErr, IsSomeAnd, slice_get};
 ghost use Rattle.far_scopes.specs.Movement.{list_of};
 ghost use Rattle.far_vector.specs.Vector.{IsShaped, IsVector, object_at};
 
@@ -58,7 +58,7 @@ impl<T: Elem> FarVector<T> {
             objects: Vec::new(alloc),
             len: 0,
             blank,
-            next: vec![in alloc; blank; size]?,
+            next: blanks(alloc, size, blank)?,
         })
     }
 
@@ -88,4 +88,16 @@ impl<T: Elem> FarVector<T> {
         let _ = objects.number();
         self.objects[i / self.size]
     }
+}
+
+// So many blank elements.
+fn blanks<T: Elem>(alloc: Global, count: usize, blank: T) -> Result<Vec<T>, Refusal>
+    ensures blank { IfOk result (λ list. list.items ≡ replicate count blank) }
+    ensures memory { IfErr result (λ e. e ≡ Refusal.NoMemory) }
+{
+    let mut list = Vec::with_capacity(alloc, count)?;
+    for _ in 0..count {
+        list.push_reserved(blank);
+    }
+    Ok(list)
 }

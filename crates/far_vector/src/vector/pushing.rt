@@ -70,8 +70,8 @@ impl<T: Elem> FarVector<T> {
         ensures others { OnOk result (ChangesObject objects.old objects.new (length objects.old.entries)) }
         ensures clean { AreClean T.meaning S.content objects.old → AreClean T.meaning S.content objects.new }
         ensures store { (name : List ℕ) → AreHere S.is_of name objects.old → AreHere S.is_of name objects.new }
-        ensures free { OnOk result (first_of (no_room objects.old self.old.size ∷ []) ≡ None) }
-        ensures refused { IfErr result (λ e. (first_of (no_room objects.old self.old.size ∷ []) ≡ Some e) ⊎ ((first_of (no_room objects.old self.old.size ∷ []) ≡ None) × (e ≡ Refusal.NoMemory))) }
+        ensures free { OnOk result (first_of (no_room objects.old (length objects.old.entries) self.old.size ∷ []) ≡ None) }
+        ensures refused { IfErr result (λ e. (first_of (no_room objects.old (length objects.old.entries) self.old.size ∷ []) ≡ Some e) ⊎ ((first_of (no_room objects.old (length objects.old.entries) self.old.size ∷ []) ≡ None) × (e ≡ Refusal.NoMemory))) }
         ensures err { OnErr result ((self.new ≡ self.old) × (objects.new ≡ objects.old)) }
     {
         let _ = objects.number();

@@ -102,7 +102,8 @@ impl<T: Elem> FarVector<T> {
 
     // Whether the elements `from` up to `to` are all there, and of one row group.
     pub(super) fn check_part(&self, from: usize, to: usize) -> Result<(), Refusal>
-        ensures { refusal_in result ≡ first_of (no_range self.now from to ∷ crosses self.now from to ∷ []) }
+        ensures refused { refusal_in result ≡ first_of (no_range self.now from to ∷ crosses self.now from to ∷ []) }
+        ensures shaped { IsShaped self.now }
     {
         if from > to || to > self.len {
             return Err(Refusal::OutOfRange);
@@ -111,6 +112,15 @@ impl<T: Elem> FarVector<T> {
             return Err(Refusal::OutOfRange);
         }
         Ok(())
+    }
+
+    // How many row groups have some of the elements `from` up to `to`, of which there are some.
+    pub(crate) fn groups_between(&self, from: usize, to: usize) -> usize
+        requires some { from < to }
+        requires there { to ≤ self.now.len }
+        ensures { result ≡ touched_count self.now.size from to }
+    {
+        (to - 1) / self.size + 1 - from / self.size
     }
 
     // Where the row group of a place ends.

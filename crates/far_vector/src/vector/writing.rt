@@ -1,6 +1,7 @@
 // Elements written in place.
-ghost use Rattle.std.specs.Prelude.{◌≡◌, ℕ, ◌+◌, ◌-◌, ◌*◌, ◌%◌, ◌<◌, ◌++◌, List, [], ◌∷◌, length, take, drop, Some, None, OnOk, OnErr, slice_set, slice_range};
+ghost use Rattle.std.specs.Prelude.{◌≡◌, ℕ, ◌+◌, ◌-◌, ◌*◌, ◌%◌, ◌<◌, ◌++◌, List, [], ◌∷◌, length, take, drop, Some, None, IsSomeAnd, OnOk, OnErr, slice_set, slice_range};
 ghost use Rattle.std.specs.Borrow.{sem};
+ghost use Rattle.far_scopes.specs.Memory.{list_in};
 ghost use Rattle.far_scopes.specs.Movement.{list_of, AreClean, AreHere, ChangesObject};
 ghost use Rattle.far_scopes.specs.Refusing.{refusal_in, write_refusal};
 ghost use Rattle.far_scopes.specs.ObjectsLending.{lends_written};
@@ -72,26 +73,26 @@ impl<T: Elem> FarVector<T> {
     ///
     /// The object of their row group counts as written. What the borrow leaves is the part, and no other element changes.
     pub fn part_mut<'a, S: FarRead>(
-        &self,
         objects: &'a mut Objects<T, S>,
+        vector: &FarVector<T>,
         from: usize,
         to: usize,
     ) -> &'a mut [T]
-        requires is { IsVector (list_of T.meaning S.content objects.old) self.now }
+        requires is { IsVector (list_of T.meaning S.content objects.old) vector.now }
         requires some { from < to }
-        requires free { write_part_refusal objects.old self.now from to ≡ None }
-        ensures* writes_back { sem 𝓛 (lends_written T.row S.row S.Ticket.row T.Elem S.FarRead objects.entry (object_at self.now from) (from % self.now.size) result) }
-        ensures lent { result.now ≡ slice_range (elements (list_of T.meaning S.content objects.old) self.now) from to }
-        ensures elements { (range : List T) → length range ≡ to - from → let now = list_of T.meaning S.content (range_written objects.old self.now from range) in let was = elements (list_of T.meaning S.content objects.old) self.now in elements now self.now ≡ take from was ++ (range ++ drop to was) }
-        ensures is { (range : List T) → length range ≡ to - from → IsVector (list_of T.meaning S.content (range_written objects.old self.now from range)) self.now }
-        ensures apart { (range : List T) → length range ≡ to - from → (w : Vector T) → IsVector (list_of T.meaning S.content objects.old) w → AreApart self.now w → IsUntouched (list_of T.meaning S.content objects.old) (list_of T.meaning S.content (range_written objects.old self.now from range)) self.now w }
-        ensures lists { (range : List T) → length range ≡ to - from → KeepsOthers (list_of T.meaning S.content objects.old) (list_of T.meaning S.content (range_written objects.old self.now from range)) (object_at self.now from) }
-        ensures others { (range : List T) → ChangesObject objects.old (range_written objects.old self.now from range) (object_at self.now from) }
-        ensures clean { (range : List T) → length range ≡ to - from → AreClean T.meaning S.content objects.old → AreClean T.meaning S.content (range_written objects.old self.now from range) }
-        ensures store { (range : List T) (name : List ℕ) → AreHere S.is_of name objects.old → AreHere S.is_of name (range_written objects.old self.now from range) }
+        requires free { write_part_refusal objects.old vector.now from to ≡ None }
+        ensures* writes_back { sem 𝓛 (lends_written T.row S.row S.Ticket.row T.Elem S.FarRead objects.entry (object_at vector.now from) (from % vector.now.size) result) }
+        ensures lent { result.now ≡ slice_range (elements (list_of T.meaning S.content objects.old) vector.now) from to }
+        ensures elements { (range : List T) → length range ≡ to - from → let now = list_of T.meaning S.content (range_written objects.old vector.now from range) in let was = elements (list_of T.meaning S.content objects.old) vector.now in elements now vector.now ≡ take from was ++ (range ++ drop to was) }
+        ensures is { (range : List T) → length range ≡ to - from → IsVector (list_of T.meaning S.content (range_written objects.old vector.now from range)) vector.now }
+        ensures apart { (range : List T) → length range ≡ to - from → (w : Vector T) → IsVector (list_of T.meaning S.content objects.old) w → AreApart vector.now w → IsUntouched (list_of T.meaning S.content objects.old) (list_of T.meaning S.content (range_written objects.old vector.now from range)) vector.now w }
+        ensures lists { (range : List T) → length range ≡ to - from → KeepsOthers (list_of T.meaning S.content objects.old) (list_of T.meaning S.content (range_written objects.old vector.now from range)) (object_at vector.now from) }
+        ensures others { (range : List T) → ChangesObject objects.old (range_written objects.old vector.now from range) (object_at vector.now from) }
+        ensures clean { (range : List T) → length range ≡ to - from → AreClean T.meaning S.content objects.old → AreClean T.meaning S.content (range_written objects.old vector.now from range) }
+        ensures store { (range : List T) (name : List ℕ) → AreHere S.is_of name objects.old → AreHere S.is_of name (range_written objects.old vector.now from range) }
     {
-        let o = self.object_at(objects, from);
-        let begin = from % self.size;
+        let begin = from % vector.size;
+        let o = vector.writable_at(objects, from);
         let end = begin + (to - from);
         objects.lend_range_mut(o, begin, end)
     }
@@ -108,9 +109,24 @@ impl<T: Elem> FarVector<T> {
         ensures clean { AreClean T.meaning S.content objects.old → AreClean T.meaning S.content objects.new }
         ensures store { (name : List ℕ) → AreHere S.is_of name objects.old → AreHere S.is_of name objects.new }
     {
-        let o = self.object_at(objects, i);
         let at = i % self.size;
+        let o = self.writable_at(objects, i);
         let range = objects.lend_range_mut(o, at, at + 1);
         range[0] = x;
+    }
+
+    // The object with a place of a row group that may be written, which has its list in local memory: that is known by the
+    // contract of `lend`.
+    fn writable_at<S: FarRead>(&self, objects: &Objects<T, S>, i: usize) -> u32
+        requires is { IsVector (list_of T.meaning S.content objects.now) self.now }
+        requires within { i < length self.now.objects * self.now.size }
+        requires free { write_refusal objects.now (object_at self.now i) ≡ None }
+        ensures object { result ≡ object_at self.now i }
+        ensures made { result < length objects.now.entries }
+        ensures list { IsSomeAnd (list_in objects.now.memory result) (λ list. length list ≡ self.now.size) }
+    {
+        let o = self.object_at(objects, i);
+        let _ = objects.lend(o);
+        o
     }
 }

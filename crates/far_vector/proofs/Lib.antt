@@ -1,0 +1,9 @@
+mod PlacesLaws
+mod VectorLaws
+mod WritingLaws
+mod GroupLaws
+mod Apart
+mod InUse
+mod Checked
+mod RangeLaws
+mod Listed
