@@ -7,3 +7,4 @@ mod InUse
 mod Checked
 mod RangeLaws
 mod Listed
+mod PieceLaws

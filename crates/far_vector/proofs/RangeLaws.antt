@@ -1,6 +1,6 @@
 -- A range of one object that is lent and written.
 use Rattle.std.proofs.Common.{◌≡◌, ◌≢◌, ℕ, ◌+◌, ◌-◌, ◌*◌, ◌/◌, ◌%◌, ◌<◌, ◌≤◌, List, [], ◌∷◌, ◌++◌, length, take, drop, set, Option, Some, None, Result, refl, sym, ap, subst, ◌∙◌, arith}
-use Rattle.std.specs.Prelude.{IsSomeAnd, IfOk, slice_range, unwrap_or, option_map}
+use Rattle.std.specs.Prelude.{IsSomeAnd, IfOk, OnOk, slice_range, unwrap_or, option_map}
 use Rattle.std.specs.Option.{option_or}
 use Rattle.std.specs.declared.result.Result.TheVariants.{Ok, Err}
 use Rattle.std.proofs.lemmas.List.Edits.{length-between}
@@ -26,6 +26,11 @@ module _ {A : Type 0} where
   pub found-unless : {B : Type 0} (r : Result B Refusal) (o : Option A) (value : B → A) (P : A → Type 0) → refusal_in r ≡ None → IfOk r (λ x. o ≡ Some (value x)) → ((x : A) → o ≡ Some x → P x) → IsSomeAnd o P
   found-unless (Ok x) o value P free is holds = subst (λ y. IsSomeAnd y P) (sym is) (holds (value x) is)
   found-unless (Err refusal) o value P free is holds = cc
+
+-- what two clauses say together of a call that is not refused
+pub both-ok : {A B P Q R : Type 0} (r : Result A B) → OnOk r P → OnOk r Q → (P → Q → R) → OnOk r R
+both-ok (Ok x) p q then = then p q
+both-ok (Err e) p q then = tt
 
 pub single-set : {X : Type 0} (xs : List X) (x : X) → length xs ≡ 1 → set xs 0 x ≡ x ∷ []
 single-set [] x long = absurd (omega arith)

@@ -10,6 +10,9 @@ use Rattle.far_vector.proofs.vector.FarVector.fill_place.Given.{Over}
 use Rattle.far_vector.proofs.vector.FarVector.fill_place.Goals as goal
 
 module _ (g : Over) (c : goal.After-self-1 g) where
+  abbrev view : Vector g.row.T.Denot
+  view = record { column = c.self.inside.column; size = c.self.inside.size; objects = c.self.inside.objects.items; len = c.self.inside.len; blank = c.self.inside.blank }
+
   room : c.self.inside.len < length c.self.inside.objects.items * c.self.inside.size
   room =
       let some = subst (λ (v : Vector g.row.T.Denot). is_full v ≡ false) (sym c.self.view_is) c.requires.room in
@@ -32,4 +35,4 @@ pub returns-clause-apart : goal.returns-clause-apart
 returns-clause-apart g c = λ w is apart.
     let apart' = subst (λ (v : Vector g.row.T.Denot). AreApart v w) (sym c.self.view_is) apart in
     let lists = subst (λ (v : Vector g.row.T.Denot). KeepsOthers (list_of g.T.Elem.meaning g.S.FarRead.content c.args.objects.now) (list_of g.T.Elem.meaning g.S.FarRead.content c.write.new.objects) (object_at v c.self.inside.len)) (sym c.self.view_is) c.write.ensures.lists in
-    untouched (list_of g.T.Elem.meaning g.S.FarRead.content c.args.objects.now) (list_of g.T.Elem.meaning g.S.FarRead.content c.write.new.objects) _ w is apart' _ lists (c.self.inside.len / c.self.inside.size) (object-there _ c.self.invariant.shaped c.self.inside.len (room g c)) _ apart'
+    untouched (list_of g.T.Elem.meaning g.S.FarRead.content c.args.objects.now) (list_of g.T.Elem.meaning g.S.FarRead.content c.write.new.objects) (view g c) w is apart' (object_at (view g c) c.self.inside.len) lists (c.self.inside.len / c.self.inside.size) (object-there (view g c) c.self.invariant.shaped c.self.inside.len (room g c)) record (view g c) { len = c.self.inside.len + 1 } apart'
