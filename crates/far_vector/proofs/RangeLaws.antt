@@ -9,8 +9,9 @@ use Rattle.far_scopes.specs.Memory.{list_in, ChangesList}
 use Rattle.far_scopes.specs.Movement.{Movement, list_of}
 use Rattle.far_scopes.specs.Effects.{written, overwritten}
 use Rattle.far_scopes.specs.Refusing.{refusal_in}
-use Rattle.far_vector.specs.Vector.{Vector, IsShaped, IsVector, WritesPlaces, KeepsOthers, object_at}
+use Rattle.far_vector.specs.Vector.{Vector, IsShaped, IsVector, WritesPlaces, KeepsOthers, elements, object_at}
 use Rattle.far_vector.specs.Effects.{range_written}
+use Rattle.far_vector.proofs.VectorLaws.{part-lent}
 use Rattle.far_vector.proofs.WritingLaws.{places-written}
 
 module _ {A : Type 0} where
@@ -48,6 +49,16 @@ module _ {X K : Type 0} (meaning : List ℕ → List X) (content : K → List �
   list-local o list is = rw is refl
 
   module _ (v : Vector X) where
+    -- what holds of an object and a row group's length
+    pub at-place : (P : ℕ → ℕ → Type 0) (i o size : ℕ) → o ≡ object_at v i → size ≡ v.size → P o size → P (object_at v i) v.size
+    at-place P i o size object same holds = subst (λ n. P (object_at v i) n) same (subst (λ p. P p size) object holds)
+
+    -- a range that is lent is a part
+    pub range-lent : IsShaped v → IsVector (list_of meaning content m) v → (from to : ℕ) → from < to → to ≤ v.len → from / v.size ≡ (to - 1) / v.size → (r : List X) → IsSomeAnd (list_in m.memory (object_at v from)) (λ list. r ≡ slice_range list (from % v.size) (from % v.size + (to - from))) → r ≡ slice_range (elements (list_of meaning content m) v) from to
+    range-lent shaped is from to some within same r lent =
+        let found = some-both (list_in m.memory (object_at v from)) (λ list. r ≡ slice_range list (from % v.size) (from % v.size + (to - from))) (λ list. r ≡ slice_range list (from % v.size) (from % v.size + (to - from))) lent lent in
+        found.2 ∙ part-lent (list_of meaning content m) v shaped is from to some within same found.0 (list-local (object_at v from) found.0 found.1)
+
     pub written-is : (i o size : ℕ) (range now : List X) → o ≡ object_at v i → size ≡ v.size → range ≡ now → overwritten (written m o) o (i % size) range ≡ range_written m v i now
     written-is i o size range now object same is = rw (object, same, is) refl
 
