@@ -1,0 +1,10 @@
+mod PlacesLaws
+mod VectorLaws
+mod WritingLaws
+mod GroupLaws
+mod Apart
+mod InUse
+mod Checked
+mod RangeLaws
+mod Listed
+mod PieceLaws

@@ -1,0 +1,4 @@
+pub mod Vector
+pub mod Pieces
+pub mod Effects
+pub mod Refusing

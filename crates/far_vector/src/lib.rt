@@ -1,0 +1,8 @@
+#![tactic(auto)]
+//! Lists of elements that lie in shared objects, one object a row group.
+
+mod pieces;
+mod vector;
+
+pub use pieces::Pieces;
+pub use vector::FarVector;
