@@ -8,3 +8,4 @@ mod Checked
 mod RangeLaws
 mod Listed
 mod PieceLaws
+mod Lendable
