@@ -6,3 +6,6 @@ mod vector;
 
 pub use pieces::Pieces;
 pub use vector::FarVector;
+
+#[cfg(test)]
+mod tests;
