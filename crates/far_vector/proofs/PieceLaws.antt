@@ -27,95 +27,96 @@ module _ {X : Type 0} (xs : List X) (size : ℕ) where
   pub length-pieces : (from to : ℕ) → length (pieces_of xs size from to) ≡ touched_count size from to
   length-pieces from to = length-map (touched size from to) (piece xs size from to) ∙ length-range (first_touched size from) (touched_count size from to)
 
+module _ (size : ℕ) (some : 0 < size) (from to : ℕ) (more : from < to) where
+  abbrev pub g : ℕ
+  g = from / size
+
+  abbrev pub end : ℕ
+  end = min to ((g + 1) * size)
+
+  pub here : g * size + from % size ≡ from
+  here = div-add-mod' from size
+
+  below : from % size < size
+  below = mod_below from size some
+
+  last : (to - 1) / size * size + (to - 1) % size ≡ to - 1
+  last = div-add-mod' (to - 1) size
+
+  last-below : (to - 1) % size < size
+  last-below = mod_below (to - 1) size some
+
+  pub further : from < end
+  further = omega (arith, here, below, more)
+
+  pub ends : end ≤ to
+  ends = omega arith
+
+  pub one-group : from / size ≡ (end - 1) / size
+  one-group = sym (group-of size g (end - 1 - g * size) (end - 1) (omega (arith, here, below, more)) (omega (arith, here, below, more)))
+
+  pub count : touched_count size from to ≡ (to - 1) / size + 1 - g
+  count = rw (lt-ltb from to more) refl
+
+  abbrev pub rest : ℕ
+  rest = (to - 1) / size - g
+
+  pub g-low : g ≤ (to - 1) / size
+  g-low = le-div g (to - 1) size some (omega (arith, here, more))
+
+  pub count-step : touched_count size from to ≡ suc rest
+  count-step = count ∙ (let e : (to - 1) / size + 1 - g ≡ suc rest = omega (arith, g-low) in e)
+
+  -- the row groups of a part are its first and those of what is left
+  pub touched-step : touched size from to ≡ g ∷ range_with_len (g + 1) rest
+  touched-step = rw count (let e : (to - 1) / size + 1 - g ≡ suc rest = omega (arith, g-low) in rw e refl)
+
+  pub touched-last : (to - 1) / size ≡ g → end ≡ to
+  touched-last same = let rows : (to - 1) / size * size ≡ g * size = ap (λ k. k * size) same in omega (arith, rows, last, last-below)
+
+  module _ (later : g < (to - 1) / size) where
+    pub rows : (g + 1) * size ≤ (to - 1) / size * size
+    rows = mul-le (g + 1) size ((to - 1) / size) size (omega (arith, later)) (omega arith)
+
+    pub end-row : end ≡ (g + 1) * size
+    end-row = omega (arith, rows, last)
+
+    pub next-group : end / size ≡ g + 1
+    next-group = group-of size (g + 1) 0 end some (omega (arith, end-row))
+
+    pub end-before : end < to
+    end-before = omega (arith, end-row, rows, last, more)
+
+    pub next-count : touched_count size end to ≡ rest
+    next-count = rw (lt-ltb end to end-before, next-group) (omega arith)
+
 module _ {X : Type 0} (xs : List X) (size : ℕ) (some : 0 < size) where
   pub none-pieces : (from : ℕ) → pieces_of xs size from from ≡ []
   none-pieces from = rw (le-ltb from from (omega arith)) refl
 
   module _ (from to : ℕ) (more : from < to) where
-    abbrev pub g : ℕ
-    g = from / size
-
-    abbrev pub end : ℕ
-    end = min to ((g + 1) * size)
-
-    here : g * size + from % size ≡ from
-    here = div-add-mod' from size
-
-    below : from % size < size
-    below = mod_below from size some
-
-    last : (to - 1) / size * size + (to - 1) % size ≡ to - 1
-    last = div-add-mod' (to - 1) size
-
-    last-below : (to - 1) % size < size
-    last-below = mod_below (to - 1) size some
-
-    pub further : from < end
-    further = omega (arith, here, below, more)
-
-    pub ends : end ≤ to
-    ends = omega arith
-
-    pub one-group : from / size ≡ (end - 1) / size
-    one-group = sym (group-of size g (end - 1 - g * size) (end - 1) (omega (arith, here, below, more)) (omega (arith, here, below, more)))
-
-    head : piece xs size from to g ≡ slice_range xs from end
+    head : piece xs size from to (from / size) ≡ slice_range xs from (end size some from to more)
     head =
-        let low : max from (g * size) ≡ from = omega (arith, here) in
-        let high : min to (g * size + size) ≡ end = omega arith in
+        let low : max from (from / size * size) ≡ from = omega (arith, here size some from to more) in
+        let high : min to (from / size * size + size) ≡ end size some from to more = omega arith in
         rw (low, high) refl
 
-    count : touched_count size from to ≡ (to - 1) / size + 1 - g
-    count = rw (lt-ltb from to more) refl
-
-    abbrev pub rest : ℕ
-    rest = (to - 1) / size - g
-
-    pub g-low : g ≤ (to - 1) / size
-    g-low = le-div g (to - 1) size some (omega (arith, here, more))
-
-    pub count-step : touched_count size from to ≡ suc rest
-    count-step = count ∙ (let e : (to - 1) / size + 1 - g ≡ suc rest = omega (arith, g-low) in e)
-
-    -- the row groups of a part are its first and those of what is left
-    pub touched-step : touched size from to ≡ g ∷ range_with_len (g + 1) rest
-    touched-step = rw count (let e : (to - 1) / size + 1 - g ≡ suc rest = omega (arith, g-low) in rw e refl)
-
-    pub touched-last : (to - 1) / size ≡ g → end ≡ to
-    touched-last same = let rows : (to - 1) / size * size ≡ g * size = ap (λ k. k * size) same in omega (arith, rows, last, last-below)
-
-    module _ (later : g < (to - 1) / size) where
-      rows : (g + 1) * size ≤ (to - 1) / size * size
-      rows = mul-le (g + 1) size ((to - 1) / size) size (omega (arith, later)) (omega arith)
-
-      pub end-row : end ≡ (g + 1) * size
-      end-row = omega (arith, rows, last)
-
-      pub next-group : end / size ≡ g + 1
-      next-group = group-of size (g + 1) 0 end some (omega (arith, end-row))
-
-      pub end-before : end < to
-      end-before = omega (arith, end-row, rows, last, more)
-
-      pub next-count : touched_count size end to ≡ rest
-      next-count = rw (lt-ltb end to end-before, next-group) (omega arith)
-
-    tail : map (piece xs size from to) (range_with_len (g + 1) rest) ≡ pieces_of xs size end to
-    tail = elim (cases_lt g ((to - 1) / size)) [
-      | inl later ↦ rw (next-count later, next-group later)
-          (map-range (piece xs size from to) (piece xs size end to) (g + 1) rest (λ k above.
-            let row : (g + 1) * size ≤ k * size = mul-le (g + 1) size k size above (omega arith) in
-            let e : max from (k * size) ≡ max end (k * size) = omega (arith, row, end-row later, further) in
+    tail : map (piece xs size from to) (range_with_len (from / size + 1) (rest size some from to more)) ≡ pieces_of xs size (end size some from to more) to
+    tail = elim (cases_lt (from / size) ((to - 1) / size)) [
+      | inl later ↦ rw (next-count size some from to more later, next-group size some from to more later)
+          (map-range (piece xs size from to) (piece xs size (end size some from to more) to) (from / size + 1) (rest size some from to more) (λ k above.
+            let row : (from / size + 1) * size ≤ k * size = mul-le (from / size + 1) size k size above (omega arith) in
+            let e : max from (k * size) ≡ max (end size some from to more) (k * size) = omega (arith, row, end-row size some from to more later, further size some from to more) in
             rw e refl))
       | inr past ↦ (
-          let same : (to - 1) / size ≡ g = omega (arith, past, g-low) in
-          let none : rest ≡ 0 = omega (arith, past) in
-          rw (none, touched-last same) (sym (none-pieces to)))
+          let same : (to - 1) / size ≡ from / size = omega (arith, past, g-low size some from to more) in
+          let none : rest size some from to more ≡ 0 = omega (arith, past) in
+          rw (none, touched-last size some from to more same) (sym (none-pieces to)))
     ]
 
     -- the pieces of a part are its first and those of what is left
-    pub pieces-step : pieces_of xs size from to ≡ slice_range xs from end ∷ pieces_of xs size end to
-    pieces-step = ap (map (piece xs size from to)) touched-step ∙ ap (λ p. p ∷ map (piece xs size from to) (range_with_len (g + 1) rest)) head ∙ ap (λ l. slice_range xs from end ∷ l) tail
+    pub pieces-step : pieces_of xs size from to ≡ slice_range xs from (end size some from to more) ∷ pieces_of xs size (end size some from to more) to
+    pieces-step = ap (map (piece xs size from to)) (touched-step size some from to more) ∙ ap (λ p. p ∷ map (piece xs size from to) (range_with_len (from / size + 1) (rest size some from to more))) head ∙ ap (λ l. slice_range xs from (end size some from to more) ∷ l) tail
 
   -- a part is what two of it are, one behind the other
   joined-two : (from mid to : ℕ) → from ≤ mid → mid ≤ to → slice_range xs from mid ++ slice_range xs mid to ≡ slice_range xs from to
@@ -133,8 +134,8 @@ module _ {X : Type 0} (xs : List X) (size : ℕ) (some : 0 < size) where
   joined-up zero from to near low = joined-none from to (omega (arith, near, low))
   joined-up (suc n) from to near low = elim (cases_lt from to) [
     | inl more ↦ ap (flat_map (λ p. p)) (pieces-step from to more)
-      ∙ ap (λ l. slice_range xs from (end from to more) ++ l) (joined-up n (end from to more) to (omega (arith, near, further from to more)) (ends from to more))
-      ∙ joined-two from (end from to more) to (omega (arith, further from to more)) (ends from to more)
+      ∙ ap (λ l. slice_range xs from (end size some from to more) ++ l) (joined-up n (end size some from to more) to (omega (arith, near, further size some from to more)) (ends size some from to more))
+      ∙ joined-two from (end size some from to more) to (omega (arith, further size some from to more)) (ends size some from to more)
     | inr past ↦ joined-none from to (omega (arith, past, low))
   ]
 
@@ -148,9 +149,9 @@ module _ {X : Type 0} (xs : List X) (size : ℕ) (some : 0 < size) where
   some-up zero from to near low within = some-none from to (omega (arith, near, low))
   some-up (suc n) from to near low within = elim (cases_lt from to) [
     | inl more ↦ subst (All (λ p. 0 < length p)) (sym (pieces-step from to more))
-      (All-cons (λ p. 0 < length p) (slice_range xs from (end from to more)) (pieces_of xs size (end from to more) to)
-        (let long = length-between xs from (end from to more) (omega (arith, ends from to more, within)) in omega (arith, long, further from to more))
-        (some-up n (end from to more) to (omega (arith, near, further from to more)) (ends from to more) within))
+      (All-cons (λ p. 0 < length p) (slice_range xs from (end size some from to more)) (pieces_of xs size (end size some from to more) to)
+        (let long = length-between xs from (end size some from to more) (omega (arith, ends size some from to more, within)) in omega (arith, long, further size some from to more))
+        (some-up n (end size some from to more) to (omega (arith, near, further size some from to more)) (ends size some from to more) within))
     | inr past ↦ some-none from to (omega (arith, past, low))
   ]
 

@@ -7,3 +7,6 @@ mod vector;
 
 pub use pieces::Pieces;
 pub use vector::FarVector;
+
+#[cfg(test)]
+mod tests;
