@@ -1,3 +1,4 @@
 pub mod Texts
 pub mod Changes
 pub mod Refusing
+pub mod Lending

@@ -5,4 +5,7 @@ mod alive;
 mod text_column;
 
 pub use alive::Alive;
-pub use text_column::TextColumn;
+pub use text_column::{TextCell, TextCells, TextColumn};
+
+#[cfg(test)]
+mod tests;
