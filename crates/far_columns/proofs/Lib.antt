@@ -4,3 +4,4 @@ pub mod InUse
 pub mod Changed
 pub mod Setting
 pub mod Pushing
+pub mod Lent

@@ -9,4 +9,7 @@ mod text_column;
 pub use alive::Alive;
 pub use int_column::IntColumn;
 pub use lent::{Lent, Lents};
-pub use text_column::TextColumn;
+pub use text_column::{TextCell, TextCells, TextColumn};
+
+#[cfg(test)]
+mod tests;

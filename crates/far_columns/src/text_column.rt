@@ -1,12 +1,14 @@
 // A column of texts.
 ghost use Rattle.std.specs.Prelude.{◌≡◌, ◌<◌, ◌≤◌, ◌^◌, ℕ, [], length, slice_get, slice_index};
-ghost use Rattle.far_columns.specs.Texts.{HasGroups};
+ghost use Rattle.far_columns.specs.Texts.{Lists, HasGroups, IsTextColumn};
 
+mod cells;
 mod lengths;
 mod pushing;
 mod reading;
 mod setting;
 
+pub use cells::{TextCell, TextCells};
 use std::alloc::Global;
 use std::marker::Model;
 
@@ -45,7 +47,8 @@ impl TextColumn {
         requires some { 0 < size }
         requires small { size ≤ 2 ^ 16 }
         requires short { limit ≤ 2 ^ 24 }
-        ensures { result ≡ record { column = column; size = size; limit = limit; objects = []; len = 0 } }
+        ensures empty { result ≡ record { column = column; size = size; limit = limit; objects = []; len = 0 } }
+        ensures is { (lists : Lists) → IsTextColumn lists result }
     {
         TextColumn {
             column,
