@@ -4,4 +4,5 @@ pub mod InUse
 pub mod Changed
 pub mod Setting
 pub mod Pushing
-pub mod Lent
+pub mod LentCells
+mod Flags

@@ -40,7 +40,7 @@ impl<'a, S: FarRead> Lents<'a, S> {
     /// Pieces with the flags of their places, one behind the other.
     pub(crate) fn new(pieces: Pieces<'a, Option<i64>, S>, alive: &'a [bool]) -> Lents<'a, S>
         requires { length alive.now ≡ length (flat_map (λ piece. piece) pieces) }
-        ensures { result ≡ with_flags pieces alive.now }
+        ensures { result ≡ with_flags pieces.entry alive.now }
     {
         Lents { pieces, alive }
     }

@@ -4,7 +4,7 @@ use Rattle.std.specs.List.{zip}
 use Rattle.std.proofs.lemmas.List.{length-take, length-drop}
 use Rattle.far_scopes.specs.Refusing.{first_absent}
 use Rattle.far_columns.specs.Texts.{lists_of, texts_in, HasGroups}
-use Rattle.far_columns.proofs.Lent.{part-free, zip-part}
+use Rattle.far_columns.proofs.LentCells.{part-free, zip-part}
 use Rattle.far_columns.proofs.text_column.TextColumn.texts.Goals as goal
 use Rattle.far_columns.proofs.text_column.TextColumn.texts.Goals.{then-from-to-2+in_ok-all_here, else-from-to-2}
 

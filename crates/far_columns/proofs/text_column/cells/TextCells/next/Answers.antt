@@ -2,7 +2,7 @@ use Rattle.std.proofs.Common.{◌≡◌, [], drop, sym, ap, ◌∙◌, arith}
 use Rattle.std.specs.List.{zip}
 use Rattle.std.proofs.lemmas.List.{nil_from_length}
 use Rattle.far_columns.specs.Texts.{lists_of, texts_in}
-use Rattle.far_columns.proofs.Lent.{zip-none, zip-next, few-texts}
+use Rattle.far_columns.proofs.LentCells.{zip-none, zip-next, few-texts}
 use Rattle.far_columns.proofs.text_column.cells.TextCells.next.Goals as goal
 
 pub returns-in_err-alive-clause-none : goal.returns-in_err-alive-clause-none
