@@ -17,7 +17,11 @@ fn numbers<S: FarRead>(
     objects: &mut Objects<Option<i64>, S>,
 ) -> Result<(Option<i64>, Vec<Option<i64>>), Refusal> {
     let mut vector = FarVector::new(alloc, 0, 4, Some(0))?;
-    push_all(&mut vector, objects, &[Some(1), Some(2), Some(3), Some(4), Some(5)])?;
+    push_all(
+        &mut vector,
+        objects,
+        &[Some(1), Some(2), Some(3), Some(4), Some(5)],
+    )?;
     let last = vector.get(objects, 4)?;
     let part = vector.part(objects, 1, 3)?;
     Ok((last, part.to_vec(alloc)?))
@@ -42,7 +46,12 @@ fn piece_lengths<S: FarRead>(
     alloc: Global,
     objects: &mut Objects<Option<i64>, S>,
 ) -> Result<(usize, Option<usize>, Option<usize>), Refusal> {
-    let vector = filled(alloc, objects, Some(0), &[Some(1), Some(2), Some(3), Some(4), Some(5)])?;
+    let vector = filled(
+        alloc,
+        objects,
+        Some(0),
+        &[Some(1), Some(2), Some(3), Some(4), Some(5)],
+    )?;
     lengths(&vector, objects)
 }
 

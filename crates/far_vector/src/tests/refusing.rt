@@ -5,7 +5,6 @@ ghost use Rattle.far_vector.specs.Vector.{IsVector};
 use super::{filled, no_objects, push_all};
 use crate::FarVector;
 use far_codec::Elem;
-
 use far_scopes::Objects;
 use far_store::{AgentStore, FarRead};
 use far_types::Refusal;
@@ -13,10 +12,7 @@ use std::alloc::Global;
 use std::test::Fail;
 
 /// Why a part that crosses row groups is refused.
-fn crossing<T: Elem, S: FarRead>(
-    vector: &FarVector<T>,
-    objects: &Objects<T, S>,
-) -> Option<Refusal>
+fn crossing<T: Elem, S: FarRead>(vector: &FarVector<T>, objects: &Objects<T, S>) -> Option<Refusal>
     requires { IsVector (list_of T.meaning S.content objects.now) vector.now }
 {
     vector.part(objects, 3, 5).err()
@@ -37,7 +33,12 @@ fn out_of_range<S: FarRead>(
     alloc: Global,
     objects: &mut Objects<Option<i64>, S>,
 ) -> Result<[Option<Refusal>; 2], Refusal> {
-    let vector = filled(alloc, objects, Some(0), &[Some(1), Some(2), Some(3), Some(4), Some(5)])?;
+    let vector = filled(
+        alloc,
+        objects,
+        Some(0),
+        &[Some(1), Some(2), Some(3), Some(4), Some(5)],
+    )?;
     Ok([crossing(&vector, objects), past_the_end(&vector, objects)])
 }
 
