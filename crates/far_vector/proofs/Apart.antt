@@ -1,8 +1,8 @@
 -- A vector that shares no object with another stays what it was when that is written.
-use Rattle.std.proofs.Common.{◌≡◌, ◌≢◌, ℕ, ◌-◌, ◌<◌, List, length, take, drop, replicate, Option, Some, sym, ap, subst, ◌∙◌}
+use Rattle.std.proofs.Common.{◌≡◌, ◌≢◌, ℕ, List, length, take, drop, Option, Some, sym, ap, subst, ◌∙◌}
 use Rattle.std.specs.Prelude.{All, IsSomeAnd, slice_get}
 use Rattle.std.proofs.lemmas.Option.{slice_get_within, get_or_from_slice_get}
-use Rattle.far_vector.specs.Vector.{Vector, IsVector, IsUntouched, AreApart, KeepsOthers, places, elements}
+use Rattle.far_vector.specs.Vector.{Vector, IsVector, IsUntouched, AreApart, KeepsOthers, elements}
 use Rattle.far_vector.proofs.PlacesLaws.{places-kept}
 
 module _ {X : Type 0} (old new : ℕ → Option (List X)) (w : Vector X) (same : All (λ o. new o ≡ old o) w.objects) where

@@ -1,10 +1,10 @@
 -- What is known where a part is not refused.
-use Rattle.std.proofs.Common.{◌≡◌, ℕ, suc, ◌-◌, ◌*◌, ◌/◌, ◌<◌, ◌≤◌, Bool, true, false, cond, [], ◌∷◌, length, nat_lt, Option, Some, None, inl, inr, refl, sym, arith}
-use Rattle.std.specs.Prelude.{◌==◌, ◌&&◌, ◌||◌, not, nat_eq}
+use Rattle.std.proofs.Common.{◌≡◌, ℕ, ◌-◌, ◌/◌, ◌<◌, ◌≤◌, Bool, true, false, [], ◌∷◌, nat_lt, None, refl}
+use Rattle.std.specs.Prelude.{◌==◌, ◌&&◌, not}
 use Rattle.std.proofs.lemmas.Bool.{ltb-false, or_parts, lt-ltb, eqb-true, not-false}
 use Rattle.far_types.specs.declared.refusal.Refusal.{Refusal}
 use Rattle.far_types.specs.FirstOf.{first_of}
-use Rattle.far_scopes.specs.Movement.{Movement, is_local}
+use Rattle.far_scopes.specs.Movement.{Movement}
 use Rattle.far_scopes.specs.Refusing.{absent, written_out, write_refusal, lend_refusal}
 use Rattle.far_vector.specs.Vector.{Vector, object_at}
 use Rattle.far_vector.specs.Refusing.{no_range, crosses, is_empty, unless_empty, write_part_refusal}

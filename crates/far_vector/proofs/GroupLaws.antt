@@ -1,14 +1,14 @@
 -- A row group more, and one less.
-use Rattle.std.proofs.Common.{◌≡◌, ◌≢◌, ℕ, zero, suc, ◌+◌, ◌-◌, ◌*◌, ◌/◌, ◌<◌, ◌≤◌, ◌^◌, List, [], ◌∷◌, ◌++◌, length, take, drop, set, get_or, replicate, Option, Some, refl, sym, ap, subst, ◌∙◌, arith, length-append}
-use Rattle.std.specs.Prelude.{All, AllPairs, IsSomeAnd, slice_get, slice_index}
+use Rattle.std.proofs.Common.{◌≡◌, ◌≢◌, ℕ, suc, ◌+◌, ◌-◌, ◌*◌, ◌/◌, ◌<◌, ◌^◌, List, [], ◌∷◌, ◌++◌, length, take, drop, set, get_or, replicate, Option, Some, refl, sym, ap, subst, ◌∙◌, arith, length-append}
+use Rattle.std.specs.Prelude.{All, IsSomeAnd, slice_get, slice_index}
 use Rattle.std.proofs.lemmas.List.{length-take-le, append-nil, length-replicate, take_all, take-take, drop_all, get_or-take, get_or_at}
 use Rattle.std.proofs.lemmas.Nat.{div-mul-add}
 use Rattle.std.proofs.lemmas.List.Elements.{All-push, All-take}
 use Rattle.std.proofs.lemmas.List.Quantifiers.{all_pairs_push}
-use Rattle.far_vector.specs.Vector.{Vector, IsShaped, IsLaid, IsVector, IsUntouched, AreApart, KeepsOthers, places, elements}
+use Rattle.far_vector.specs.Vector.{Vector, IsShaped, IsVector, IsUntouched, AreApart, KeepsOthers, places, elements}
 use Rattle.far_vector.specs.Effects.{next_group, unpushed}
 use Rattle.far_vector.proofs.PlacesLaws.{list_at, places-append, places-kept, places-split, before-apart, length-before}
-use Rattle.far_vector.proofs.VectorLaws.{length-all, length-elements}
+use Rattle.far_vector.proofs.VectorLaws.{length-all}
 use Rattle.far_vector.proofs.WritingLaws.{take-after, drop-after}
 use Rattle.far_vector.proofs.Apart.{vector-kept, elements-kept, untouched}
 
@@ -60,9 +60,9 @@ module _ {X : Type 0} (old new : ℕ → Option (List X)) (v : Vector X) (shaped
   vector-begun = record {
     whole = All-push (λ p. IsSomeAnd (new p) (λ list. length list ≡ v.size)) v.objects o (vector-kept old new v same-lists is).whole (rw has (let n = length-replicate (v.size - 1) v.blank in omega (arith, n, shaped.some)));
     unused =
-      ap (drop (v.len + 1)) all-begun
-      ∙ drop-after (places old v.objects) (next_group v x) 1 (v.len + 1) (omega (arith, all-long))
-      ∙ ap (λ n. replicate n v.blank) (let long = length-append v.objects (o ∷ []) in let e : v.size - 1 ≡ length (v.objects ++ o ∷ []) * v.size - (v.len + 1) = rw long (omega (arith, full)) in e);
+        ap (drop (v.len + 1)) all-begun
+        ∙ drop-after (places old v.objects) (next_group v x) 1 (v.len + 1) (omega (arith, all-long))
+        ∙ ap (λ n. replicate n v.blank) (let long = length-append v.objects (o ∷ []) in let e : v.size - 1 ≡ length (v.objects ++ o ∷ []) * v.size - (v.len + 1) = rw long (omega (arith, full)) in e);
   }
 
   pub untouched-begun : (w : Vector X) → IsVector old w → All (λ p. p < o) w.objects → AreApart v w → IsUntouched old new (begun v o) w
@@ -93,17 +93,17 @@ module _ {X : Type 0} (old new : ℕ → Option (List X)) (v : Vector X) (shaped
       ap (take (v.len - 1)) (places-kept old new kept kept-lists)
       ∙ take_all (v.len - 1) (places old kept) (omega (arith, used-long))
       ∙ sym (take-take (v.len - 1) v.len (places old v.objects) (omega arith)
-        ∙ ap (take (v.len - 1)) (places-split old v.objects (length v.objects - 1) o last)
-        ∙ take-after (places old kept) (list_at old o ++ places old (drop (suc (length v.objects - 1)) v.objects)) 0 (v.len - 1) (omega (arith, used-long))
-        ∙ append-nil (places old kept))
+      ∙ ap (take (v.len - 1)) (places-split old v.objects (length v.objects - 1) o last)
+      ∙ take-after (places old kept) (list_at old o ++ places old (drop (suc (length v.objects - 1)) v.objects)) 0 (v.len - 1) (omega (arith, used-long))
+      ∙ append-nil (places old kept))
 
   pub vector-unpushed : IsVector new (unpushed v)
   vector-unpushed = record {
     whole = λ k d within. subst (λ list. IsSomeAnd list (λ l. length l ≡ v.size)) (sym (kept-lists k d within)) (All-take (λ p. IsSomeAnd (old p) (λ list. length list ≡ v.size)) (length v.objects - 1) v.objects is.whole k d within);
     unused =
-      ap (drop (v.len - 1)) (places-kept old new kept kept-lists)
-      ∙ drop_all (v.len - 1) (places old kept) (omega (arith, used-long))
-      ∙ ap (λ n. replicate n v.blank) (let e : 0 ≡ length kept * v.size - (v.len - 1) = rw kept-long (omega (arith, alone)) in e);
+        ap (drop (v.len - 1)) (places-kept old new kept kept-lists)
+        ∙ drop_all (v.len - 1) (places old kept) (omega (arith, used-long))
+        ∙ ap (λ n. replicate n v.blank) (let e : 0 ≡ length kept * v.size - (v.len - 1) = rw kept-long (omega (arith, alone)) in e);
   }
 
   pub untouched-unpushed : (w : Vector X) → IsVector old w → AreApart v w → IsUntouched old new (unpushed v) w

@@ -1,6 +1,5 @@
 -- Parts of a vector whose row groups are local.
-use Rattle.std.proofs.Common.{◌≡◌, ℕ, suc, ◌+◌, ◌-◌, ◌*◌, ◌/◌, ◌<◌, ◌≤◌, min, Bool, true, false, cond, List, [], ◌∷◌, length, take, drop, get_or, nat_lt, Option, Some, None, inl, inr, refl, sym, ap, subst, ◌∙◌, arith}
-use Rattle.std.specs.Prelude.{◌==◌, ◌||◌, ◌&&◌, not, nat_eq}
+use Rattle.std.proofs.Common.{◌≡◌, ℕ, ◌+◌, ◌-◌, ◌*◌, ◌/◌, ◌<◌, ◌≤◌, min, Bool, true, false, cond, [], ◌∷◌, length, take, drop, nat_lt, Option, Some, None, inl, inr, refl, sym, ap, ◌∙◌, arith}
 use Rattle.std.specs.Option.{option_or}
 use Rattle.std.proofs.lemmas.Bool.{cases_lt, ltb-false, le-ltb, or_parts, or_from, and_right, eq-eqb, not_from_true}
 use Rattle.std.proofs.lemmas.List.{drop_more}
@@ -10,9 +9,9 @@ use Rattle.far_scopes.specs.Movement.{Movement, is_local}
 use Rattle.far_scopes.specs.Refusing.{absent, first_absent}
 use Rattle.far_vector.specs.Vector.{Vector, IsShaped, object_at}
 use Rattle.far_vector.specs.Pieces.{first_touched, touched_count}
-use Rattle.far_vector.specs.Refusing.{no_range, crosses, is_empty, unless_empty, part_refusal, pieces_refusal}
+use Rattle.far_vector.specs.Refusing.{no_range, crosses, unless_empty, part_refusal, pieces_refusal}
 use Rattle.far_vector.proofs.VectorLaws.{group-within}
-use Rattle.far_vector.proofs.PieceLaws.{g-low, further, ends, one-group, count-step, touched-last, next-group, next-count}
+use Rattle.far_vector.proofs.PieceLaws.{g-low, further, one-group, count-step, touched-last, next-group, next-count}
 
 option_or-none : {A : Type 0} (a b : Option A) → option_or a b ≡ None → (a ≡ None) × (b ≡ None)
 option_or-none None b is = (refl, is)
@@ -62,19 +61,19 @@ module _ {X K : Type 0} (m : Movement X K) (v : Vector X) (from to : ℕ) (free 
     part-free =
         let stop : ℕ = min to ((from / v.size + 1) * v.size) in
         three-free (no_range v from (min to ((from / v.size + 1) * v.size))).0 (crosses v from (min to ((from / v.size + 1) * v.size))).0 (unless_empty from (min to ((from / v.size + 1) * v.size)) (absent m (object_at v from))).0
-          (no_range v from stop).1 (crosses v from stop).1 (absent m (object_at v from)).1
-          (in-range v from (min to ((from / v.size + 1) * v.size)) (omega (arith, further v.size shaped.some from to more)) (omega (arith, range-free.1)))
-          (and_right _ _ (not_from_true _ (eq-eqb (from / v.size) ((min to ((from / v.size + 1) * v.size) - 1) / v.size) (one-group v.size shaped.some from to more))))
-          (and_right _ _ (not_from_true (is_local m (object_at v from)) both.0))
+        (no_range v from stop).1 (crosses v from stop).1 (absent m (object_at v from)).1
+        (in-range v from (min to ((from / v.size + 1) * v.size)) (omega (arith, further v.size shaped.some from to more)) (omega (arith, range-free.1)))
+        (and_right _ _ (not_from_true _ (eq-eqb (from / v.size) ((min to ((from / v.size + 1) * v.size) - 1) / v.size) (one-group v.size shaped.some from to more))))
+        (and_right _ _ (not_from_true (is_local m (object_at v from)) both.0))
 
     -- and what is left after it
     pub next-free : pieces_refusal m v (min to ((from / v.size + 1) * v.size)) to ≡ None
     next-free =
         one-free (no_range v (min to ((from / v.size + 1) * v.size)) to).0 (no_range v from to).1 (first_absent m (take (touched_count v.size (min to ((from / v.size + 1) * v.size)) to) (drop (first_touched v.size (min to ((from / v.size + 1) * v.size))) v.objects)))
-          (in-range v (min to ((from / v.size + 1) * v.size)) to (omega arith) range-free.1)
-          (elim (cases_lt (from / v.size) ((to - 1) / v.size)) [
-            | inl later ↦ rw (next-count v.size shaped.some from to more later, next-group v.size shaped.some from to more later) both.1
-            | inr past ↦ (
+        (in-range v (min to ((from / v.size + 1) * v.size)) to (omega arith) range-free.1)
+        (elim (cases_lt (from / v.size) ((to - 1) / v.size)) [
+          | inl later ↦ rw (next-count v.size shaped.some from to more later, next-group v.size shaped.some from to more later) both.1
+          | inr past ↦ (
               let same : (to - 1) / v.size ≡ from / v.size = omega (arith, past, g-low v.size shaped.some from to more) in
               rw (touched-last v.size shaped.some from to more same, le-ltb to to (omega arith)) refl)
-          ])
+        ])

@@ -1,10 +1,10 @@
 -- The pieces of a part: each is of one row group and holds something, and joined they are the part.
-use Rattle.std.proofs.Common.{◌≡◌, ℕ, zero, suc, ◌+◌, ◌-◌, ◌*◌, ◌/◌, ◌%◌, ◌<◌, ◌≤◌, min, max, cond, true, false, List, [], ◌∷◌, ◌++◌, length, take, drop, map, nat_lt, inl, inr, refl, sym, ap, subst, ◌∙◌, arith}
+use Rattle.std.proofs.Common.{◌≡◌, ℕ, zero, suc, ◌+◌, ◌-◌, ◌*◌, ◌/◌, ◌%◌, ◌<◌, ◌≤◌, min, max, List, [], ◌∷◌, ◌++◌, length, take, drop, map, inl, inr, refl, sym, ap, subst, ◌∙◌, arith}
 use Rattle.std.specs.Prelude.{All, slice_range}
 use Rattle.std.specs.List.{flat_map, range_with_len}
 use Rattle.std.proofs.lemmas.Bool.{cases_lt, lt-ltb, le-ltb}
 use Rattle.std.proofs.lemmas.Nat.{mod_below, div-add-mod', div-mul-add, le-div, mul-le}
-use Rattle.std.proofs.lemmas.List.{length-map, length-take-le, length-drop, drop-drop}
+use Rattle.std.proofs.lemmas.List.{length-map, drop-drop}
 use Rattle.std.proofs.lemmas.List.Elements.{All-cons, All-nil}
 use Rattle.std.proofs.lemmas.List.Edits.{between_none, length-between}
 use Rattle.std.proofs.Math.Seq.{take-add}
@@ -105,9 +105,9 @@ module _ {X : Type 0} (xs : List X) (size : ℕ) (some : 0 < size) where
     tail = elim (cases_lt (from / size) ((to - 1) / size)) [
       | inl later ↦ rw (next-count size some from to more later, next-group size some from to more later)
           (map-range (piece xs size from to) (piece xs size (end size some from to more) to) (from / size + 1) (rest size some from to more) (λ k above.
-            let row : (from / size + 1) * size ≤ k * size = mul-le (from / size + 1) size k size above (omega arith) in
-            let e : max from (k * size) ≡ max (end size some from to more) (k * size) = omega (arith, row, end-row size some from to more later, further size some from to more) in
-            rw e refl))
+          let row : (from / size + 1) * size ≤ k * size = mul-le (from / size + 1) size k size above (omega arith) in
+          let e : max from (k * size) ≡ max (end size some from to more) (k * size) = omega (arith, row, end-row size some from to more later, further size some from to more) in
+          rw e refl))
       | inr past ↦ (
           let same : (to - 1) / size ≡ from / size = omega (arith, past, g-low size some from to more) in
           let none : rest size some from to more ≡ 0 = omega (arith, past) in
@@ -134,8 +134,8 @@ module _ {X : Type 0} (xs : List X) (size : ℕ) (some : 0 < size) where
   joined-up zero from to near low = joined-none from to (omega (arith, near, low))
   joined-up (suc n) from to near low = elim (cases_lt from to) [
     | inl more ↦ ap (flat_map (λ p. p)) (pieces-step from to more)
-      ∙ ap (λ l. slice_range xs from (end size some from to more) ++ l) (joined-up n (end size some from to more) to (omega (arith, near, further size some from to more)) (ends size some from to more))
-      ∙ joined-two from (end size some from to more) to (omega (arith, further size some from to more)) (ends size some from to more)
+        ∙ ap (λ l. slice_range xs from (end size some from to more) ++ l) (joined-up n (end size some from to more) to (omega (arith, near, further size some from to more)) (ends size some from to more))
+        ∙ joined-two from (end size some from to more) to (omega (arith, further size some from to more)) (ends size some from to more)
     | inr past ↦ joined-none from to (omega (arith, past, low))
   ]
 
@@ -149,7 +149,7 @@ module _ {X : Type 0} (xs : List X) (size : ℕ) (some : 0 < size) where
   some-up zero from to near low within = some-none from to (omega (arith, near, low))
   some-up (suc n) from to near low within = elim (cases_lt from to) [
     | inl more ↦ subst (All (λ p. 0 < length p)) (sym (pieces-step from to more))
-      (All-cons (λ p. 0 < length p) (slice_range xs from (end size some from to more)) (pieces_of xs size (end size some from to more) to)
+        (All-cons (λ p. 0 < length p) (slice_range xs from (end size some from to more)) (pieces_of xs size (end size some from to more) to)
         (let long = length-between xs from (end size some from to more) (omega (arith, ends size some from to more, within)) in omega (arith, long, further size some from to more))
         (some-up n (end size some from to more) to (omega (arith, near, further size some from to more)) (ends size some from to more) within))
     | inr past ↦ some-none from to (omega (arith, past, low))

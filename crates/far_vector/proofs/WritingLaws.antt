@@ -1,12 +1,12 @@
 -- Elements that are written over.
-use Rattle.std.proofs.Common.{◌≡◌, ◌≢◌, ℕ, suc, ◌+◌, ◌-◌, ◌*◌, ◌/◌, ◌%◌, ◌<◌, ◌≤◌, List, [], ◌∷◌, ◌++◌, length, take, drop, set, get_or, replicate, Option, Some, inl, inr, refl, sym, ap, subst, ◌∙◌, arith, length-append}
-use Rattle.std.specs.Prelude.{All, IsSomeAnd, unwrap_or, slice_set}
+use Rattle.std.proofs.Common.{◌≡◌, ℕ, suc, ◌+◌, ◌-◌, ◌*◌, ◌/◌, ◌%◌, ◌<◌, ◌≤◌, List, [], ◌∷◌, ◌++◌, length, take, drop, get_or, replicate, Option, Some, inl, inr, refl, sym, ap, subst, ◌∙◌, arith, length-append}
+use Rattle.std.specs.Prelude.{IsSomeAnd, slice_set}
 use Rattle.std.proofs.lemmas.Bool.{cases_eq}
 use Rattle.std.proofs.lemmas.List.{length-take-le, length-drop, take-take, drop-take, drop-drop, drop-replicate, set_split}
 use Rattle.std.proofs.Math.Seq.{take-append-add, drop-append-add}
 use Rattle.far_vector.specs.Vector.{Vector, IsShaped, IsVector, WritesPlaces, KeepsOthers, places, elements, object_at}
-use Rattle.far_vector.proofs.PlacesLaws.{list_at, range-places}
-use Rattle.far_vector.proofs.VectorLaws.{group-within, object-there, place-is, list-there, length-all, length-elements}
+use Rattle.far_vector.proofs.PlacesLaws.{range-places}
+use Rattle.far_vector.proofs.VectorLaws.{object-there, place-is, list-there, length-all, length-elements}
 
 module _ {X : Type 0} where
   pub take-after : (xs ys : List X) (n k : ℕ) → k ≡ length xs + n → take k (xs ++ ys) ≡ xs ++ take n ys
@@ -29,7 +29,7 @@ module _ {X : Type 0} where
     take-written : take len (take i all ++ (range ++ after)) ≡ take i (take len all) ++ (range ++ drop (i + length range) (take len all))
     take-written =
         let rest : drop (i + length range) (take len all) ≡ take (len - (i + length range)) after =
-            ap (λ n. drop (i + length range) (take n all)) len-is ∙ drop-take (i + length range) (len - (i + length range)) all in
+        ap (λ n. drop (i + length range) (take n all)) len-is ∙ drop-take (i + length range) (len - (i + length range)) all in
         take-after (take i all) (range ++ after) (len - i) len (omega (arith, front-long, within))
         ∙ ap (λ l. take i all ++ l) (take-after range after (len - (i + length range)) (len - i) (omega (arith, within)))
         ∙ ap (λ l. l ++ (range ++ take (len - (i + length range)) after)) (sym (take-take i len all (omega (arith, within))))
@@ -100,12 +100,12 @@ module _ {X : Type 0} (old new : ℕ → Option (List X)) (v : Vector X) (shaped
   vector-filled = record {
     whole = writes.whole;
     unused =
-      ap (drop (v.len + 1)) writes.places
-      ∙ drop-after (take v.len (places old v.objects)) (x ∷ unused-after) 1 (v.len + 1) (omega (arith, used-long))
-      ∙ sym (drop-drop 1 v.len (places old v.objects))
-      ∙ ap (drop 1) is.unused
-      ∙ drop-replicate 1 (length v.objects * v.size - v.len) v.blank
-      ∙ ap (λ n. replicate n v.blank) (let e : length v.objects * v.size - v.len - 1 ≡ length v.objects * v.size - (v.len + 1) = omega arith in e);
+        ap (drop (v.len + 1)) writes.places
+        ∙ drop-after (take v.len (places old v.objects)) (x ∷ unused-after) 1 (v.len + 1) (omega (arith, used-long))
+        ∙ sym (drop-drop 1 v.len (places old v.objects))
+        ∙ ap (drop 1) is.unused
+        ∙ drop-replicate 1 (length v.objects * v.size - v.len) v.blank
+        ∙ ap (λ n. replicate n v.blank) (let e : length v.objects * v.size - v.len - 1 ≡ length v.objects * v.size - (v.len + 1) = omega arith in e);
   }
 
   pub shaped-filled : IsShaped filled

@@ -1,5 +1,5 @@
 -- A part of a vector, row group by row group.
-use Rattle.std.specs.Prelude.{ℕ, ◌+◌, ◌-◌, ◌*◌, ◌/◌, if◌then◌else◌, nat_lt, min, max, List, [], map, slice_range}
+use Rattle.std.specs.Prelude.{ℕ, ◌+◌, ◌-◌, ◌*◌, ◌/◌, if◌then◌else◌, nat_lt, min, max, List, map, slice_range}
 use Rattle.std.specs.List.{range_with_len}
 
 -- the row groups of some size that hold places `from` up to `to`: the first, and how many

@@ -3,7 +3,7 @@ mod reading;
 mod refusing;
 mod writing;
 
-ghost use Rattle.std.specs.Prelude.{◌≡◌};
+ghost use Rattle.std.specs.Prelude.{IfOk};
 ghost use Rattle.far_scopes.specs.Movement.{list_of};
 ghost use Rattle.far_vector.specs.Vector.{IsVector};
 
@@ -39,4 +39,18 @@ fn push_all<T: Elem, S: FarRead>(
         vector.push(objects, *x)?;
     }
     Ok(())
+}
+
+/// A vector of these elements, in row groups of four.
+fn filled<T: Elem, S: FarRead>(
+    alloc: Global,
+    objects: &mut Objects<T, S>,
+    blank: T,
+    elements: &[T],
+) -> Result<FarVector<T>, Refusal>
+    ensures { IfOk result (λ v. IsVector (list_of T.meaning S.content objects.new) v) }
+{
+    let mut vector = FarVector::new(alloc, 0, 4, blank)?;
+    push_all(&mut vector, objects, elements)?;
+    Ok(vector)
 }

@@ -1,6 +1,10 @@
 // Elements read: worked examples.
-use super::{no_objects, push_all};
+ghost use Rattle.far_scopes.specs.Movement.{list_of};
+ghost use Rattle.far_vector.specs.Vector.{IsVector};
+
+use super::{filled, no_objects, push_all};
 use crate::FarVector;
+use far_codec::Elem;
 use far_scopes::Objects;
 use far_store::{AgentStore, FarRead};
 use far_types::Refusal;
@@ -13,25 +17,42 @@ fn numbers<S: FarRead>(
     objects: &mut Objects<Option<i64>, S>,
 ) -> Result<(Option<i64>, Vec<Option<i64>>), Refusal> {
     let mut vector = FarVector::new(alloc, 0, 4, Some(0))?;
-    push_all(&mut vector, objects, &[Some(1), Some(2), Some(3), Some(4), Some(5)])?;
+    push_all(
+        &mut vector,
+        objects,
+        &[Some(1), Some(2), Some(3), Some(4), Some(5)],
+    )?;
     let last = vector.get(objects, 4)?;
     let part = vector.part(objects, 1, 3)?;
     Ok((last, part.to_vec(alloc)?))
 }
 
-/// How long the pieces of five numbers are that lie in row groups of four.
-fn piece_lengths<S: FarRead>(
-    alloc: Global,
-    objects: &mut Objects<Option<i64>, S>,
-) -> Result<(usize, Option<usize>, Option<usize>, Option<usize>), Refusal> {
-    let mut vector = FarVector::new(alloc, 0, 4, Some(0))?;
-    push_all(&mut vector, objects, &[Some(1), Some(2), Some(3), Some(4), Some(5)])?;
-    let mut pieces = vector.pieces(objects, 0, 5)?;
+/// How many pieces all elements have, and how long the first two are.
+fn lengths<T: Elem, S: FarRead>(
+    vector: &FarVector<T>,
+    objects: &Objects<T, S>,
+) -> Result<(usize, Option<usize>, Option<usize>), Refusal>
+    requires { IsVector (list_of T.meaning S.content objects.now) vector.now }
+{
+    let mut pieces = vector.pieces(objects, 0, vector.len())?;
     let count = pieces.len();
     let first = pieces.next().map(|piece| piece.len());
     let second = pieces.next().map(|piece| piece.len());
-    let third = pieces.next().map(|piece| piece.len());
-    Ok((count, first, second, third))
+    Ok((count, first, second))
+}
+
+/// The same of five numbers that lie in row groups of four.
+fn piece_lengths<S: FarRead>(
+    alloc: Global,
+    objects: &mut Objects<Option<i64>, S>,
+) -> Result<(usize, Option<usize>, Option<usize>), Refusal> {
+    let vector = filled(
+        alloc,
+        objects,
+        Some(0),
+        &[Some(1), Some(2), Some(3), Some(4), Some(5)],
+    )?;
+    lengths(&vector, objects)
 }
 
 /// How many numbers there are, and the objects of the second row group and of one that is not there.
@@ -59,7 +80,7 @@ fn five_numbers_are_lent_in_pieces_of_four_and_one(rt: HostRuntime) -> Result<()
     let store = AgentStore::new(&rt, rt.alloc(), 4)?;
     let mut objects = no_objects(rt.alloc(), &store, 5)?;
     let lengths = piece_lengths(rt.alloc(), &mut objects)?;
-    assert_eq!(rt; lengths, (2, Some(4), Some(1), None));
+    assert_eq!(rt; lengths, (2, Some(4), Some(1)));
     Ok(())
 }
 

@@ -13,7 +13,11 @@ fn written<S: FarRead>(
     objects: &mut Objects<Option<i64>, S>,
 ) -> Result<(Option<i64>, Option<i64>), Refusal> {
     let mut vector = FarVector::new(alloc, 0, 4, Some(0))?;
-    push_all(&mut vector, objects, &[Some(1), Some(2), Some(3), Some(4), Some(5)])?;
+    push_all(
+        &mut vector,
+        objects,
+        &[Some(1), Some(2), Some(3), Some(4), Some(5)],
+    )?;
     vector.set(objects, 0, Some(9))?;
     vector.may_write_part(objects, 4, 5)?;
     FarVector::part_mut(objects, &vector, 4, 5).fill(Some(6));

@@ -22,11 +22,7 @@ impl<T: Elem> FarVector<T> {
     /// `NoMemory` (1) alone. Elsewhere refused with `Absent` (16) exactly where the last row group's object is away, else with
     /// `EditsUsedUp` (24) exactly where that was written as often as objects may be, and takes no memory. Then nothing is
     /// changed.
-    pub fn push<S: FarRead>(
-        &mut self,
-        objects: &mut Objects<T, S>,
-        x: T,
-    ) -> Result<(), Refusal>
+    pub fn push<S: FarRead>(&mut self, objects: &mut Objects<T, S>, x: T) -> Result<(), Refusal>
         requires is { IsVector (list_of T.meaning S.content objects.old) self.old }
         requires few { length objects.old.entries < 2 ^ 28 }
         ensures pushed { OnOk result (self.new ≡ pushed self.old (length objects.old.entries)) }
@@ -51,11 +47,7 @@ impl<T: Elem> FarVector<T> {
     }
 
     // Adds an element where all places are used: in an object of its own.
-    fn begin_group<S: FarRead>(
-        &mut self,
-        objects: &mut Objects<T, S>,
-        x: T,
-    ) -> Result<(), Refusal>
+    fn begin_group<S: FarRead>(&mut self, objects: &mut Objects<T, S>, x: T) -> Result<(), Refusal>
         requires full { is_full self.old ≡ true }
         requires is { IsVector (list_of T.meaning S.content objects.old) self.old }
         requires few { length objects.old.entries < 2 ^ 28 }
@@ -91,11 +83,7 @@ impl<T: Elem> FarVector<T> {
     }
 
     // Adds an element where the last row group has a place that is not used.
-    fn fill_place<S: FarRead>(
-        &mut self,
-        objects: &mut Objects<T, S>,
-        x: T,
-    ) -> Result<(), Refusal>
+    fn fill_place<S: FarRead>(&mut self, objects: &mut Objects<T, S>, x: T) -> Result<(), Refusal>
         requires room { is_full self.old ≡ false }
         requires is { IsVector (list_of T.meaning S.content objects.old) self.old }
         ensures pushed { OnOk result (self.new ≡ record self.old { len = self.old.len + 1 }) }

@@ -1,12 +1,11 @@
-use Rattle.std.proofs.Common.{◌≡◌, ◌≢◌, ℕ, ◌+◌, ◌-◌, ◌*◌, ◌<◌, ◌≤◌, ◌/◌, ◌^◌, true, List, [], ◌∷◌, ◌++◌, length, drop, set, replicate, Some, refl, sym, ap, subst, ◌∙◌, arith}
+use Rattle.std.proofs.Common.{◌≡◌, ℕ, ◌-◌, ◌*◌, ◌<◌, true, List, [], ◌∷◌, ◌++◌, length, replicate, Some, sym, ap, subst, ◌∙◌, arith}
 use Rattle.std.specs.Prelude.{All}
 use Rattle.std.proofs.lemmas.Bool.{eqb-true}
 use Rattle.std.proofs.lemmas.List.{length-set, drop-set-lt}
-use Rattle.far_types.specs.declared.name.Name.{Name}
-use Rattle.far_scopes.specs.Movement.{Movement, list_of}
+use Rattle.far_scopes.specs.Movement.{list_of}
 use Rattle.far_scopes.specs.Effects.{created}
-use Rattle.far_vector.specs.Vector.{Vector, IsShaped, IsLaid, IsVector, AreApart, KeepsOthers, elements, object_at}
-use Rattle.far_vector.specs.Effects.{is_full, next_name, next_group}
+use Rattle.far_vector.specs.Vector.{Vector, IsVector, AreApart}
+use Rattle.far_vector.specs.Effects.{is_full}
 use Rattle.far_vector.proofs.InUse.{in-use, bounded-rising}
 use Rattle.far_vector.proofs.GroupLaws.{shaped-begun, object-begun, laid-first, elements-begun, vector-begun, untouched-begun}
 use Rattle.far_vector.proofs.vector.FarVector.begin_group.Given.{Over}

@@ -1,7 +1,7 @@
-use Rattle.std.proofs.Common.{◌≡◌, ◌≢◌, ℕ, ◌+◌, ◌*◌, ◌<◌, ◌/◌, false, [], ◌∷◌, length, sym, ap, subst, ◌∙◌, arith}
+use Rattle.std.proofs.Common.{◌≡◌, ◌+◌, ◌*◌, ◌<◌, ◌/◌, false, [], ◌∷◌, length, sym, subst, arith}
 use Rattle.std.proofs.lemmas.Bool.{eqb-false}
 use Rattle.far_scopes.specs.Movement.{list_of}
-use Rattle.far_vector.specs.Vector.{Vector, IsShaped, IsVector, WritesPlaces, AreApart, KeepsOthers, elements, object_at}
+use Rattle.far_vector.specs.Vector.{Vector, IsVector, WritesPlaces, AreApart, KeepsOthers, object_at}
 use Rattle.far_vector.specs.Effects.{is_full}
 use Rattle.far_vector.proofs.VectorLaws.{object-there}
 use Rattle.far_vector.proofs.WritingLaws.{elements-filled, vector-filled}

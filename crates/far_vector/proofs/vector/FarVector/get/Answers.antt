@@ -1,4 +1,4 @@
-use Rattle.std.proofs.Common.{◌≡◌, ℕ, ◌<◌, ◌%◌, get_or, Some, ap, subst, arith}
+use Rattle.std.proofs.Common.{◌≡◌, ◌%◌, get_or, Some, ap, subst, arith}
 use Rattle.far_scopes.specs.Movement.{list_of}
 use Rattle.far_vector.specs.Vector.{Vector, IsShaped}
 use Rattle.far_vector.proofs.VectorLaws.{get-is}

@@ -1,4 +1,4 @@
-use Rattle.std.proofs.Common.{◌≡◌, ℕ, ◌<◌, arith}
+use Rattle.std.proofs.Common.{arith}
 use Rattle.far_vector.proofs.Checked.{within-checked}
 use Rattle.far_vector.proofs.vector.FarVector.may_write_part.Goals as goal
 

@@ -1,4 +1,4 @@
-use Rattle.std.proofs.Common.{◌≡◌, ℕ, length, drop, refl, ap, ◌∙◌, arith}
+use Rattle.std.proofs.Common.{arith}
 use Rattle.std.proofs.lemmas.List.{length-replicate, drop-replicate}
 use Rattle.far_vector.proofs.vector.FarVector.new.Goals as goal
 

@@ -1,6 +1,5 @@
-use Rattle.std.proofs.Common.{◌≡◌, ◌≢◌, ℕ, ◌+◌, ◌-◌, ◌*◌, ◌%◌, ◌/◌, ◌<◌, ◌≤◌, List, [], ◌∷◌, ◌++◌, length, take, drop, Option, Some, None, refl, sym, ap, subst, ◌∙◌, arith}
+use Rattle.std.proofs.Common.{◌≡◌, ℕ, ◌+◌, ◌-◌, ◌*◌, ◌%◌, ◌/◌, ◌<◌, ◌≤◌, List, ◌++◌, length, take, drop, Option, None, refl, sym, ap, subst, ◌∙◌, arith}
 use Rattle.std.specs.Prelude.{IsSomeAnd, slice_range}
-use Rattle.std.proofs.lemmas.Nat.{mod_below}
 use Rattle.far_scopes.specs.Memory.{list_in}
 use Rattle.far_scopes.specs.Movement.{Movement, list_of, AreClean, AreHere, ChangesObject}
 use Rattle.far_scopes.specs.Refusing.{write_refusal}
@@ -11,7 +10,7 @@ use Rattle.far_vector.proofs.Checked.{within-written, group-written, free-writte
 use Rattle.far_vector.proofs.VectorLaws.{part-fits, object-there}
 use Rattle.far_vector.proofs.WritingLaws.{elements-written, vector-written}
 use Rattle.far_vector.proofs.Apart.{untouched}
-use Rattle.far_vector.proofs.RangeLaws.{some-weaker, at-place, range-lent, Changes, written-is, changes-is, others-range, places-range, list-local}
+use Rattle.far_vector.proofs.RangeLaws.{some-weaker, at-place, range-lent, Changes, written-is, changes-is, others-range, places-range}
 use Rattle.far_vector.proofs.vector.FarVector.part_mut.Given.{Over}
 use Rattle.far_vector.proofs.vector.FarVector.part_mut.Goals as goal
 
@@ -97,14 +96,17 @@ module _ (g : Over) (c : goal.After-lend_range_mut g) where
     is-vector = vector-written (lists was) (lists now) v shaped c.requires.is c.args.from range places (omega (arith, long, within, c.requires.some))
 
 pub returns : goal.returns
-returns g c = ((refl, is-written g c), record {
-  writes_back = tt;
-  lent = lent g c;
-  elements = elements-are g c;
-  is = is-vector g c;
-  apart = λ range long w is-w apart. untouched (list_of g.T.Elem.meaning g.S.FarRead.content c.args.objects.now) (list_of g.T.Elem.meaning g.S.FarRead.content (range_written c.args.objects.now c.args.vector.now c.args.from range)) c.args.vector.now w is-w apart (object_at c.args.vector.now c.args.from) (others g c range long) (c.args.from / c.args.vector.now.size) (object-there c.args.vector.now (shaped g c) c.args.from (inside g c)) c.args.vector.now apart;
-  lists = others g c;
-  others = λ range. at-place g.T.Elem.meaning g.S.FarRead.content c.args.objects.now c.args.vector.now (λ p size. ChangesObject c.args.objects.now (overwritten (written c.args.objects.now p) p (c.args.from % size) range) p) c.args.from c.writable_at-o.result c.vector.inside.size c.writable_at-o.ensures.object (size-is g c) (c.lend_range_mut.ensures.others range);
-  clean = λ range long clean. subst (λ (m : Movement g.row.T.Denot g.row.S-Ticket.Denot). AreClean g.T.Elem.meaning g.S.FarRead.content m) (is-written g c range) (c.lend_range_mut.ensures.clean range (omega (arith, long)) clean);
-  store = λ range name here. subst (λ (m : Movement g.row.T.Denot g.row.S-Ticket.Denot). AreHere g.S.FarRead.is_of name m) (is-written g c range) (c.lend_range_mut.ensures.store range name here);
-})
+returns g c = (
+  (refl, is-written g c),
+  record {
+    writes_back = tt;
+    lent = lent g c;
+    elements = elements-are g c;
+    is = is-vector g c;
+    apart = λ range long w is-w apart. untouched (list_of g.T.Elem.meaning g.S.FarRead.content c.args.objects.now) (list_of g.T.Elem.meaning g.S.FarRead.content (range_written c.args.objects.now c.args.vector.now c.args.from range)) c.args.vector.now w is-w apart (object_at c.args.vector.now c.args.from) (others g c range long) (c.args.from / c.args.vector.now.size) (object-there c.args.vector.now (shaped g c) c.args.from (inside g c)) c.args.vector.now apart;
+    lists = others g c;
+    others = λ range. at-place g.T.Elem.meaning g.S.FarRead.content c.args.objects.now c.args.vector.now (λ p size. ChangesObject c.args.objects.now (overwritten (written c.args.objects.now p) p (c.args.from % size) range) p) c.args.from c.writable_at-o.result c.vector.inside.size c.writable_at-o.ensures.object (size-is g c) (c.lend_range_mut.ensures.others range);
+    clean = λ range long clean. subst (λ (m : Movement g.row.T.Denot g.row.S-Ticket.Denot). AreClean g.T.Elem.meaning g.S.FarRead.content m) (is-written g c range) (c.lend_range_mut.ensures.clean range (omega (arith, long)) clean);
+    store = λ range name here. subst (λ (m : Movement g.row.T.Denot g.row.S-Ticket.Denot). AreHere g.S.FarRead.is_of name m) (is-written g c range) (c.lend_range_mut.ensures.store range name here);
+  },
+)

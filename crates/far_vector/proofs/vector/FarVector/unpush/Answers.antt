@@ -1,8 +1,8 @@
-use Rattle.std.proofs.Common.{◌≡◌, ◌≢◌, ℕ, ◌+◌, ◌-◌, ◌*◌, ◌<◌, List, [], ◌∷◌, length, take, Some, sym, ap, subst, ◌∙◌, arith, rules}
+use Rattle.std.proofs.Common.{◌≡◌, ◌+◌, ◌-◌, ◌*◌, length, take, Some, sym, subst, arith, rules}
 use Rattle.std.specs.Prelude.{slice_get}
 use Rattle.std.proofs.lemmas.Option.{slice_get_within}
 use Rattle.far_scopes.specs.Movement.{list_of}
-use Rattle.far_vector.specs.Vector.{Vector, IsVector, IsLaid, AreApart}
+use Rattle.far_vector.specs.Vector.{Vector, IsVector, AreApart}
 use Rattle.far_vector.proofs.GroupLaws.{shaped-unpushed, elements-unpushed, vector-unpushed, untouched-unpushed}
 use Rattle.far_vector.proofs.vector.FarVector.unpush.Given.{Over}
 use Rattle.far_vector.proofs.vector.FarVector.unpush.Goals as goal

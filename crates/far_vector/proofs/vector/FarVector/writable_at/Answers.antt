@@ -1,8 +1,7 @@
-use Rattle.std.proofs.Common.{◌≡◌, ℕ, length, None, sym, subst, ◌∙◌}
+use Rattle.std.proofs.Common.{◌≡◌, length, None, sym, subst, ◌∙◌}
 use Rattle.std.specs.Prelude.{IsSomeAnd}
 use Rattle.far_scopes.specs.Memory.{list_in}
-use Rattle.far_scopes.specs.Movement.{list_of}
-use Rattle.far_scopes.specs.Refusing.{lend_refusal, write_refusal}
+use Rattle.far_scopes.specs.Refusing.{write_refusal}
 use Rattle.far_vector.proofs.Checked.{lent-written}
 use Rattle.far_vector.proofs.RangeLaws.{found-unless, list-local}
 use Rattle.far_vector.proofs.vector.FarVector.writable_at.Goals as goal
