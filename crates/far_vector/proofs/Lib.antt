@@ -1,12 +1,12 @@
-mod PlacesLaws
-mod VectorLaws
-mod WritingLaws
-mod GroupLaws
-mod Apart
-mod InUse
-mod Checked
-mod RangeLaws
-mod Listed
-mod PieceLaws
-mod Lendable
-mod Together
+pub mod PlacesLaws
+pub mod VectorLaws
+pub mod WritingLaws
+pub mod GroupLaws
+pub mod Apart
+pub mod InUse
+pub mod Checked
+pub mod RangeLaws
+pub mod Listed
+pub mod PieceLaws
+pub mod Lendable
+pub mod Together
