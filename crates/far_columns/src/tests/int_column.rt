@@ -58,7 +58,10 @@ fn lent_parts<S: FarRead>(
     let mut lents = column.lent(objects, &alive, from, to)?;
     let mut lengths = Vec::new(alloc);
     let mut numbers = Vec::new(alloc);
-    while let Some(lent) = lents.next() {
+    for _ in 0..lents.len() {
+        let Some(lent) = lents.next() else {
+            break;
+        };
         lengths.push(lent.values.len())?;
         for (number, alive) in lent.values.iter().zip(lent.alive) {
             if let (Some(value), true) = (number, *alive) {
