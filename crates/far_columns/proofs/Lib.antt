@@ -1,0 +1,8 @@
+pub mod Joined
+pub mod Groups
+pub mod InUse
+pub mod Changed
+pub mod Setting
+pub mod Pushing
+pub mod LentCells
+mod Flags

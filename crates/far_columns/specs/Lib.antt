@@ -1,0 +1,5 @@
+pub mod Texts
+pub mod Changes
+pub mod Refusing
+pub mod Lending
+pub mod Numbers

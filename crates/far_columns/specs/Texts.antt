@@ -1,0 +1,67 @@
+-- A column of texts that lies in objects, one for each row group: what it is, and which texts it has.
+use Rattle.std.specs.Prelude.{◌≡◌, ◌≢◌, ℕ, min, ◌-◌, ◌*◌, ◌/◌, ◌+◌, ◌≤◌, ◌<◌, ◌^◌, List, [], length, Option, Some, IsSomeAnd, unwrap_or, slice_get, slice_index, AllPairs}
+use Rattle.std.specs.List.{flat_map}
+use Rattle.far_codec.specs.TextForm.{texts_meaning, IsTextsForm}
+use Rattle.far_scopes.specs.Movement.{Movement, list_of}
+
+-- a column: its number, how many places a row group has, how many bytes the form of one may have, the object of each row
+-- group, and how many texts there are
+pub record Texts : Type 0 where
+  pub column : ℕ
+  pub size : ℕ
+  pub limit : ℕ
+  pub objects : List ℕ
+  pub len : ℕ
+
+-- a list for each object by its number, where it has one
+abbrev pub Lists : Type 0
+Lists = ℕ → Option (List ℕ)
+
+-- the lists of objects whose elements are the bytes of a far form of texts
+abbrev pub lists_of : {K : Type 0} → (K → List ℕ) → Movement ℕ K → Lists
+lists_of content m = list_of (λ bytes. bytes) content m
+
+-- there are as many objects as row groups are begun, and few enough
+pub record HasGroups (c : Texts) : Type 0 where
+  pub some : 0 < c.size
+  pub small : c.size ≤ 2 ^ 16
+  pub short : c.limit ≤ 2 ^ 24
+  pub few : length c.objects ≤ 2 ^ 28
+  pub held : c.len ≤ length c.objects * c.size
+  pub begun : length c.objects * c.size < c.len + c.size
+
+-- the texts that the list of an object means
+abbrev pub texts_at : Lists → ℕ → List (Option (List ℕ))
+texts_at lists o = texts_meaning (unwrap_or (lists o) [])
+
+-- the texts of a column: those of its objects, joined
+abbrev pub texts_in : Lists → Texts → List (Option (List ℕ))
+texts_in lists c = flat_map (texts_at lists) c.objects
+
+-- the object of a place
+abbrev pub object_at : Texts → ℕ → ℕ
+object_at c place = slice_index c.objects (place / c.size)
+
+-- how many places of a row group have a text
+abbrev pub used_in : Texts → ℕ → ℕ
+used_in c group = min c.size (c.len - group * c.size)
+
+-- the bytes are the far form of a row group's texts, one for each place that has one
+pub record IsGroupForm (c : Texts) (group : ℕ) (bytes : List ℕ) : Type 0 where
+  pub form : IsTextsForm bytes
+  pub count : length (texts_meaning bytes) ≡ used_in c group
+  pub short : length bytes ≤ c.limit
+
+-- the column lies in these lists: each row group has an object of its own, whose list is the form of its texts
+pub record IsTextColumn (lists : Lists) (c : Texts) : Type 0 where
+  pub once : AllPairs (λ o p. o ≢ p) c.objects
+  pub each : (group o : ℕ) → slice_get c.objects group ≡ Some o → IsSomeAnd (lists o) (IsGroupForm c group)
+
+-- two columns have no object in common
+abbrev pub AreApart : Texts → Texts → Type 0
+AreApart c d = (group other o : ℕ) → slice_get c.objects group ≡ Some o → slice_get d.objects other ≢ Some o
+
+-- every column that has no object in common with c stays a column and keeps its texts
+pub record KeepsOthers (old new : Lists) (c : Texts) : Type 0 where
+  pub columns : (d : Texts) → IsTextColumn old d → AreApart c d → IsTextColumn new d
+  pub texts : (d : Texts) → IsTextColumn old d → AreApart c d → texts_in new d ≡ texts_in old d

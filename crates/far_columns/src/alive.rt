@@ -1,0 +1,65 @@
+// Which places of a table are alive.
+ghost use Rattle.std.specs.Prelude.{◌≡◌, ◌++◌, ◌∷◌, ◌<◌, ◌≤◌, [], length, slice_range, slice_set, true, false, OnOk, OnErr, IfErr};
+
+use far_types::Refusal;
+use std::alloc::Global;
+use std::marker::Model;
+
+/// The alive flags of a table's places, by place. Contracts see their list.
+#[derive(Drop)]
+pub struct Alive {
+    flags: Vec<bool>,
+}
+
+impl Model for Alive {
+    ghost use Rattle.std.specs.Prelude.{Bool, List};
+
+    ghost Value = { List Bool };
+
+    ghost view = { λ alive. alive.flags.items };
+}
+
+impl Alive {
+    /// No place. Takes no memory.
+    pub fn new(alloc: Global) -> Alive
+        ensures { result ≡ [] }
+    {
+        Alive {
+            flags: Vec::new(alloc),
+        }
+    }
+
+    /// How many places there are. Takes no memory.
+    pub fn len(&self) -> usize
+        ensures { result ≡ length self.now }
+    {
+        self.flags.len()
+    }
+
+    /// One place more, which is alive. Refused with `NoMemory` (1) alone; then nothing is changed.
+    pub fn push(&mut self) -> Result<(), Refusal>
+        ensures ok { OnOk result (self.new ≡ self.old ++ true ∷ []) }
+        ensures memory { IfErr result (λ e. e ≡ Refusal.NoMemory) }
+        ensures err { OnErr result (self.new ≡ self.old) }
+    {
+        self.flags.push(true)?;
+        Ok(())
+    }
+
+    /// The place is not alive from now on. Takes no memory.
+    pub fn clear(&mut self, place: usize)
+        requires { place < length self.old }
+        ensures { self.new ≡ slice_set self.old place false }
+    {
+        self.flags[place] = false;
+    }
+
+    /// The flags of the places `from` to `to`, lent in place.
+    pub fn flags(&self, from: usize, to: usize) -> &[bool]
+        requires ordered { from ≤ to }
+        requires within { to ≤ length self.now }
+        ensures { result.now ≡ slice_range self.now from to }
+    {
+        &self.flags[from..to]
+    }
+}

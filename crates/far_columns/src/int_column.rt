@@ -1,0 +1,191 @@
+// A column of numbers.
+ghost use Rattle.std.specs.Prelude.{◌≡◌, ◌++◌, ◌∷◌, ◌-◌, ◌+◌, ◌*◌, ◌<◌, ◌^◌, ◌⊎◌, ℕ, pos, List, [], Option, length, map, true, None, Some, take, All, IfOk, IfErr, OnOk, OnErr, slice_get, slice_set, slice_range};
+ghost use Rattle.std.specs.List.{flat_map};
+ghost use Rattle.far_scopes.specs.Movement.{AreClean, AreHere, ChangesObject, is_local, pins_of};
+ghost use Rattle.far_scopes.specs.Effects.{uncreated};
+ghost use Rattle.far_scopes.specs.Refusing.{refusal_in};
+ghost use Rattle.far_codec.specs.Reading.{ints_meaning};
+ghost use Rattle.far_vector.specs.Vector.{Vector, IsShaped, IsVector, AreApart, IsUntouched, KeepsOthers, object_at};
+ghost use Rattle.far_vector.specs.Effects.{is_full, pushed, pushed_in, unpushed, range_written};
+ghost use Rattle.far_vector.specs.Pieces.{pieces_of};
+ghost use Rattle.far_vector.specs.Refusing.{get_refusal, set_refusal, push_refusal, pieces_refusal};
+ghost use Rattle.far_columns.specs.Numbers.{Numbers, number_lists, numbers_in};
+
+use crate::alive::Alive;
+use crate::lent::Lents;
+use far_scopes::Objects;
+use far_store::FarRead;
+use far_types::Refusal;
+use far_vector::FarVector;
+use std::alloc::Global;
+use std::marker::Model;
+
+/// A column of numbers, each of which may be missing. The numbers of a row group are the list of one object of the
+/// `Objects<Option<i64>, S>` that each call names; in places that are not yet used stands 0.
+///
+/// Contracts see the column as a vector, and its numbers by the lists of its objects.
+#[derive(Drop)]
+pub struct IntColumn {
+    vector: FarVector<Option<i64>>,
+}
+
+impl Model for IntColumn {
+    ghost use Rattle.std.specs.Prelude.{Option, ℤ};
+    ghost use Rattle.far_vector.specs.Vector.{Vector};
+
+    ghost Value = { Vector (Option ℤ) };
+
+    ghost view = { λ c. c.vector };
+}
+
+impl IntColumn {
+    ghost use Rattle.std.specs.Prelude.{ℤ};
+
+    /// A column without a number: its number, by which its objects are named, and how many places a row group has. All
+    /// memory beside the objects is taken here. Refused with `NoMemory` (1) alone.
+    pub fn new(alloc: Global, column: u32, size: u32) -> Result<IntColumn, Refusal>
+        requires { 0 < size }
+        ensures empty { IfOk result (λ c. c ≡ record { column = column; size = size; objects = []; len = 0; blank = Some (pos 0) }) }
+        ensures is { IfOk result (λ c. (lists : ℕ → Option Numbers) → IsVector lists c) }
+        ensures memory { IfErr result (λ e. e ≡ Refusal.NoMemory) }
+    {
+        Ok(IntColumn {
+            vector: FarVector::new(alloc, column, size, Some(0))?,
+        })
+    }
+
+    /// How many numbers there are. Takes no memory.
+    pub fn len(&self) -> usize
+        ensures len { result ≡ self.now.len }
+        ensures shaped { IsShaped self.now }
+    {
+        self.vector.len()
+    }
+
+    /// The object of a row group; `None` exactly where no place of it is used. Takes no memory.
+    pub fn object(&self, group: u32) -> Option<u32>
+        ensures { result ≡ slice_get self.now.objects group }
+    {
+        self.vector.object(group)
+    }
+
+    /// The number of a place; `None` where it is missing. Takes no memory.
+    ///
+    /// Refused with `OutOfRange` (14) exactly past the end, else with `Absent` (16) exactly where the object of the place's
+    /// row group is away.
+    pub fn get<S: FarRead>(
+        &self,
+        objects: &Objects<Option<i64>, S>,
+        place: usize,
+    ) -> Result<Option<i64>, Refusal>
+        requires { IsVector (number_lists S.content objects.now) self.now }
+        ensures number { IfOk result (λ number. slice_get (numbers_in S.content objects.now self.now) place ≡ Some number) }
+        ensures refused { refusal_in result ≡ get_refusal objects.now self.now place }
+    {
+        self.vector.get(objects, place)
+    }
+
+    /// Adds a number at the end: in the last row group, or, where that is full, in a new one, whose object is made here.
+    /// `unpush` undoes a push that made an object (`undone`).
+    ///
+    /// Refused, where it begins a row group, with `RegionFull` (17) exactly where no segment has the space, else with
+    /// `NoMemory` (1) alone. Elsewhere refused with `Absent` (16) exactly where the last row group's object is away, else
+    /// with `EditsUsedUp` (24) exactly where that was written as often as objects may be, and takes no memory. Then nothing
+    /// is changed.
+    pub fn push<S: FarRead>(
+        &mut self,
+        objects: &mut Objects<Option<i64>, S>,
+        number: Option<i64>,
+    ) -> Result<(), Refusal>
+        requires is { IsVector (number_lists S.content objects.old) self.old }
+        requires few { length objects.old.entries < 2 ^ 28 }
+        ensures pushed { OnOk result (self.new ≡ pushed self.old (length objects.old.entries)) }
+        ensures written { OnOk result (objects.new ≡ pushed_in objects.old self.old number) }
+        ensures undone { OnOk result (is_full self.old ≡ true → (unpushed self.new ≡ self.old) × (uncreated objects.new ≡ objects.old)) }
+        ensures numbers { OnOk result (numbers_in S.content objects.new self.new ≡ numbers_in S.content objects.old self.old ++ number ∷ []) }
+        ensures is { IsVector (number_lists S.content objects.new) self.new }
+        ensures apart { (w : Vector (Option ℤ)) → IsVector (number_lists S.content objects.old) w → AreApart self.old w → IsUntouched (number_lists S.content objects.old) (number_lists S.content objects.new) self.new w }
+        ensures lists { OnOk result (KeepsOthers (number_lists S.content objects.old) (number_lists S.content objects.new) (object_at self.new self.old.len)) }
+        ensures others { OnOk result (ChangesObject objects.old objects.new (object_at self.new self.old.len)) }
+        ensures clean { AreClean ints_meaning S.content objects.old → AreClean ints_meaning S.content objects.new }
+        ensures store { (name : List ℕ) → AreHere S.is_of name objects.old → AreHere S.is_of name objects.new }
+        ensures free { OnOk result (push_refusal objects.old self.old ≡ None) }
+        ensures refused { IfErr result (λ e. (push_refusal objects.old self.old ≡ Some e) ⊎ ((push_refusal objects.old self.old ≡ None) × (is_full self.old ≡ true) × (e ≡ Refusal.NoMemory))) }
+        ensures err { OnErr result ((self.new ≡ self.old) × (objects.new ≡ objects.old)) }
+    {
+        self.vector.push(objects, number)
+    }
+
+    /// Takes back a push that made an object: its number, the only one of its row group, and the object. Takes no memory.
+    pub fn unpush<S: FarRead>(&mut self, objects: &mut Objects<Option<i64>, S>)
+        requires is { IsVector (number_lists S.content objects.old) self.old }
+        requires alone { self.old.len ≡ (length self.old.objects - 1) * self.old.size + 1 }
+        requires last { slice_get self.old.objects (length self.old.objects - 1) ≡ Some (length objects.old.entries - 1) }
+        requires local { is_local objects.old (length objects.old.entries - 1) ≡ true }
+        requires unpinned { pins_of objects.old (length objects.old.entries - 1) ≡ 0 }
+        ensures unpushed { self.new ≡ unpushed self.old }
+        ensures uncreated { objects.new ≡ uncreated objects.old }
+        ensures numbers { numbers_in S.content objects.new self.new ≡ take (self.old.len - 1) (numbers_in S.content objects.old self.old) }
+        ensures is { IsVector (number_lists S.content objects.new) self.new }
+        ensures apart { (w : Vector (Option ℤ)) → IsVector (number_lists S.content objects.old) w → AreApart self.old w → IsUntouched (number_lists S.content objects.old) (number_lists S.content objects.new) self.new w }
+        ensures lists { KeepsOthers (number_lists S.content objects.old) (number_lists S.content objects.new) (length objects.old.entries - 1) }
+        ensures others { ChangesObject objects.old objects.new (length objects.old.entries - 1) }
+        ensures clean { AreClean ints_meaning S.content objects.old → AreClean ints_meaning S.content objects.new }
+        ensures store { (name : List ℕ) → AreHere S.is_of name objects.old → AreHere S.is_of name objects.new }
+    {
+        self.vector.unpush(objects);
+    }
+
+    /// Writes the number of a place; its row group's object counts as written. Takes no memory.
+    ///
+    /// Refused with `OutOfRange` (14) exactly past the end, else with `Absent` (16) exactly where the object of the place's
+    /// row group is away, else with `EditsUsedUp` (24) exactly where that was written as often as objects may be; then
+    /// nothing is changed.
+    pub fn set<S: FarRead>(
+        &mut self,
+        objects: &mut Objects<Option<i64>, S>,
+        place: usize,
+        number: Option<i64>,
+    ) -> Result<(), Refusal>
+        requires { IsVector (number_lists S.content objects.old) self.old }
+        ensures kept { self.new ≡ self.old }
+        ensures written { OnOk result (objects.new ≡ range_written objects.old self.old place (number ∷ [])) }
+        ensures numbers { OnOk result (numbers_in S.content objects.new self.new ≡ slice_set (numbers_in S.content objects.old self.old) place number) }
+        ensures is { IsVector (number_lists S.content objects.new) self.new }
+        ensures apart { (w : Vector (Option ℤ)) → IsVector (number_lists S.content objects.old) w → AreApart self.old w → IsUntouched (number_lists S.content objects.old) (number_lists S.content objects.new) self.new w }
+        ensures lists { KeepsOthers (number_lists S.content objects.old) (number_lists S.content objects.new) (object_at self.old place) }
+        ensures others { ChangesObject objects.old objects.new (object_at self.old place) }
+        ensures clean { AreClean ints_meaning S.content objects.old → AreClean ints_meaning S.content objects.new }
+        ensures store { (name : List ℕ) → AreHere S.is_of name objects.old → AreHere S.is_of name objects.new }
+        ensures refused { refusal_in result ≡ set_refusal objects.old self.old place }
+        ensures err { OnErr result (objects.new ≡ objects.old) }
+    {
+        self.vector.set(objects, place, number)
+    }
+
+    /// The numbers of the places `from` up to `to`, lent in place with the flags of their places, piece by piece: one for each
+    /// row group that has some of them. Takes no memory.
+    ///
+    /// Refused with `OutOfRange` (14) exactly where `from` is above `to` or `to` is past the end; else with `Absent` (16)
+    /// exactly where the object of a row group with some of them is away, naming the first such.
+    pub fn lent<'a, S: FarRead>(
+        &'a self,
+        objects: &'a Objects<Option<i64>, S>,
+        alive: &'a Alive,
+        from: usize,
+        to: usize,
+    ) -> Result<Lents<'a, S>, Refusal>
+        requires is { IsVector (number_lists S.content objects.now) self.now }
+        requires flags { length alive.now ≡ self.now.len }
+        ensures values { IfOk result (λ lents. map (λ lent. lent.0) lents ≡ pieces_of (numbers_in S.content objects.now self.now) self.now.size from to) }
+        ensures joined { IfOk result (λ lents. flat_map (λ lent. lent.0) lents ≡ slice_range (numbers_in S.content objects.now self.now) from to) }
+        ensures alive { IfOk result (λ lents. flat_map (λ lent. lent.1) lents ≡ slice_range alive.now from to) }
+        ensures even { IfOk result (λ lents. All (λ lent. length lent.1 ≡ length lent.0) lents) }
+        ensures refused { refusal_in result ≡ pieces_refusal objects.now self.now from to }
+    {
+        // It tells that there are as many numbers as it says.
+        let _len = self.vector.len();
+        let pieces = self.vector.pieces(objects, from, to)?;
+        Ok(Lents::new(pieces, alive.flags(from, to)))
+    }
+}

@@ -1,0 +1,65 @@
+// Parts of a column of numbers, lent in place with their alive flags.
+ghost use Rattle.std.specs.Prelude.{◌≡◌, [], ◌∷◌, length, IfSome, IfNone};
+ghost use Rattle.std.specs.List.{flat_map};
+ghost use Rattle.far_columns.specs.Numbers.{with_flags};
+
+use far_store::FarRead;
+use far_vector::Pieces;
+use std::marker::Model;
+
+/// The numbers of some places that follow each other in one row group, each of which may be missing, and whether each place
+/// is alive; both are lent in place.
+#[derive(Drop)]
+pub struct Lent<'a> {
+    pub values: &'a [Option<i64>],
+    pub alive: &'a [bool],
+}
+
+/// A part of a column, piece by piece: one for each row group that has some of it, with the flags of its places. None is
+/// empty.
+#[derive(Drop)]
+pub struct Lents<'a, S: FarRead> {
+    pieces: Pieces<'a, Option<i64>, S>,
+    // The flags of the places that are left.
+    alive: &'a [bool],
+}
+
+impl<'a, S: FarRead> Model for Lents<'a, S> {
+    ghost use Rattle.std.specs.Prelude.{List, Bool, Option, ℤ, ◌≡◌, length};
+    ghost use Rattle.std.specs.List.{flat_map};
+    ghost use Rattle.far_columns.specs.Numbers.{Numbers, with_flags};
+
+    ghost Value = { List (Numbers × List Bool) };
+
+    ghost view = { λ l. with_flags l.pieces l.alive.now };
+
+    ghost invariant = { λ l. length l.alive.now ≡ length (flat_map (λ piece. piece) l.pieces) };
+}
+
+impl<'a, S: FarRead> Lents<'a, S> {
+    /// Pieces with the flags of their places, one behind the other.
+    pub(crate) fn new(pieces: Pieces<'a, Option<i64>, S>, alive: &'a [bool]) -> Lents<'a, S>
+        requires { length alive.now ≡ length (flat_map (λ piece. piece) pieces) }
+        ensures { result ≡ with_flags pieces.entry alive.now }
+    {
+        Lents { pieces, alive }
+    }
+
+    /// The next piece with its flags, and `None` where there is none left. Takes no memory.
+    pub fn next(&mut self) -> Option<Lent<'a>>
+        ensures first { IfSome result (λ lent. self.old ≡ (lent.values.now, lent.alive.now) ∷ self.new) }
+        ensures none { IfNone result ((self.old ≡ []) × (self.new ≡ [])) }
+    {
+        let values = self.pieces.next()?;
+        let (alive, rest) = self.alive.split_at(values.len());
+        self.alive = rest;
+        Some(Lent { values, alive })
+    }
+
+    /// How many pieces are left. Takes no memory.
+    pub fn len(&self) -> usize
+        ensures { result ≡ length self.now }
+    {
+        self.pieces.len()
+    }
+}

@@ -1,0 +1,15 @@
+#![tactic(auto)]
+//! The columns of a table: which places are alive, and numbers and texts that lie in objects that may be away.
+
+mod alive;
+mod int_column;
+mod lent;
+mod text_column;
+
+pub use alive::Alive;
+pub use int_column::IntColumn;
+pub use lent::{Lent, Lents};
+pub use text_column::{TextCell, TextCells, TextColumn};
+
+#[cfg(test)]
+mod tests;

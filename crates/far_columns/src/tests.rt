@@ -1,0 +1,4 @@
+// What no clause says: that calls are served, and that worked examples come out as they should.
+mod alive;
+mod int_column;
+mod text_column;

@@ -1,0 +1,25 @@
+// Places that are alive.
+use crate::Alive;
+use far_types::Refusal;
+use std::alloc::Global;
+use std::test::Fail;
+
+/// Three places of which the second is cleared: how many there are, and the flags of the first two and of the last.
+fn second_cleared(alloc: Global) -> Result<(usize, [bool; 3]), Refusal> {
+    let mut alive = Alive::new(alloc);
+    alive.push()?;
+    alive.push()?;
+    alive.push()?;
+    alive.clear(1);
+    let front = alive.flags(0, 2);
+    let back = alive.flags(2, 3);
+    Ok((alive.len(), [front[0], front[1], back[0]]))
+}
+
+#[test]
+fn a_cleared_place_alone_is_not_alive(rt: HostRuntime) -> Result<(), Fail> {
+    let (len, flags) = second_cleared(rt.alloc())?;
+    assert_eq!(rt; len, 3);
+    assert_eq!(rt; flags, [true, false, true]);
+    Ok(())
+}

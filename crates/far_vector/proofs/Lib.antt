@@ -1,0 +1,12 @@
+pub mod PlacesLaws
+pub mod VectorLaws
+pub mod WritingLaws
+pub mod GroupLaws
+pub mod Apart
+pub mod InUse
+pub mod Checked
+pub mod RangeLaws
+pub mod Listed
+pub mod PieceLaws
+pub mod Lendable
+pub mod Together

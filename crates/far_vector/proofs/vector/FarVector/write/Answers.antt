@@ -1,0 +1,61 @@
+use Rattle.std.proofs.Common.{◌≡◌, ◌+◌, ◌-◌, ◌%◌, ◌≤◌, [], ◌∷◌, length, set, refl, sym, ap, subst, ◌∙◌, arith}
+use Rattle.std.specs.Prelude.{IsSomeAnd}
+use Rattle.std.proofs.lemmas.List.{length-set}
+use Rattle.std.proofs.lemmas.Nat.{mod_below}
+use Rattle.far_scopes.specs.Memory.{list_in}
+use Rattle.far_scopes.specs.Movement.{Movement, list_of}
+use Rattle.far_scopes.specs.Effects.{written, overwritten}
+use Rattle.far_vector.specs.Vector.{Vector, IsShaped, KeepsOthers, WritesPlaces, object_at}
+use Rattle.far_vector.specs.Effects.{range_written}
+use Rattle.far_vector.proofs.RangeLaws.{some-weaker, lent-long, single-set, written-is, changes-is, others-range, places-range}
+use Rattle.far_vector.proofs.vector.FarVector.write.Given.{Over}
+use Rattle.far_vector.proofs.vector.FarVector.write.Goals as goal
+
+pub lend_range_mut-range-requires-clause-there : goal.lend_range_mut-range-requires-clause-there
+lend_range_mut-range-requires-clause-there g c κs there =
+    let size : c.self.inside.size ≡ c.args.self.now.size = ap (λ (v : Vector g.row.T.Denot). v.size) c.self.view_is in
+    some-weaker (list_in c.args.objects.now.memory c.writable_at-o.result) c.writable_at-o.ensures.list (λ list long. omega (arith, long, size, mod_below c.args.i c.self.inside.size c.self.invariant.shaped.some))
+
+module _ (g : Over) (c : goal.After-objects-1 g) where
+  size-is : c.self.inside.size ≡ c.args.self.now.size
+  size-is = ap (λ (v : Vector g.row.T.Denot). v.size) c.self.view_is
+
+  shaped : IsShaped c.args.self.now
+  shaped = subst (λ (v : Vector g.row.T.Denot). IsShaped v) c.self.view_is c.self.invariant.shaped
+
+  one : length c.lend_range_mut-range.result.now ≡ c.args.i % c.self.inside.size + 1 - c.args.i % c.self.inside.size
+  one = lent-long (list_in c.args.objects.now.memory c.writable_at-o.result) c.lend_range_mut-range.result.now (c.args.i % c.self.inside.size) (c.args.i % c.self.inside.size + 1) c.lend_range_mut-range.ensures.lent (some-weaker (list_in c.args.objects.now.memory c.writable_at-o.result) c.writable_at-o.ensures.list (λ list long. omega (arith, long, size-is, mod_below c.args.i c.self.inside.size c.self.invariant.shaped.some)))
+
+  abbrev now : Movement g.row.T.Denot g.row.S-Ticket.Denot
+  now = overwritten (written c.args.objects.now c.writable_at-o.result) c.writable_at-o.result (c.args.i % c.self.inside.size) (set c.lend_range_mut-range.result.now 0 c.args.x)
+
+  is-written : now ≡ range_written c.args.objects.now c.args.self.now c.args.i (c.args.x ∷ [])
+  is-written = written-is g.T.Elem.meaning g.S.FarRead.content c.args.objects.now c.args.self.now c.args.i c.writable_at-o.result c.self.inside.size (set c.lend_range_mut-range.result.now 0 c.args.x) (c.args.x ∷ []) c.writable_at-o.ensures.object size-is (single-set c.lend_range_mut-range.result.now c.args.x (omega (arith, one)))
+
+  fits : c.args.i % c.args.self.now.size + 1 ≤ c.args.self.now.size
+  fits = omega (arith, mod_below c.args.i c.args.self.now.size shaped.some)
+
+  there : IsSomeAnd (list_in c.args.objects.now.memory (object_at c.args.self.now c.args.i)) (λ list. length list ≡ c.args.self.now.size)
+  there = subst (λ o. IsSomeAnd (list_in c.args.objects.now.memory o) (λ list. length list ≡ c.args.self.now.size)) c.writable_at-o.ensures.object c.writable_at-o.ensures.list
+
+  set-long : length (set c.lend_range_mut-range.result.now 0 c.args.x) ≡ c.args.i % c.self.inside.size + 1 - c.args.i % c.self.inside.size
+  set-long = length-set c.lend_range_mut-range.result.now 0 c.args.x ∙ one
+
+pub returns-clause-written : goal.returns-clause-written
+returns-clause-written g c = is-written g c
+
+pub returns-clause-places : goal.returns-clause-places
+returns-clause-places g c =
+    subst (λ (m : Movement g.row.T.Denot g.row.S-Ticket.Denot). WritesPlaces (list_of g.T.Elem.meaning g.S.FarRead.content c.args.objects.now) (list_of g.T.Elem.meaning g.S.FarRead.content m) c.args.self.now c.args.i (c.args.x ∷ [])) (sym (is-written g c))
+    (places-range g.T.Elem.meaning g.S.FarRead.content c.args.objects.now c.args.self.now (shaped g c) c.requires.is c.args.i 1 c.requires.within (fits g c) (there g c) (changes-is g.T.Elem.meaning g.S.FarRead.content c.args.objects.now c.args.self.now c.args.i c.writable_at-o.result c.self.inside.size 1 c.writable_at-o.ensures.object (size-is g c) c.lend_range_mut-range.ensures.alone) (c.args.x ∷ []) refl)
+
+pub returns-clause-lists : goal.returns-clause-lists
+returns-clause-lists g c =
+    subst (λ (m : Movement g.row.T.Denot g.row.S-Ticket.Denot). KeepsOthers (list_of g.T.Elem.meaning g.S.FarRead.content c.args.objects.now) (list_of g.T.Elem.meaning g.S.FarRead.content m) (object_at c.args.self.now c.args.i)) (sym (is-written g c))
+    (others-range g.T.Elem.meaning g.S.FarRead.content c.args.objects.now c.args.self.now (shaped g c) c.requires.is c.args.i 1 c.requires.within (fits g c) (there g c) (changes-is g.T.Elem.meaning g.S.FarRead.content c.args.objects.now c.args.self.now c.args.i c.writable_at-o.result c.self.inside.size 1 c.writable_at-o.ensures.object (size-is g c) c.lend_range_mut-range.ensures.alone) (c.args.x ∷ []) refl)
+
+pub returns-clause-clean : goal.returns-clause-clean
+returns-clause-clean g c = c.lend_range_mut-range.ensures.clean (set c.lend_range_mut-range.result.now 0 c.args.x) (set-long g c)
+
+pub returns-clause-store : goal.returns-clause-store
+returns-clause-store g c = c.lend_range_mut-range.ensures.store (set c.lend_range_mut-range.result.now 0 c.args.x)

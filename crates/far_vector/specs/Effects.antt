@@ -1,0 +1,35 @@
+-- How a vector and its objects change.
+use Rattle.std.specs.Prelude.{ℕ, ◌+◌, ◌-◌, ◌*◌, ◌%◌, ◌==◌, if◌then◌else◌, Bool, List, [], ◌∷◌, ◌++◌, length, take, replicate}
+use Rattle.far_types.specs.declared.name.Name.{Name}
+use Rattle.far_scopes.specs.Movement.{Movement}
+use Rattle.far_scopes.specs.Effects.{written, overwritten, created}
+use Rattle.far_vector.specs.Vector.{Vector, object_at}
+
+module _ {X : Type 0} where
+  -- whether every place is used, so that the next element begins a row group
+  abbrev pub is_full : Vector X → Bool
+  is_full v = v.len == length v.objects * v.size
+
+  -- the name of the next row group's object, and its list
+  abbrev pub next_name : Vector X → Name
+  next_name v = record { column = v.column; group = length v.objects }
+
+  abbrev pub next_group : Vector X → X → List X
+  next_group v x = x ∷ replicate (v.size - 1) v.blank
+
+  -- one element more; the object of a new row group has this number
+  abbrev pub pushed : Vector X → ℕ → Vector X
+  pushed v o = if is_full v then record v { objects = v.objects ++ o ∷ []; len = v.len + 1 } else record v { len = v.len + 1 }
+
+  -- without the last element, which is alone in its row group, and without its object
+  abbrev pub unpushed : Vector X → Vector X
+  unpushed v = record v { objects = take (length v.objects - 1) v.objects; len = v.len - 1 }
+
+  module _ {K : Type 0} where
+    -- the objects once a range is written over the elements from the i-th on, all of one row group
+    abbrev pub range_written : Movement X K → Vector X → ℕ → List X → Movement X K
+    range_written m v i range = overwritten (written m (object_at v i)) (object_at v i) (i % v.size) range
+
+    -- the objects once an element is pushed
+    abbrev pub pushed_in : Movement X K → Vector X → X → Movement X K
+    pushed_in m v x = if is_full v then created m (next_name v) (next_group v x) else range_written m v v.len (x ∷ [])

@@ -1,0 +1,22 @@
+-- A part of a vector, row group by row group.
+use Rattle.std.specs.Prelude.{ℕ, ◌+◌, ◌-◌, ◌*◌, ◌/◌, if◌then◌else◌, nat_lt, min, max, List, map, slice_range}
+use Rattle.std.specs.List.{range_with_len}
+
+-- the row groups of some size that hold places `from` up to `to`: the first, and how many
+abbrev pub first_touched : ℕ → ℕ → ℕ
+first_touched size from = from / size
+
+abbrev pub touched_count : ℕ → ℕ → ℕ → ℕ
+touched_count size from to = if nat_lt from to then (to - 1) / size + 1 - from / size else 0
+
+abbrev pub touched : ℕ → ℕ → ℕ → List ℕ
+touched size from to = range_with_len (first_touched size from) (touched_count size from to)
+
+module _ {X : Type 0} where
+  -- what row group g has of the elements `from` up to `to`
+  abbrev pub piece : List X → ℕ → ℕ → ℕ → ℕ → List X
+  piece elements size from to g = slice_range elements (max from (g * size)) (min to (g * size + size))
+
+  -- the part, a piece for each row group that holds some of it
+  abbrev pub pieces_of : List X → ℕ → ℕ → ℕ → List (List X)
+  pieces_of elements size from to = map (piece elements size from to) (touched size from to)

@@ -1,0 +1,65 @@
+-- A list of elements that lies in objects, one object a row group.
+use Rattle.std.specs.Prelude.{◌≡◌, ◌≢◌, ℕ, ◌+◌, ◌-◌, ◌*◌, ◌/◌, ◌<◌, ◌≤◌, ◌^◌, ◌++◌, List, length, drop, take, replicate, Option, [], unwrap_or, IsSomeAnd, All, AllPairs, slice_index}
+use Rattle.std.specs.List.{flat_map}
+
+-- the column that names the objects, how many elements a row group has, the numbers of the objects of row groups 0, 1, 2
+-- and so on, how many elements there are, and what stands in a place that is not yet used
+pub record Vector (X : Type 0) : Type 0 where
+  pub column : ℕ
+  pub size : ℕ
+  pub objects : List ℕ
+  pub len : ℕ
+  pub blank : X
+
+module _ {X : Type 0} where
+  -- as many objects as row groups hold an element, in the order in which they were made
+  pub record IsShaped (v : Vector X) : Type 0 where
+    pub some : 0 < v.size
+    pub short : v.size < 2 ^ 32
+    pub few : length v.objects ≤ 2 ^ 28
+    pub rising : AllPairs (λ o p. o < p) v.objects
+    pub enough : v.len ≤ length v.objects * v.size
+    pub needed : length v.objects * v.size < v.len + v.size
+
+  -- the list in which the next row group is laid out is as long, and all but its first element are blank
+  pub record IsLaid (v : Vector X) (next : List X) : Type 0 where
+    pub shaped : IsShaped v
+    pub long : length next ≡ v.size
+    pub blank : drop 1 next ≡ replicate (v.size - 1) v.blank
+
+  -- the number of the object with the element at a place
+  abbrev pub object_at : Vector X → ℕ → ℕ
+  object_at v i = slice_index v.objects (i / v.size)
+
+  -- no object is in both
+  abbrev pub AreApart : Vector X → Vector X → Type 0
+  AreApart v w = All (λ o. All (λ p. o ≢ p) w.objects) v.objects
+
+  -- the lists of objects by number change in no object but o
+  abbrev pub KeepsOthers : (ℕ → Option (List X)) → (ℕ → Option (List X)) → ℕ → Type 0
+  KeepsOthers old new o = (p : ℕ) → p ≢ o → new p ≡ old p
+
+  module _ (lists : ℕ → Option (List X)) where
+    -- all places of some objects, one object after the other
+    abbrev pub places : List ℕ → List X
+    places objects = flat_map (λ o. unwrap_or (lists o) []) objects
+
+    -- the elements of a vector
+    abbrev pub elements : Vector X → List X
+    elements v = take v.len (places v.objects)
+
+    -- each object of a vector has a list of a row group's length, and the places that are not yet used are blank
+    pub record IsVector (v : Vector X) : Type 0 where
+      pub whole : All (λ o. IsSomeAnd (lists o) (λ list. length list ≡ v.size)) v.objects
+      pub unused : drop v.len (places v.objects) ≡ replicate (length v.objects * v.size - v.len) v.blank
+
+  -- a range is written over the places of a vector from the i-th on, and every object's list is as long as it was
+  pub record WritesPlaces (old new : ℕ → Option (List X)) (v : Vector X) (i : ℕ) (range : List X) : Type 0 where
+    pub whole : All (λ o. IsSomeAnd (new o) (λ list. length list ≡ v.size)) v.objects
+    pub places : places new v.objects ≡ take i (places old v.objects) ++ (range ++ drop (i + length range) (places old v.objects))
+
+  -- the vector w, which was one and shared no object with another, stays what it was once that other is v
+  pub record IsUntouched (old new : ℕ → Option (List X)) (v w : Vector X) : Type 0 where
+    pub is : IsVector new w
+    pub elements : elements new w ≡ elements old w
+    pub apart : AreApart v w

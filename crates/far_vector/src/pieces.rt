@@ -1,0 +1,91 @@
+// Parts of a vector, lent by several objects.
+ghost use Rattle.std.specs.Prelude.{◌≡◌, [], ◌∷◌, length, None, IfSome, IfNone};
+ghost use Rattle.far_scopes.specs.Movement.{list_of};
+ghost use Rattle.far_vector.specs.Vector.{IsVector, elements};
+ghost use Rattle.far_vector.specs.Pieces.{pieces_of};
+ghost use Rattle.far_vector.specs.Refusing.{pieces_refusal};
+
+use crate::vector::FarVector;
+use far_codec::Elem;
+use far_scopes::Objects;
+use far_store::FarRead;
+use std::marker::Model;
+
+/// A part of a vector, piece by piece: a slice of each row group that has some of it, lent in place by its object. None is
+/// empty.
+#[derive(Drop)]
+pub struct Pieces<'a, T: Elem, S: FarRead> {
+    vector: &'a FarVector<T>,
+    objects: &'a Objects<T, S>,
+    from: usize,
+    to: usize,
+}
+
+impl<'a, T: Elem, S: FarRead> Model for Pieces<'a, T, S> {
+    ghost use Rattle.std.specs.Prelude.{List};
+    ghost use Rattle.std.specs.Coded.{coded_list};
+
+    ghost Value = { List (List T) };
+
+    ghost coded = { coded_list (coded_list T.code) };
+
+    ghost use Rattle.far_scopes.specs.Movement.{list_of};
+    ghost use Rattle.far_vector.specs.Vector.{elements};
+    ghost use Rattle.far_vector.specs.Pieces.{pieces_of};
+    ghost use Rattle.far_vector.specs.Refusing.{IsLendable};
+
+    ghost view = { λ p. pieces_of (elements (list_of T.meaning S.content p.objects.now) p.vector.now) p.vector.now.size p.from p.to };
+
+    ghost invariant = { λ p. IsLendable T.meaning S.content p.objects.now p.vector.now p.from p.to };
+}
+
+impl<'a, T: Elem, S: FarRead> Pieces<'a, T, S> {
+    // The pieces of a part that may be lent.
+    pub(crate) fn new(
+        vector: &'a FarVector<T>,
+        objects: &'a Objects<T, S>,
+        from: usize,
+        to: usize,
+    ) -> Pieces<'a, T, S>
+        requires is { IsVector (list_of T.meaning S.content objects.now) vector.now }
+        requires free { pieces_refusal objects.now vector.now from to ≡ None }
+        ensures { result ≡ pieces_of (elements (list_of T.meaning S.content objects.now) vector.now) vector.now.size from to }
+    {
+        Pieces {
+            vector,
+            objects,
+            from,
+            to,
+        }
+    }
+
+    /// The next piece, and `None` where there is none left. Takes no memory.
+    ///
+    /// It is no `Iterator`'s: a trait's own method gets no proof where it calls what asks for elements that may be shared by
+    /// threads.
+    pub fn next(&mut self) -> Option<&'a [T]>
+        ensures first { IfSome result (λ piece. self.old ≡ piece.now ∷ self.new) }
+        ensures none { IfNone result ((self.old ≡ []) × (self.new ≡ [])) }
+    {
+        if self.from == self.to {
+            return None;
+        }
+        let vector = self.vector;
+        let end = self.to.min(vector.group_end(self.from));
+        let Ok(piece) = vector.part(self.objects, self.from, end) else {
+            unreachable!()
+        };
+        self.from = end;
+        Some(piece)
+    }
+
+    /// How many pieces are left. Takes no memory.
+    pub fn len(&self) -> usize
+        ensures { result ≡ length self.now }
+    {
+        if self.from == self.to {
+            return 0;
+        }
+        self.vector.groups_between(self.from, self.to)
+    }
+}

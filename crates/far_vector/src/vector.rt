@@ -1,0 +1,103 @@
+// Lists of elements, one object a row group.
+ghost use Rattle.std.specs.Prelude.{◌≡◌, ℕ, ◌-◌, ◌*◌, ◌<◌, List, [], length, replicate, Option, IfOk, IfErr, IsSomeAnd, slice_get};
+ghost use Rattle.far_scopes.specs.Movement.{list_of};
+ghost use Rattle.far_vector.specs.Vector.{IsShaped, IsVector, object_at};
+
+mod pushing;
+mod reading;
+mod writing;
+
+use far_codec::Elem;
+use far_scopes::Objects;
+use far_store::FarRead;
+use far_types::Refusal;
+use std::alloc::Global;
+use std::marker::Model;
+
+/// A list of elements that lies in objects, one object a row group, which many vectors share: each call names them.
+///
+/// Each object has as many elements as a row group; those of places that are not yet used are blank. The objects are named
+/// by one column and the row groups.
+#[derive(Drop)]
+pub struct FarVector<T: Elem> {
+    column: u32,
+    size: usize,
+    objects: Vec<u32>,
+    len: usize,
+    blank: T,
+    // The list of the next row group: blank but for its first element.
+    next: Vec<T>,
+}
+
+impl<T: Elem> Model for FarVector<T> {
+    ghost use Rattle.far_vector.specs.Vector.{Vector};
+
+    ghost Value = { Vector T };
+
+    ghost use Rattle.far_vector.specs.Vector.{IsLaid};
+
+    ghost view = { λ a. record { column = a.column; size = a.size; objects = a.objects.items; len = a.len; blank = a.blank } };
+
+    ghost invariant = { λ a. IsLaid record { column = a.column; size = a.size; objects = a.objects.items; len = a.len; blank = a.blank } a.next.items };
+}
+
+impl<T: Elem> FarVector<T> {
+    /// The empty list of a column, in row groups of `size` elements; `blank` stands in places that are not yet used.
+    ///
+    /// All memory for elements beside the objects is taken here. Refused with `NoMemory` (1) alone.
+    pub fn new(alloc: Global, column: u32, size: u32, blank: T) -> Result<FarVector<T>, Refusal>
+        requires { 0 < size }
+        ensures empty { IfOk result (λ v. v ≡ record { column = column; size = size; objects = []; len = 0; blank = blank }) }
+        ensures is { IfOk result (λ v. (lists : ℕ → Option (List T)) → IsVector lists v) }
+        ensures memory { IfErr result (λ e. e ≡ Refusal.NoMemory) }
+    {
+        let size = size as usize;
+        Ok(FarVector {
+            column,
+            size,
+            objects: Vec::new(alloc),
+            len: 0,
+            blank,
+            next: blanks(alloc, size, blank)?,
+        })
+    }
+
+    /// How many elements there are. Takes no memory.
+    pub fn len(&self) -> usize
+        ensures len { result ≡ self.now.len }
+        ensures shaped { IsShaped self.now }
+    {
+        self.len
+    }
+
+    /// The number of a row group's object, and `None` exactly where there is no such row group. Takes no memory.
+    pub fn object(&self, group: u32) -> Option<u32>
+        ensures { result ≡ slice_get self.now.objects group }
+    {
+        self.objects.get(group as usize).copied()
+    }
+
+    // The object with a place, which is one of the objects: that is known of objects by the contract of `number`.
+    fn object_at<S: FarRead>(&self, objects: &Objects<T, S>, i: usize) -> u32
+        requires is { IsVector (list_of T.meaning S.content objects.now) self.now }
+        requires within { i < length self.now.objects * self.now.size }
+        ensures object { result ≡ object_at self.now i }
+        ensures made { result < length objects.now.entries }
+        ensures list { IsSomeAnd (list_of T.meaning S.content objects.now result) (λ list. length list ≡ self.now.size) }
+    {
+        let _ = objects.number();
+        self.objects[i / self.size]
+    }
+}
+
+// So many blank elements.
+fn blanks<T: Elem>(alloc: Global, count: usize, blank: T) -> Result<Vec<T>, Refusal>
+    ensures blank { IfOk result (λ list. list.items ≡ replicate count blank) }
+    ensures memory { IfErr result (λ e. e ≡ Refusal.NoMemory) }
+{
+    let mut list = Vec::with_capacity(alloc, count)?;
+    for _ in 0..count {
+        list.push_reserved(blank);
+    }
+    Ok(list)
+}

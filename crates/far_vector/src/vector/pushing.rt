@@ -1,0 +1,128 @@
+// Elements added and taken back at the end.
+ghost use Rattle.std.specs.Prelude.{◌≡◌, ℕ, ◌+◌, ◌-◌, ◌*◌, ◌<◌, ◌^◌, ◌⊎◌, ◌++◌, List, [], ◌∷◌, length, true, false, take, Some, None, OnOk, OnErr, IfErr, slice_index, slice_get};
+ghost use Rattle.far_scopes.specs.Movement.{list_of, AreClean, AreHere, ChangesObject, is_local, pins_of};
+ghost use Rattle.far_scopes.specs.Effects.{created, uncreated};
+ghost use Rattle.far_scopes.specs.Refusing.{refusal_in, no_room, write_refusal};
+ghost use Rattle.far_types.specs.FirstOf.{first_of};
+ghost use Rattle.far_vector.specs.Vector.{Vector, IsVector, IsUntouched, AreApart, KeepsOthers, elements, object_at};
+ghost use Rattle.far_vector.specs.Effects.{is_full, next_name, next_group, pushed, pushed_in, unpushed, range_written};
+ghost use Rattle.far_vector.specs.Refusing.{push_refusal};
+
+use super::FarVector;
+use far_codec::Elem;
+use far_scopes::Objects;
+use far_store::FarRead;
+use far_types::{Name, Refusal};
+
+impl<T: Elem> FarVector<T> {
+    /// Adds an element at the end: in the last row group, or, where that is full, in a new one, whose object is made here.
+    /// `unpush` undoes a push that made an object (`undone`).
+    ///
+    /// Refused, where it begins a row group, with `RegionFull` (17) exactly where no segment has the space, else with
+    /// `NoMemory` (1) alone. Elsewhere refused with `Absent` (16) exactly where the last row group's object is away, else with
+    /// `EditsUsedUp` (24) exactly where that was written as often as objects may be, and takes no memory. Then nothing is
+    /// changed.
+    pub fn push<S: FarRead>(&mut self, objects: &mut Objects<T, S>, x: T) -> Result<(), Refusal>
+        requires is { IsVector (list_of T.meaning S.content objects.old) self.old }
+        requires few { length objects.old.entries < 2 ^ 28 }
+        ensures pushed { OnOk result (self.new ≡ pushed self.old (length objects.old.entries)) }
+        ensures written { OnOk result (objects.new ≡ pushed_in objects.old self.old x) }
+        ensures undone { OnOk result (is_full self.old ≡ true → (unpushed self.new ≡ self.old) × (uncreated objects.new ≡ objects.old)) }
+        ensures elements { OnOk result (elements (list_of T.meaning S.content objects.new) self.new ≡ elements (list_of T.meaning S.content objects.old) self.old ++ x ∷ []) }
+        ensures is { IsVector (list_of T.meaning S.content objects.new) self.new }
+        ensures apart { (w : Vector T) → IsVector (list_of T.meaning S.content objects.old) w → AreApart self.old w → IsUntouched (list_of T.meaning S.content objects.old) (list_of T.meaning S.content objects.new) self.new w }
+        ensures lists { OnOk result (KeepsOthers (list_of T.meaning S.content objects.old) (list_of T.meaning S.content objects.new) (object_at self.new self.old.len)) }
+        ensures others { OnOk result (ChangesObject objects.old objects.new (object_at self.new self.old.len)) }
+        ensures clean { AreClean T.meaning S.content objects.old → AreClean T.meaning S.content objects.new }
+        ensures store { (name : List ℕ) → AreHere S.is_of name objects.old → AreHere S.is_of name objects.new }
+        ensures free { OnOk result (push_refusal objects.old self.old ≡ None) }
+        ensures refused { IfErr result (λ e. (push_refusal objects.old self.old ≡ Some e) ⊎ ((push_refusal objects.old self.old ≡ None) × (is_full self.old ≡ true) × (e ≡ Refusal.NoMemory))) }
+        ensures err { OnErr result ((self.new ≡ self.old) × (objects.new ≡ objects.old)) }
+    {
+        if self.len == self.objects.len() * self.size {
+            self.begin_group(objects, x)
+        } else {
+            self.fill_place(objects, x)
+        }
+    }
+
+    // Adds an element where all places are used: in an object of its own.
+    fn begin_group<S: FarRead>(&mut self, objects: &mut Objects<T, S>, x: T) -> Result<(), Refusal>
+        requires full { is_full self.old ≡ true }
+        requires is { IsVector (list_of T.meaning S.content objects.old) self.old }
+        requires few { length objects.old.entries < 2 ^ 28 }
+        ensures pushed { OnOk result (self.new ≡ record self.old { objects = self.old.objects ++ length objects.old.entries ∷ []; len = self.old.len + 1 }) }
+        ensures written { OnOk result (objects.new ≡ created objects.old (next_name self.old) (next_group self.old x)) }
+        ensures undone { OnOk result ((unpushed self.new ≡ self.old) × (uncreated objects.new ≡ objects.old)) }
+        ensures elements { OnOk result (elements (list_of T.meaning S.content objects.new) self.new ≡ elements (list_of T.meaning S.content objects.old) self.old ++ x ∷ []) }
+        ensures is { IsVector (list_of T.meaning S.content objects.new) self.new }
+        ensures apart { (w : Vector T) → IsVector (list_of T.meaning S.content objects.old) w → AreApart self.old w → IsUntouched (list_of T.meaning S.content objects.old) (list_of T.meaning S.content objects.new) self.new w }
+        ensures object { OnOk result (object_at self.new self.old.len ≡ length objects.old.entries) }
+        ensures lists { OnOk result (KeepsOthers (list_of T.meaning S.content objects.old) (list_of T.meaning S.content objects.new) (length objects.old.entries)) }
+        ensures others { OnOk result (ChangesObject objects.old objects.new (length objects.old.entries)) }
+        ensures clean { AreClean T.meaning S.content objects.old → AreClean T.meaning S.content objects.new }
+        ensures store { (name : List ℕ) → AreHere S.is_of name objects.old → AreHere S.is_of name objects.new }
+        ensures free { OnOk result (first_of (no_room objects.old (length objects.old.entries) self.old.size ∷ []) ≡ None) }
+        ensures refused { IfErr result (λ e. (first_of (no_room objects.old (length objects.old.entries) self.old.size ∷ []) ≡ Some e) ⊎ ((first_of (no_room objects.old (length objects.old.entries) self.old.size ∷ []) ≡ None) × (e ≡ Refusal.NoMemory))) }
+        ensures err { OnErr result ((self.new ≡ self.old) × (objects.new ≡ objects.old)) }
+    {
+        let _ = objects.number();
+        if !objects.fits(self.size) {
+            return Err(Refusal::RegionFull);
+        }
+        self.objects.reserve(1)?;
+        self.next[0] = x;
+        let name = Name {
+            column: self.column,
+            group: self.objects.len() as u32,
+        };
+        let o = objects.create(name, &self.next)?;
+        self.objects.push_reserved(o);
+        self.len += 1;
+        Ok(())
+    }
+
+    // Adds an element where the last row group has a place that is not used.
+    fn fill_place<S: FarRead>(&mut self, objects: &mut Objects<T, S>, x: T) -> Result<(), Refusal>
+        requires room { is_full self.old ≡ false }
+        requires is { IsVector (list_of T.meaning S.content objects.old) self.old }
+        ensures pushed { OnOk result (self.new ≡ record self.old { len = self.old.len + 1 }) }
+        ensures written { OnOk result (objects.new ≡ range_written objects.old self.old self.old.len (x ∷ [])) }
+        ensures elements { OnOk result (elements (list_of T.meaning S.content objects.new) self.new ≡ elements (list_of T.meaning S.content objects.old) self.old ++ x ∷ []) }
+        ensures is { IsVector (list_of T.meaning S.content objects.new) self.new }
+        ensures apart { (w : Vector T) → IsVector (list_of T.meaning S.content objects.old) w → AreApart self.old w → IsUntouched (list_of T.meaning S.content objects.old) (list_of T.meaning S.content objects.new) self.new w }
+        ensures lists { OnOk result (KeepsOthers (list_of T.meaning S.content objects.old) (list_of T.meaning S.content objects.new) (object_at self.new self.old.len)) }
+        ensures others { OnOk result (ChangesObject objects.old objects.new (object_at self.new self.old.len)) }
+        ensures clean { AreClean T.meaning S.content objects.old → AreClean T.meaning S.content objects.new }
+        ensures store { (name : List ℕ) → AreHere S.is_of name objects.old → AreHere S.is_of name objects.new }
+        ensures refused { refusal_in result ≡ write_refusal objects.old (object_at self.old self.old.len) }
+        ensures err { OnErr result ((self.new ≡ self.old) × (objects.new ≡ objects.old)) }
+    {
+        objects.may_write(self.object_at(objects, self.len))?;
+        self.write(objects, self.len, x);
+        self.len += 1;
+        Ok(())
+    }
+
+    /// Takes back a push that made an object: its element, the only one of its row group, and the object. Takes no memory.
+    pub fn unpush<S: FarRead>(&mut self, objects: &mut Objects<T, S>)
+        requires is { IsVector (list_of T.meaning S.content objects.old) self.old }
+        requires alone { self.old.len ≡ (length self.old.objects - 1) * self.old.size + 1 }
+        requires last { slice_get self.old.objects (length self.old.objects - 1) ≡ Some (length objects.old.entries - 1) }
+        requires local { is_local objects.old (length objects.old.entries - 1) ≡ true }
+        requires unpinned { pins_of objects.old (length objects.old.entries - 1) ≡ 0 }
+        ensures unpushed { self.new ≡ unpushed self.old }
+        ensures uncreated { objects.new ≡ uncreated objects.old }
+        ensures elements { elements (list_of T.meaning S.content objects.new) self.new ≡ take (self.old.len - 1) (elements (list_of T.meaning S.content objects.old) self.old) }
+        ensures is { IsVector (list_of T.meaning S.content objects.new) self.new }
+        ensures apart { (w : Vector T) → IsVector (list_of T.meaning S.content objects.old) w → AreApart self.old w → IsUntouched (list_of T.meaning S.content objects.old) (list_of T.meaning S.content objects.new) self.new w }
+        ensures lists { KeepsOthers (list_of T.meaning S.content objects.old) (list_of T.meaning S.content objects.new) (length objects.old.entries - 1) }
+        ensures others { ChangesObject objects.old objects.new (length objects.old.entries - 1) }
+        ensures clean { AreClean T.meaning S.content objects.old → AreClean T.meaning S.content objects.new }
+        ensures store { (name : List ℕ) → AreHere S.is_of name objects.old → AreHere S.is_of name objects.new }
+    {
+        self.objects.pop();
+        self.len -= 1;
+        objects.uncreate();
+    }
+}

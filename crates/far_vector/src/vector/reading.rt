@@ -1,0 +1,134 @@
+// Elements read in place.
+ghost use Rattle.std.specs.Prelude.{◌≡◌, ℕ, ◌+◌, ◌*◌, ◌/◌, ◌<◌, ◌≤◌, [], ◌∷◌, length, take, drop, Some, IfOk, All, slice_get, slice_range};
+ghost use Rattle.std.specs.List.{flat_map};
+ghost use Rattle.far_types.specs.FirstOf.{first_of};
+ghost use Rattle.far_scopes.specs.Movement.{list_of};
+ghost use Rattle.far_scopes.specs.Refusing.{refusal_in, first_absent};
+ghost use Rattle.far_vector.specs.Vector.{IsShaped, IsVector, elements};
+ghost use Rattle.far_vector.specs.Pieces.{pieces_of, first_touched, touched_count};
+ghost use Rattle.far_vector.specs.Refusing.{no_range, crosses, get_refusal, part_refusal, pieces_refusal};
+
+use super::FarVector;
+use crate::pieces::Pieces;
+use far_codec::Elem;
+use far_scopes::Objects;
+use far_store::FarRead;
+use far_types::Refusal;
+
+impl<T: Elem> FarVector<T> {
+    /// The element at a place. Takes no memory.
+    ///
+    /// Refused with `OutOfRange` (14) exactly where the list has no such place, else with `Absent` (16) exactly where the
+    /// object of its row group is away.
+    pub fn get<S: FarRead>(&self, objects: &Objects<T, S>, i: usize) -> Result<T, Refusal>
+        requires { IsVector (list_of T.meaning S.content objects.now) self.now }
+        ensures element { IfOk result (λ x. slice_get (elements (list_of T.meaning S.content objects.now) self.now) i ≡ Some x) }
+        ensures refused { refusal_in result ≡ get_refusal objects.now self.now i }
+    {
+        if i >= self.len {
+            return Err(Refusal::OutOfRange);
+        }
+        let list = objects.lend(self.object_at(objects, i))?;
+        Ok(list[i % self.size])
+    }
+
+    /// The elements `from` up to `to`, all of one row group, lent in place. Takes no memory.
+    ///
+    /// Refused with `OutOfRange` (14) exactly where `from` is above `to`, `to` is past the end, or the part is not empty and
+    /// crosses row groups; else with `Absent` (16) exactly where it is not empty and the object of its row group is away.
+    pub fn part<'a, S: FarRead>(
+        &self,
+        objects: &'a Objects<T, S>,
+        from: usize,
+        to: usize,
+    ) -> Result<&'a [T], Refusal>
+        requires { IsVector (list_of T.meaning S.content objects.now) self.now }
+        ensures part { IfOk result (λ part. part.now ≡ slice_range (elements (list_of T.meaning S.content objects.now) self.now) from to) }
+        ensures refused { refusal_in result ≡ part_refusal objects.now self.now from to }
+    {
+        self.check_part(from, to)?;
+        if from == to {
+            return Ok(&[]);
+        }
+        let list = objects.lend(self.object_at(objects, from))?;
+        let begin = from % self.size;
+        Ok(&list[begin..begin + (to - from)])
+    }
+
+    /// The elements `from` up to `to`, lent in place piece by piece: one for each row group that has some of them. Takes no
+    /// memory.
+    ///
+    /// Refused with `OutOfRange` (14) exactly where `from` is above `to` or `to` is past the end; else with `Absent` (16)
+    /// exactly where the object of a row group with some of them is away, naming the first such.
+    pub fn pieces<'a, S: FarRead>(
+        &'a self,
+        objects: &'a Objects<T, S>,
+        from: usize,
+        to: usize,
+    ) -> Result<Pieces<'a, T, S>, Refusal>
+        requires { IsVector (list_of T.meaning S.content objects.now) self.now }
+        ensures pieces { IfOk result (λ pieces. pieces ≡ pieces_of (elements (list_of T.meaning S.content objects.now) self.now) self.now.size from to) }
+        ensures joined { IfOk result (λ pieces. flat_map (λ piece. piece) pieces ≡ slice_range (elements (list_of T.meaning S.content objects.now) self.now) from to) }
+        ensures some { IfOk result (λ pieces. All (λ piece. 0 < length piece) pieces) }
+        ensures refused { refusal_in result ≡ pieces_refusal objects.now self.now from to }
+    {
+        if from > to || to > self.len {
+            return Err(Refusal::OutOfRange);
+        }
+        if from < to {
+            self.all_here(objects, from / self.size, (to - 1) / self.size + 1)?;
+        }
+        Ok(Pieces::new(self, objects, from, to))
+    }
+
+    // Whether the objects of row groups `first` up to `end` are local; the refusal names the first that is away.
+    fn all_here<S: FarRead>(
+        &self,
+        objects: &Objects<T, S>,
+        first: usize,
+        end: usize,
+    ) -> Result<(), Refusal>
+        requires is { IsVector (list_of T.meaning S.content objects.now) self.now }
+        requires ordered { first ≤ end }
+        requires within { end ≤ length self.now.objects }
+        ensures { refusal_in result ≡ first_absent objects.now (slice_range self.now.objects first end) }
+    {
+        let _ = objects.number();
+        for o in &self.objects[first..end] {
+            objects.lend(*o)?;
+        }
+        Ok(())
+    }
+
+    // Whether the elements `from` up to `to` are all there, and of one row group.
+    pub(super) fn check_part(&self, from: usize, to: usize) -> Result<(), Refusal>
+        ensures refused { refusal_in result ≡ first_of (no_range self.now from to ∷ crosses self.now from to ∷ []) }
+        ensures shaped { IsShaped self.now }
+    {
+        if from > to || to > self.len {
+            return Err(Refusal::OutOfRange);
+        }
+        if from < to && from / self.size != (to - 1) / self.size {
+            return Err(Refusal::OutOfRange);
+        }
+        Ok(())
+    }
+
+    // How many row groups have some of the elements `from` up to `to`, of which there are some.
+    pub(crate) fn groups_between(&self, from: usize, to: usize) -> usize
+        requires some { from < to }
+        requires there { to ≤ self.now.len }
+        ensures { result ≡ touched_count self.now.size from to }
+    {
+        (to - 1) / self.size + 1 - from / self.size
+    }
+
+    // Where the row group of a place ends.
+    pub(crate) fn group_end(&self, i: usize) -> usize
+        requires { i < self.now.len }
+        ensures end { result ≡ (i / self.now.size + 1) * self.now.size }
+        ensures shaped { IsShaped self.now }
+    {
+        (i / self.size + 1) * self.size
+    }
+}

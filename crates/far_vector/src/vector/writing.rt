@@ -1,0 +1,132 @@
+// Elements written in place.
+ghost use Rattle.std.specs.Prelude.{◌≡◌, ℕ, ◌+◌, ◌-◌, ◌*◌, ◌%◌, ◌<◌, ◌++◌, List, [], ◌∷◌, length, take, drop, Some, None, IsSomeAnd, OnOk, OnErr, slice_set, slice_range};
+ghost use Rattle.std.specs.Borrow.{sem};
+ghost use Rattle.far_scopes.specs.Memory.{list_in};
+ghost use Rattle.far_scopes.specs.Movement.{list_of, AreClean, AreHere, ChangesObject};
+ghost use Rattle.far_scopes.specs.Refusing.{refusal_in, write_refusal};
+ghost use Rattle.far_scopes.specs.ObjectsLending.{lends_written};
+ghost use Rattle.far_vector.specs.Vector.{Vector, IsVector, IsUntouched, AreApart, KeepsOthers, WritesPlaces, elements, object_at};
+ghost use Rattle.far_vector.specs.Effects.{range_written};
+ghost use Rattle.far_vector.specs.Refusing.{set_refusal, write_part_refusal};
+
+use super::FarVector;
+use far_codec::Elem;
+use far_scopes::Objects;
+use far_store::FarRead;
+use far_types::Refusal;
+
+impl<T: Elem> FarVector<T> {
+    /// Writes the element at a place; its row group's object counts as written. Takes no memory.
+    ///
+    /// Refused with `OutOfRange` (14) exactly where the list has no such place, else with `Absent` (16) exactly where the
+    /// object of its row group is away, else with `EditsUsedUp` (24) exactly where that was written as often as objects may
+    /// be; then nothing is changed.
+    pub fn set<S: FarRead>(
+        &self,
+        objects: &mut Objects<T, S>,
+        i: usize,
+        x: T,
+    ) -> Result<(), Refusal>
+        requires { IsVector (list_of T.meaning S.content objects.old) self.now }
+        ensures written { OnOk result (objects.new ≡ range_written objects.old self.now i (x ∷ [])) }
+        ensures elements { OnOk result (elements (list_of T.meaning S.content objects.new) self.now ≡ slice_set (elements (list_of T.meaning S.content objects.old) self.now) i x) }
+        ensures is { IsVector (list_of T.meaning S.content objects.new) self.now }
+        ensures apart { (w : Vector T) → IsVector (list_of T.meaning S.content objects.old) w → AreApart self.now w → IsUntouched (list_of T.meaning S.content objects.old) (list_of T.meaning S.content objects.new) self.now w }
+        ensures lists { KeepsOthers (list_of T.meaning S.content objects.old) (list_of T.meaning S.content objects.new) (object_at self.now i) }
+        ensures others { ChangesObject objects.old objects.new (object_at self.now i) }
+        ensures clean { AreClean T.meaning S.content objects.old → AreClean T.meaning S.content objects.new }
+        ensures store { (name : List ℕ) → AreHere S.is_of name objects.old → AreHere S.is_of name objects.new }
+        ensures refused { refusal_in result ≡ set_refusal objects.old self.now i }
+        ensures err { OnErr result (objects.new ≡ objects.old) }
+    {
+        if i >= self.len {
+            return Err(Refusal::OutOfRange);
+        }
+        objects.may_write(self.object_at(objects, i))?;
+        self.write(objects, i, x);
+        Ok(())
+    }
+
+    /// Whether the elements `from` up to `to`, all of one row group, may be written. Takes no memory.
+    ///
+    /// Refused with `OutOfRange` (14) exactly where `from` is above `to`, `to` is past the end, or the part is not empty and
+    /// crosses row groups; else, if it is not empty, with `Absent` (16) exactly where the object of its row group is away, and
+    /// with `EditsUsedUp` (24) exactly where that was written as often as objects may be.
+    pub fn may_write_part<S: FarRead>(
+        &self,
+        objects: &Objects<T, S>,
+        from: usize,
+        to: usize,
+    ) -> Result<(), Refusal>
+        requires { IsVector (list_of T.meaning S.content objects.now) self.now }
+        ensures { refusal_in result ≡ write_part_refusal objects.now self.now from to }
+    {
+        self.check_part(from, to)?;
+        if from == to {
+            return Ok(());
+        }
+        objects.may_write(self.object_at(objects, from))
+    }
+
+    /// The elements `from` up to `to` of a part that may be written and is not empty, lent in place to be written. Takes no
+    /// memory.
+    ///
+    /// The object of their row group counts as written. What the borrow leaves is the part, and no other element changes.
+    pub fn part_mut<'a, S: FarRead>(
+        objects: &'a mut Objects<T, S>,
+        vector: &FarVector<T>,
+        from: usize,
+        to: usize,
+    ) -> &'a mut [T]
+        requires is { IsVector (list_of T.meaning S.content objects.old) vector.now }
+        requires some { from < to }
+        requires free { write_part_refusal objects.old vector.now from to ≡ None }
+        ensures* writes_back { sem 𝓛 (lends_written T.row S.row S.Ticket.row T.Elem S.FarRead objects.entry (object_at vector.now from) (from % vector.now.size) result) }
+        ensures lent { result.now ≡ slice_range (elements (list_of T.meaning S.content objects.old) vector.now) from to }
+        ensures elements { (range : List T) → length range ≡ to - from → let now = list_of T.meaning S.content (range_written objects.old vector.now from range) in let was = elements (list_of T.meaning S.content objects.old) vector.now in elements now vector.now ≡ take from was ++ (range ++ drop to was) }
+        ensures is { (range : List T) → length range ≡ to - from → IsVector (list_of T.meaning S.content (range_written objects.old vector.now from range)) vector.now }
+        ensures apart { (range : List T) → length range ≡ to - from → (w : Vector T) → IsVector (list_of T.meaning S.content objects.old) w → AreApart vector.now w → IsUntouched (list_of T.meaning S.content objects.old) (list_of T.meaning S.content (range_written objects.old vector.now from range)) vector.now w }
+        ensures lists { (range : List T) → length range ≡ to - from → KeepsOthers (list_of T.meaning S.content objects.old) (list_of T.meaning S.content (range_written objects.old vector.now from range)) (object_at vector.now from) }
+        ensures others { (range : List T) → ChangesObject objects.old (range_written objects.old vector.now from range) (object_at vector.now from) }
+        ensures clean { (range : List T) → length range ≡ to - from → AreClean T.meaning S.content objects.old → AreClean T.meaning S.content (range_written objects.old vector.now from range) }
+        ensures store { (range : List T) (name : List ℕ) → AreHere S.is_of name objects.old → AreHere S.is_of name (range_written objects.old vector.now from range) }
+    {
+        let begin = from % vector.size;
+        let o = vector.writable_at(objects, from);
+        let end = begin + (to - from);
+        objects.lend_range_mut(o, begin, end)
+    }
+
+    // Writes the element of a place, which may be one that is not yet used, of a row group that may be written.
+    pub(super) fn write<S: FarRead>(&self, objects: &mut Objects<T, S>, i: usize, x: T)
+        requires is { IsVector (list_of T.meaning S.content objects.old) self.now }
+        requires within { i < length self.now.objects * self.now.size }
+        requires free { write_refusal objects.old (object_at self.now i) ≡ None }
+        ensures written { objects.new ≡ range_written objects.old self.now i (x ∷ []) }
+        ensures places { WritesPlaces (list_of T.meaning S.content objects.old) (list_of T.meaning S.content objects.new) self.now i (x ∷ []) }
+        ensures lists { KeepsOthers (list_of T.meaning S.content objects.old) (list_of T.meaning S.content objects.new) (object_at self.now i) }
+        ensures others { ChangesObject objects.old objects.new (object_at self.now i) }
+        ensures clean { AreClean T.meaning S.content objects.old → AreClean T.meaning S.content objects.new }
+        ensures store { (name : List ℕ) → AreHere S.is_of name objects.old → AreHere S.is_of name objects.new }
+    {
+        let at = i % self.size;
+        let o = self.writable_at(objects, i);
+        let range = objects.lend_range_mut(o, at, at + 1);
+        range[0] = x;
+    }
+
+    // The object with a place of a row group that may be written, which has its list in local memory: that is known by the
+    // contract of `lend`.
+    fn writable_at<S: FarRead>(&self, objects: &Objects<T, S>, i: usize) -> u32
+        requires is { IsVector (list_of T.meaning S.content objects.now) self.now }
+        requires within { i < length self.now.objects * self.now.size }
+        requires free { write_refusal objects.now (object_at self.now i) ≡ None }
+        ensures object { result ≡ object_at self.now i }
+        ensures made { result < length objects.now.entries }
+        ensures list { IsSomeAnd (list_in objects.now.memory result) (λ list. length list ≡ self.now.size) }
+    {
+        let o = self.object_at(objects, i);
+        let _ = objects.lend(o);
+        o
+    }
+}
