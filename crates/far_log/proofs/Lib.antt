@@ -1,3 +1,5 @@
+pub mod Chunks
+pub mod ChunkedVecs
 pub mod StoredParts
 pub mod SlotOf
 pub mod Linked
