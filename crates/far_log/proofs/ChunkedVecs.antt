@@ -1,12 +1,12 @@
 -- What a list in chunks shows when it is read, written and longer by one.
-use Rattle.std.proofs.Common.{◌≡◌, ℕ, ◌+◌, ◌-◌, ◌<◌, ◌≤◌, ◌^◌, List, [], ◌∷◌, ◌++◌, Some, length, get_or, take, drop, refl, sym, ap, ◌∙◌, arith, length-append, length-set, length-take}
-use Rattle.std.proofs.lemmas.List.{take_all, take-append-le, take_more_set}
+use Rattle.std.proofs.Common.{◌≡◌, ℕ, ◌+◌, ◌<◌, ◌≤◌, ◌^◌, List, [], ◌∷◌, ◌++◌, Some, length, get_or, take, sym, ap, ◌∙◌, arith, length-append, length-set, length-take}
+use Rattle.std.proofs.lemmas.List.{take_all, take_more_set}
 use Rattle.std.proofs.Math.Seq.{take-set-lt}
 use Rattle.std.proofs.lemmas.Option.{slice_get-get_or}
 use Rattle.std.specs.Prelude.{vec_capacity, slice_get, slice_set}
 use Rattle.std.specs.declared.vec.Vec.{Vec}
-use Rattle.far_log.specs.Chunking.{room_at, start_at, joined, AreChunks, IsPlaceOf, IsChunked}
-use Rattle.far_log.proofs.Chunks.{ends-within, get-take, chunk-there, in-chunk, read-chunk, write-chunk, chunks-set, last-chunk, push-chunk, cut-chunk}
+use Rattle.far_log.specs.Chunking.{joined, AreChunks, IsPlaceOf, IsChunked}
+use Rattle.far_log.proofs.Chunks.{ends-within, get-take, chunk-there, in-chunk, read-chunk, write-chunk, chunks-set, last-chunk, push-chunk}
 
 module _ {X Z : Type 0} (cs : List (Vec X Z)) (len : ℕ) where
   pub index-within : (now : List X) (index : ℕ) → take len (joined cs) ≡ now → index < length now → index < len

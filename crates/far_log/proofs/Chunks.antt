@@ -1,5 +1,5 @@
 -- Where the elements of chunks lie.
-use Rattle.std.proofs.Common.{◌≡◌, ℕ, zero, suc, ◌+◌, ◌-◌, ◌*◌, ◌<◌, ◌≤◌, ◌^◌, List, [], ◌∷◌, ◌++◌, Some, length, get_or, take, drop, refl, sym, ap, ◌∙◌, arith, length-append, pow_mono, pow-suc, lt_of_not-le}
+use Rattle.std.proofs.Common.{◌≡◌, ℕ, zero, suc, ◌+◌, ◌-◌, ◌*◌, ◌<◌, ◌≤◌, ◌^◌, List, [], ◌∷◌, ◌++◌, Some, length, take, drop, refl, sym, ap, ◌∙◌, arith, length-append, pow_mono, pow-suc, lt_of_not-le}
 use Rattle.std.proofs.Common.{◌⊎◌, inl, inr, length-take, append-nil}
 use Rattle.std.proofs.lemmas.List.{append_assoc, take_all, take-append-le}
 use Rattle.std.proofs.lemmas.Bool.{cases_lt}
@@ -11,6 +11,20 @@ use Rattle.far_log.specs.Chunking.{room_at, start_at, joined, AreChunks, IsPlace
 pub start-room : (room number : ℕ) → start_at room number + room ≡ room_at room number
 start-room room zero = omega arith
 start-room room (suc number) = let later = start-room (room + room) number in omega arith
+
+-- a chunk ends where the next begins
+pub start-next : (room number : ℕ) → start_at room (suc number) ≡ start_at room number + room_at room number
+start-next room number = omega (arith, start-room room number, start-room room (suc number), room-next room number)
+  where
+    room-next : (room number : ℕ) → room_at room (suc number) ≡ room_at room number + room_at room number
+    room-next room zero = refl
+    room-next room (suc number) = room-next (room + room) number
+
+pub start-last : (room number : ℕ) → 0 < number → start_at room number ≡ start_at room (number - 1) + room_at room (number - 1)
+start-last room zero some = absurd (omega arith)
+start-last room (suc number) some =
+    let less : suc number - 1 ≡ number = omega arith in
+    rw less (start-next room number)
 
 pub room-is : (level number : ℕ) → room_at (2 ^ level) number ≡ 2 ^ (level + number)
 room-is level zero = ap (λ n. 2 ^ n) (let e : level ≡ level + 0 = omega arith in e)

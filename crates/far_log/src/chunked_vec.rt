@@ -8,6 +8,7 @@ use std::marker::Model;
 
 // How many elements the first chunk takes, and its binary logarithm.
 const FIRST: usize = 64;
+
 const FIRST_LEVEL: usize = 6;
 
 // Where an element lies: the number of its chunk, and its place there.

@@ -10,6 +10,7 @@
 
 mod chunked_vec;
 mod compaction;
+mod entry;
 mod fitting;
 mod links;
 mod region;

@@ -1,6 +1,9 @@
 // The table of a segment: where its parts lie, and where parts lay that are gone.
-ghost use Rattle.std.specs.Prelude.{◌≡◌, ℕ, ◌<◌, ◌^◌, slice_get, Some};
-ghost use Rattle.far_log.specs.Storage.{AreLined, slots_end};
+ghost use Rattle.std.specs.Prelude.{◌≡◌, ℕ, ◌<◌, ◌≤◌, ◌^◌, length, slice_get, Some};
+ghost use Rattle.far_log.specs.Storage.{AreLined, AreRising, slots_end, slots_of};
+
+use super::chunked_vec::{ChunkedVec, chunk_of, start_of};
+use super::entry::Entry;
 
 /// A stretch of a segment that has a part, or had one.
 #[derive(Clone, Copy)]
@@ -13,18 +16,19 @@ pub struct Slot {
     pub live: bool,
 }
 
-/// The number of the slot that begins at an offset; some number where none does.
-pub fn slot_at(slots: &[Slot], offset: u32) -> usize
-    requires { AreLined 0 slots.now }
-    ensures { (k : ℕ) (s : Slot) → slice_get slots.now k ≡ Some s → s.offset ≡ offset → result ≡ k }
+// The number among these slots of the one that begins at an offset; some number where none does.
+fn slot_among(entries: &[Entry], offset: u32) -> usize
+    requires { AreRising (slots_of entries.now) }
+    ensures within { result ≤ length entries.now }
+    ensures found { (k : ℕ) (s : Slot) → slice_get (slots_of entries.now) k ≡ Some s → s.offset ≡ offset → result ≡ k }
 {
     let mut low = 0;
-    let mut size = slots.len();
+    let mut size = entries.len();
     while size > 1 {
         let half = size / 2;
         let middle = low + half;
         // One choice, so that a compiler can do without a branch.
-        low = if slots[middle].offset <= offset {
+        low = if entries[middle].slot.offset <= offset {
             middle
         } else {
             low
@@ -34,14 +38,34 @@ pub fn slot_at(slots: &[Slot], offset: u32) -> usize
     low
 }
 
-/// Where the last of the slots ends.
-pub fn end_of(slots: &[Slot]) -> usize
-    requires lined { AreLined 0 slots.now }
-    requires fits { slots_end 0 slots.now < 2 ^ 32 }
-    ensures { result ≡ slots_end 0 slots.now }
+/// The number of the slot that begins at an offset; some number where none does.
+pub fn slot_at(table: &ChunkedVec<Entry>, offset: u32) -> usize
+    requires { AreLined 0 (slots_of table.now) }
+    ensures { (k : ℕ) (s : Slot) → slice_get (slots_of table.now) k ≡ Some s → s.offset ≡ offset → result ≡ k }
 {
-    match slots.last() {
-        Some(slot) => slot.offset as usize + slot.len as usize,
-        None => 0,
+    let Some(last) = table.len().checked_sub(1) else {
+        return 0;
+    };
+    // The last chunk is the longest, so it is looked at first.
+    let mut number = chunk_of(last);
+    while number > 0 {
+        if table.chunk(number)[0].slot.offset <= offset {
+            break;
+        }
+        number -= 1;
     }
+    start_of(number) + slot_among(table.chunk(number), offset)
+}
+
+/// Where the last of the slots ends.
+pub fn end_of(table: &ChunkedVec<Entry>) -> usize
+    requires lined { AreLined 0 (slots_of table.now) }
+    requires fits { slots_end 0 (slots_of table.now) < 2 ^ 32 }
+    ensures { result ≡ slots_end 0 (slots_of table.now) }
+{
+    let Some(last) = table.len().checked_sub(1) else {
+        return 0;
+    };
+    let slot = table.get(last).slot;
+    slot.offset as usize + slot.len as usize
 }

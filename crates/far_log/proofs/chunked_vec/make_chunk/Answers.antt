@@ -1,5 +1,5 @@
 use Rattle.std.proofs.Common.{◌≡◌, length, ap, ◌∙◌, arith}
-use Rattle.far_log.specs.Chunking.{joined, AreChunks, room_at, start_at}
+use Rattle.far_log.specs.Chunking.{room_at, start_at}
 use Rattle.far_log.proofs.Chunks.{add-chunk, joined-add}
 use Rattle.far_log.proofs.chunked_vec.make_chunk.Goals as goal
 

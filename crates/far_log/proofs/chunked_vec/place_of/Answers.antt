@@ -1,4 +1,4 @@
-use Rattle.std.proofs.Common.{◌≡◌, ◌+◌, ◌-◌, ◌^◌, refl, arith}
+use Rattle.std.proofs.Common.{◌+◌, ◌-◌, refl, arith}
 use Rattle.far_log.proofs.Chunks.{top-above, top-below, place-at, start-room}
 use Rattle.far_log.proofs.chunked_vec.place_of.Goals as goal
 

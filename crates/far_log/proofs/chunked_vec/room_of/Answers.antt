@@ -1,5 +1,4 @@
-use Rattle.std.proofs.Common.{◌≡◌, ◌+◌, ◌^◌, ◌*◌, ◌≤◌, arith, pow_mono, pow-add}
-use Rattle.far_log.specs.Chunking.{room_at}
+use Rattle.std.proofs.Common.{◌^◌, ◌≤◌, arith, pow_mono, pow-add}
 use Rattle.far_log.proofs.Chunks.{room-64, start-room}
 use Rattle.far_log.proofs.chunked_vec.room_of.Goals as goal
 

@@ -1,13 +1,16 @@
 use Rattle.std.proofs.Common.{◌≡◌, ℕ, ◌+◌, ◌<◌, ◌≤◌, length, Some}
 use Rattle.std.specs.Prelude.{slice_get}
 use Rattle.far_log.specs.declared.slots.Slot.{Slot}
+use Rattle.far_log.specs.Chunking.{room_at, start_at}
+use Rattle.far_log.specs.Storage.{slots_of}
 use Rattle.far_log.proofs.slots.slot_at.Given as goal
 
-abbrev pub invariant-loop-size : goal.invariant-loop-size
-invariant-loop-size l = record {
-  within : l.low + l.size ≤ length l.slots;
-  between : (k : ℕ) (s : Slot) → slice_get l.slots k ≡ Some s → s.offset ≡ l.offset → (l.low ≤ k) × (k < l.low + l.size);
+abbrev pub invariant-loop-number : goal.invariant-loop-number
+invariant-loop-number l = record {
+  few : l.number ≤ 26;
+  there : start_at 64 l.number < length l.table;
+  before : (k : ℕ) (s : Slot) → slice_get (slots_of l.table) k ≡ Some s → s.offset ≡ l.offset → k < start_at 64 l.number + room_at 64 l.number;
 }
 
-abbrev pub decreases-loop-size : goal.decreases-loop-size
-decreases-loop-size l = l.size
+abbrev pub decreases-loop-number : goal.decreases-loop-number
+decreases-loop-number l = l.number

@@ -1,5 +1,4 @@
-use Rattle.std.proofs.Common.{◌≡◌, Some, sym, ap, ◌∙◌, arith}
-use Rattle.std.specs.Prelude.{slice_get}
+use Rattle.std.proofs.Common.{◌∙◌, arith}
 use Rattle.std.proofs.lemmas.Option.{slice_get_read}
 use Rattle.far_log.proofs.ChunkedVecs.{index-within, reached, chunk-is, holds, shown-read}
 use Rattle.far_log.proofs.chunked_vec.ChunkedVec.get.Goals as goal

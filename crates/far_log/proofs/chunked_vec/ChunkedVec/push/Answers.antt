@@ -1,4 +1,4 @@
-use Rattle.std.proofs.Common.{◌≡◌, ◌≤◌, ◌+◌, ◌++◌, ◌∷◌, [], length, take, refl, ap, ◌∙◌, arith}
+use Rattle.std.proofs.Common.{◌≡◌, ◌≤◌, ◌++◌, ◌∷◌, [], length, take, refl, ap, ◌∙◌, arith}
 use Rattle.far_log.specs.Chunking.{joined, start_at}
 use Rattle.far_log.proofs.Chunks.{next-chunk, all-full}
 use Rattle.far_log.proofs.ChunkedVecs.{chunk-is, has-room, kept-reused, shown-reused, kept-pushed, shown-pushed, length-shown}
