@@ -181,3 +181,6 @@ impl<T: Copy + Drop> ChunkedVec<T> {
         self.len = self.len.min(len);
     }
 }
+
+#[cfg(test)]
+mod tests;
