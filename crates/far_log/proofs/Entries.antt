@@ -72,6 +72,9 @@ module _ (es : List Entry) (from room : ℕ) where
       let here : slice_get (drop from (slots_of es)) i ≡ Some s = taken room (drop from (slots_of es)) i s (subst (λ ss. slice_get ss i ≡ Some s) (sym (take-map (λ (u : Entry). u.slot) room (drop from es)) ∙ ap (take room) (sym (drop-map (λ (u : Entry). u.slot) from es))) h) in
       sym (get-drop from (slots_of es) i) ∙ here
 
+  pub among : (part : List Entry) (i : ℕ) (d : Entry) → part ≡ chunk → i < length part → slice_get (slots_of es) (from + i) ≡ Some (get_or part i d).slot
+  among part i d is lt = in-table i (get_or part i d).slot (subst (λ p. slice_get (slots_of p) i ≡ Some (get_or part i d).slot) is (slot-is part i (get_or part i d) (slice_get-get_or part i d lt)))
+
   pub in-part : (k : ℕ) (s : Slot) → slice_get (slots_of es) k ≡ Some s → from ≤ k → k < from + room → slice_get (slots_of chunk) (k - from) ≡ Some s
   in-part k s h le lt =
       let back : from + (k - from) ≡ k = omega (arith, le) in

@@ -23,6 +23,7 @@ fn room_of(chunk: usize) -> usize
     requires { chunk ≤ 26 }
     ensures room { result ≡ room_at 64 chunk }
     ensures start { result ≡ start_at 64 chunk + 64 }
+    ensures small { result ≤ 2 ^ 32 }
 {
     FIRST << chunk
 }
@@ -49,13 +50,19 @@ pub fn chunk_of(index: usize) -> usize
     ensures to { index < start_at 64 result + room_at 64 result }
     ensures few { result ≤ 26 }
 {
-    place_of(index).chunk
+    // A short list has one chunk, and this choice spares it the logarithm.
+    if index < FIRST {
+        0
+    } else {
+        place_of(index).chunk
+    }
 }
 
 /// The index of the first element of a chunk.
 pub fn start_of(chunk: usize) -> usize
     requires { chunk ≤ 26 }
-    ensures { result ≡ start_at 64 chunk }
+    ensures start { result ≡ start_at 64 chunk }
+    ensures small { result < 2 ^ 32 }
 {
     room_of(chunk) - FIRST
 }
@@ -173,8 +180,8 @@ impl<T: Copy + Drop> ChunkedVec<T> {
         Ok(())
     }
 
-    /// Cuts the list to its first `len` values; a shorter one is left as it is. Costs the same whatever it cuts off, and gives no
-    /// memory back.
+    /// Cuts the list to its first `len` values; a shorter one is left as it is. Costs the same whatever it cuts off,
+    /// and gives no memory back.
     pub fn truncate(&mut self, len: usize)
         ensures { self.new ≡ take len self.old }
     {

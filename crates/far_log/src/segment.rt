@@ -7,7 +7,7 @@ ghost use Rattle.far_log.specs.Changes.{with_part, without_part, gathered, IsOrd
 use super::chunked_vec::ChunkedVec;
 use super::entry::Entry;
 use super::links::{push_linked, unlink};
-use super::slots::{Slot, end_of, slot_at};
+use super::slots::{Slot, end_of, number_at, slot_at};
 use far_types::Refusal;
 use std::alloc::Global;
 use std::marker::Model;
@@ -83,12 +83,10 @@ impl<T: Copy + Drop> Segment<T> {
     pub fn holds(&self, offset: u32) -> bool
         ensures { IsTrue result ↔ IsSome (list_at self.now.parts offset) }
     {
-        let number = slot_at(&self.table, offset);
-        if number >= self.table.len() {
-            return false;
+        match slot_at(&self.table, offset) {
+            Some(slot) => slot.live && slot.offset == offset,
+            None => false,
         }
-        let slot = self.table.get(number).slot;
-        slot.live && slot.offset == offset
     }
 
     /// The part that begins at an offset.
@@ -96,7 +94,9 @@ impl<T: Copy + Drop> Segment<T> {
         requires { IsSome (list_at self.now.parts offset) }
         ensures { list_at self.now.parts offset ≡ Some result.now }
     {
-        let slot = self.table.get(slot_at(&self.table, offset)).slot;
+        let Some(slot) = slot_at(&self.table, offset) else {
+            unreachable!();
+        };
         let from = slot.offset as usize;
         &self.items[from..from + slot.len as usize]
     }
@@ -130,7 +130,7 @@ impl<T: Copy + Drop> Segment<T> {
         requires { IsSome (list_at self.old.parts offset) }
         ensures { self.new ≡ without_part self.old offset }
     {
-        let number = slot_at(&self.table, offset);
+        let number = number_at(&self.table, offset);
         let left = unlink(&mut self.table, number);
         let mut entry = self.table.get(number);
         entry.slot.live = false;

@@ -11,3 +11,8 @@ pub returns-clause-start : goal.returns-clause-start
 returns-clause-start c =
     let small : 2 ^ c.args.chunk ≤ 67108864 = pow_mono c.requires in
     omega (arith, small, room-64 c.args.chunk, pow-add 2 6 c.args.chunk, start-room 64 c.args.chunk)
+
+pub returns-clause-small : goal.returns-clause-small
+returns-clause-small c =
+    let small : 2 ^ c.args.chunk ≤ 67108864 = pow_mono c.requires in
+    omega (arith, small)

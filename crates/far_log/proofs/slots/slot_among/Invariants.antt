@@ -6,6 +6,7 @@ use Rattle.far_log.proofs.slots.slot_among.Given as goal
 
 abbrev pub invariant-loop-size : goal.invariant-loop-size
 invariant-loop-size l = record {
+  some : 0 < l.size;
   within : l.low + l.size ≤ length l.entries;
   between : (k : ℕ) (s : Slot) → slice_get (slots_of l.entries) k ≡ Some s → s.offset ≡ l.offset → (l.low ≤ k) × (k < l.low + l.size);
 }

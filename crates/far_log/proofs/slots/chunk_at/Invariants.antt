@@ -3,7 +3,7 @@ use Rattle.std.specs.Prelude.{slice_get}
 use Rattle.far_log.specs.declared.slots.Slot.{Slot}
 use Rattle.far_log.specs.Chunking.{room_at, start_at}
 use Rattle.far_log.specs.Storage.{slots_of}
-use Rattle.far_log.proofs.slots.slot_at.Given as goal
+use Rattle.far_log.proofs.slots.chunk_at.Given as goal
 
 abbrev pub invariant-loop-number : goal.invariant-loop-number
 invariant-loop-number l = record {
