@@ -1,3 +1,6 @@
+pub mod Chunks
+pub mod ChunkedVecs
+pub mod Entries
 pub mod StoredParts
 pub mod SlotOf
 pub mod Linked

@@ -1,32 +1,10 @@
 -- How the links of a table's live slots change.
-use Rattle.std.proofs.Common.{◌≡◌, ℕ, zero, suc, ◌+◌, ◌-◌, ◌<◌, ◌≤◌, ◌⊎◌, inl, inr, Bool, true, false, List, [], ◌∷◌, ◌++◌, length, get_or, take, Option, None, Some, cond, refl, sym, subst, ap, ◌∙◌, arith, length-take, length-set}
+use Rattle.std.proofs.Common.{◌≡◌, ℕ, zero, suc, ◌+◌, ◌-◌, ◌<◌, ◌≤◌, ◌⊎◌, inl, inr, Bool, true, false, List, [], ◌∷◌, ◌++◌, length, take, Option, None, Some, cond, refl, sym, subst, ap, ◌∙◌, arith, length-take}
 use Rattle.std.specs.Prelude.{filter, if◌then◌else◌, slice_get, slice_set, IsSomeAnd}
-use Rattle.std.proofs.lemmas.Option.{slice_get_within, slice_get-get_or}
+use Rattle.std.proofs.lemmas.Option.{slice_get_within}
 use Rattle.far_log.specs.declared.slots.Slot.{Slot}
 use Rattle.far_log.specs.declared.links.Link.{Link}
-use Rattle.far_log.specs.Storage.{AreLinked, EndsLive, emptied_at}
-
--- links in which one names another slot behind it
-abbrev pub with_behind : List Link → ℕ → ℕ → List Link
-with_behind [] i behind = []
-with_behind (l ∷ ls) zero behind = record l { behind = behind } ∷ ls
-with_behind (l ∷ ls) (suc i) behind = l ∷ with_behind ls i behind
-
--- links in which one names another slot before it
-abbrev pub with_before : List Link → ℕ → ℕ → List Link
-with_before [] i before = []
-with_before (l ∷ ls) zero before = record l { before = before } ∷ ls
-with_before (l ∷ ls) (suc i) before = l ∷ with_before ls i before
-
-pub with-behind-is : (ls : List Link) (i behind : ℕ) (l : Link) → slice_get ls i ≡ Some l → slice_set ls i (record l { behind = behind }) ≡ with_behind ls i behind
-with-behind-is [] i behind l e = refl
-with-behind-is (m ∷ ls) zero behind l e = let same : m ≡ l = cc in rw same refl
-with-behind-is (m ∷ ls) (suc i) behind l e = ap (λ ks. m ∷ ks) (with-behind-is ls i behind l e)
-
-pub with-before-is : (ls : List Link) (i before : ℕ) (l : Link) → slice_get ls i ≡ Some l → slice_set ls i (record l { before = before }) ≡ with_before ls i before
-with-before-is [] i before l e = refl
-with-before-is (m ∷ ls) zero before l e = let same : m ≡ l = cc in rw same refl
-with-before-is (m ∷ ls) (suc i) before l e = ap (λ ks. m ∷ ks) (with-before-is ls i before l e)
+use Rattle.far_log.specs.Storage.{AreLinked, EndsLive, emptied_at, with_behind, with_before}
 
 pub emptied-is : (ss : List Slot) (i : ℕ) (s : Slot) → slice_get ss i ≡ Some s → slice_set ss i (record s { live = false }) ≡ emptied_at ss i
 emptied-is [] i s e = refl
@@ -183,6 +161,12 @@ left-of i b n (suc k) (t ∷ ss) (m ∷ ls) s l h here live there long =
         let some : 0 < length (take (l.before - suc i) (emptied_at ss k)) = omega (arith, r.0, r.1, length-take (l.before - suc i) (emptied_at ss k), length-emptied ss k, long) in
         inr (omega (arith, r.0), omega (arith, r.1), rw more (ap (λ ts. cond t.live (t ∷ ts) ts) r.2), rw more (ends-cons t _ some r.3))
 
+-- a link of the front
+behind-append : (ls ms : List Link) (i n : ℕ) → i < length ls → with_behind (ls ++ ms) i n ≡ with_behind ls i n ++ ms
+behind-append [] ms i n lt = absurd (omega arith)
+behind-append (l ∷ ls) ms zero n lt = refl
+behind-append (l ∷ ls) ms (suc i) n lt = ap (λ ks. l ∷ ks) (behind-append ls ms i n (omega arith))
+
 -- a slot comes behind the last
 linked-behind : (i b n k : ℕ) (s t : Slot) (ss : List Slot) (l : Link) (ls : List Link) → AreLinked i b n (s ∷ ss) (l ∷ ls) → EndsLive (s ∷ ss) → length ls ≡ k
     → AreLinked i b n ((s ∷ ss) ++ t ∷ []) (with_behind (l ∷ ls) k (i + suc k) ++ record { before = i + suc k; behind = 0 } ∷ [])
@@ -210,13 +194,10 @@ ends-emptied k (s ∷ []) more h = absurd (omega arith)
 ends-emptied zero (s ∷ (t ∷ ss)) more h = h
 ends-emptied (suc k) (s ∷ (t ∷ ss)) more h = ends-cons s (emptied_at (t ∷ ss) k) (omega (arith, length-emptied (t ∷ ss) k)) (ends-emptied k (t ∷ ss) (omega arith) h)
 
-length-behind : (ls : List Link) (i n : ℕ) → length (with_behind ls i n) ≡ length ls
+pub length-behind : (ls : List Link) (i n : ℕ) → length (with_behind ls i n) ≡ length ls
 length-behind [] i n = refl
 length-behind (l ∷ ls) zero n = refl
 length-behind (l ∷ ls) (suc i) n = ap suc (length-behind ls i n)
-
-pub length-of-set : (ls now : List Link) (i : ℕ) (l : Link) → now ≡ slice_set ls i l → length now ≡ length ls
-length-of-set ls now i l e = ap length e ∙ length-set ls i l
 
 -- the live slot before one stands in front of it
 pub before-le : (i b n k : ℕ) (ss : List Slot) (ls : List Link) (s : Slot) (l : Link) → AreLinked i b n ss ls → b ≤ i
@@ -253,30 +234,24 @@ live-slot ss k h = of-option (slice_get ss k) refl h
     of-option None e h = absurd h
     of-option (Some s) e h = (s, (e, h))
 
-module _ (ss : List Slot) (ls : List Link) (k : ℕ) (d : Link) (linked : AreLinked 0 0 0 ss ls) (there : IsSomeAnd (slice_get ss k) (λ s. s.live ≡ true)) where
-  abbrev link : Link
-  link = get_or ls k d
-
+module _ (ss : List Slot) (ls : List Link) (k : ℕ) (link : Link) (linked : AreLinked 0 0 0 ss ls) (there : IsSomeAnd (slice_get ss k) (λ s. s.live ≡ true)) (named : slice_get ls k ≡ Some link) where
   pub within-slots : k < length ss
   within-slots = let s = live-slot ss k there in slice_get_within ss k s.0 s.1.0
 
-  pub within-links : k < length ls
-  within-links = omega (arith, within-slots, as-many 0 0 0 ss ls linked)
-
   pub before-within : link.before ≤ k
-  before-within = let s = live-slot ss k there in let le = before-le 0 0 0 k ss ls s.0 link linked (omega arith) s.1.0 s.1.1 (slice_get-get_or ls k d within-links) in omega (arith, le)
+  before-within = let s = live-slot ss k there in let le = before-le 0 0 0 k ss ls s.0 link linked (omega arith) s.1.0 s.1.1 named in omega (arith, le)
 
   pub behind-within : EndsLive ss → suc k < length ss → (k < link.behind) × (link.behind < length ls)
   behind-within ends more =
       let s = live-slot ss k there in
-      let later = behind-later 0 0 0 k ss ls s.0 link linked ends s.1.0 s.1.1 (slice_get-get_or ls k d within-links) more in
+      let later = behind-later 0 0 0 k ss ls s.0 link linked ends s.1.0 s.1.1 named more in
       (omega (arith, later.0), omega (arith, later.1, as-many 0 0 0 ss ls linked))
 
   pub last-left : length ss ≡ suc k → (filter (λ s. s.live) (take link.before (emptied_at ss k)) ≡ filter (λ s. s.live) (emptied_at ss k)) × EndsLive (take link.before (emptied_at ss k))
   last-left long =
       let s = live-slot ss k there in
       let whole : link.before - 0 ≡ link.before = omega arith in
-      elim (left-of 0 0 0 k ss ls s.0 link linked s.1.0 s.1.1 (slice_get-get_or ls k d within-links) long) [
+      elim (left-of 0 0 0 k ss ls s.0 link linked s.1.0 s.1.1 named long) [
         | inl r ↦ (ap (λ n. filter (λ u. u.live) (take n (emptied_at ss k))) r.0 ∙ sym r.1, subst (λ n. EndsLive (take n (emptied_at ss k))) (sym r.0) tt)
         | inr r ↦ (rw whole at r.2, rw whole at r.3)
       ]
@@ -285,59 +260,30 @@ module _ (ss : List Slot) (ls : List Link) (k : ℕ) (d : Link) (linked : AreLin
   last-linked = rw (take-emptied link.before k ss before-within) (linked-take link.before 0 0 0 ss ls linked)
 
   -- what the links are once both neighbours name one another
-  pub rest-linked : (now : List Link) → EndsLive ss → suc k < length ss
-      → (0 < link.before → now ≡ slice_set ls (link.before - 1) (record (get_or ls (link.before - 1) d) { behind = link.behind })) → (link.before ≡ 0 → now ≡ ls)
-      → AreLinked 0 0 0 (emptied_at ss k) (slice_set now link.behind (record (get_or now link.behind d) { before = link.before }))
+  pub rest-linked : (now : List Link) → EndsLive ss → suc k < length ss → (0 < link.before → now ≡ with_behind ls (link.before - 1) link.behind) → (link.before ≡ 0 → now ≡ ls)
+      → AreLinked 0 0 0 (emptied_at ss k) (with_before now link.behind link.before)
   rest-linked now ends more some none =
       let s = live-slot ss k there in
       let far = behind-within ends more in
       let whole : link.behind - 0 ≡ link.behind = omega arith in
-      elim (unlinked 0 0 0 k ss ls s.0 link linked ends s.1.0 s.1.1 (slice_get-get_or ls k d within-links) more (omega (arith, far.0))) [
-        | inl r ↦
-            let same : now ≡ ls = none r.0 in
-            rw (same, with-before-is ls link.behind link.before (get_or ls link.behind d) (slice_get-get_or ls link.behind d far.1))
-            (named-by-none 0 link.behind 0 (emptied_at ss k) _ (rw whole at r.1))
-        | inr r ↦
-            let named : now ≡ with_behind ls (link.before - 1) link.behind = some r.0 ∙ with-behind-is ls (link.before - 1) link.behind (get_or ls (link.before - 1) d) (slice_get-get_or ls (link.before - 1) d (omega (arith, before-within, within-links))) in
-            rw (with-before-is now link.behind link.before (get_or now link.behind d) (slice_get-get_or now link.behind d (omega (arith, ap length named, length-behind ls (link.before - 1) link.behind, far.1))), named)
-            (rw whole at r.1)
+      elim (unlinked 0 0 0 k ss ls s.0 link linked ends s.1.0 s.1.1 named more (omega (arith, far.0))) [
+        | inl r ↦ rw (none r.0) (named-by-none 0 link.behind 0 (emptied_at ss k) _ (rw whole at r.1))
+        | inr r ↦ rw (some r.0) (rw whole at r.1)
       ]
 
 -- a live slot comes behind the last, which names it
-last-named : (ss : List Slot) (t : Slot) (ls now : List Link) (d : Link) → AreLinked 0 0 0 ss ls → EndsLive ss → 0 < length ls → now ≡ slice_set ls (length ls - 1) (record (get_or ls (length ls - 1) d) { behind = length ls })
-    → AreLinked 0 0 0 (ss ++ t ∷ []) (now ++ record { before = length ls; behind = 0 } ∷ [])
-last-named [] t [] now d h ends some is = absurd (omega arith)
-last-named [] t (l ∷ ls) now d h ends some is = absurd h
-last-named (s ∷ ss) t [] now d h ends some is = absurd h
-last-named (s ∷ ss) t (l ∷ ls) now d h ends some is =
+pub last-named : (ss : List Slot) (t : Slot) (ls : List Link) → AreLinked 0 0 0 ss ls → EndsLive ss → 0 < length ls
+    → AreLinked 0 0 0 (ss ++ t ∷ []) (with_behind (ls ++ record { before = length ls; behind = 0 } ∷ []) (length ls - 1) (length ls))
+last-named [] t [] h ends some = absurd (omega arith)
+last-named [] t (l ∷ ls) h ends some = absurd h
+last-named (s ∷ ss) t [] h ends some = absurd h
+last-named (s ∷ ss) t (l ∷ ls) h ends some =
     let place : length (l ∷ ls) - 1 ≡ length ls = omega arith in
     let one : 0 + suc (length ls) ≡ suc (length ls) = omega arith in
-    let named : now ≡ with_behind (l ∷ ls) (length ls) (suc (length ls)) = (is ∙ rw place (with-behind-is (l ∷ ls) (length ls) (length (l ∷ ls)) (get_or (l ∷ ls) (length ls) d) (slice_get-get_or (l ∷ ls) (length ls) d (omega arith)))) in
-    rw named (rw one at (linked-behind 0 0 0 (length ls) s t ss l ls h ends refl))
+    rw place (rw (behind-append (l ∷ ls) (record { before = length (l ∷ ls); behind = 0 } ∷ []) (length ls) (length (l ∷ ls)) (omega arith)) (rw one at (linked-behind 0 0 0 (length ls) s t ss l ls h ends refl)))
 
-pub none-linked : (ls : List Link) → (0 < length ls → false ≡ true) → ls ≡ []
-none-linked [] h = refl
-none-linked (l ∷ ls) h = let no = h (omega arith) in absurd (cc)
-
-pub last-named-at : (ss : List Slot) (t : Slot) (ls now : List Link) (d l : Link) (n : ℕ) → AreLinked 0 0 0 ss ls → EndsLive ss → 0 < n → n ≡ length ls → l ≡ get_or ls (n - 1) d → now ≡ slice_set ls (n - 1) (record l { behind = n })
-    → AreLinked 0 0 0 (ss ++ t ∷ []) (now ++ record { before = n; behind = 0 } ∷ [])
-last-named-at ss t ls now d l n h ends some long read is =
-    rw long (last-named ss t ls now d h ends (omega (arith, some, long)) (is ∙ rw (read, long) refl))
-
-pub first-linked : (ss : List Slot) (t : Slot) (ls : List Link) → AreLinked 0 0 0 ss ls → ls ≡ [] → AreLinked 0 0 0 (ss ++ t ∷ []) (ls ++ record { before = 0; behind = 0 } ∷ [])
+pub first-linked : (ss : List Slot) (t : Slot) (ls : List Link) → AreLinked 0 0 0 ss ls → length ls ≡ 0 → AreLinked 0 0 0 (ss ++ t ∷ []) (ls ++ record { before = length ls; behind = 0 } ∷ [])
 first-linked [] t [] h none = ((λ _. (refl, λ no. absurd (omega arith))), tt)
 first-linked [] t (l ∷ ls) h none = absurd h
 first-linked (s ∷ ss) t [] h none = absurd h
-first-linked (s ∷ ss) t (l ∷ ls) h none = absurd (cc)
-
--- what is left of links that were lent
-pub take-lent : (m n : ℕ) (ls ms : List Link) → m ≤ n → m ≤ length ls → take m (take n (ls ++ ms)) ≡ take m ls
-take-lent zero n ls ms le within = refl
-take-lent (suc m) zero ls ms le within = absurd (omega arith)
-take-lent (suc m) (suc n) [] ms le within = absurd (omega arith)
-take-lent (suc m) (suc n) (l ∷ ls) ms le within = ap (λ ks. l ∷ ks) (take-lent m n ls ms (omega arith) (omega arith))
-
--- links of the front of a table, of which as many slots are there
-pub linked-lent : (m n : ℕ) (ss : List Slot) (ls ms : List Link) → AreLinked 0 0 0 (take m ss) (take m ls) → m ≤ length ss → m ≤ n → AreLinked 0 0 0 (take m ss) (take m (take n (ls ++ ms)))
-linked-lent m n ss ls ms h within le =
-    rw (take-lent m n ls ms le (omega (arith, as-many 0 0 0 (take m ss) (take m ls) h, length-take m ss, length-take m ls, within))) h
+first-linked (s ∷ ss) t (l ∷ ls) h none = absurd (omega arith)

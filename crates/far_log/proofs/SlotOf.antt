@@ -1,8 +1,8 @@
 -- The slot in which the part lies that begins at an offset.
-use Rattle.std.proofs.Common.{◌≡◌, ℕ, zero, suc, ◌+◌, ◌<◌, ◌≤◌, Bool, true, false, List, [], ◌∷◌, length, get_or, take, drop, map, Some, IsSome, cond, eqb, refl, ap, ◌∙◌, arith}
+use Rattle.std.proofs.Common.{◌≡◌, ℕ, zero, suc, ◌+◌, ◌<◌, ◌≤◌, Bool, true, false, List, [], ◌∷◌, length, take, drop, map, Option, None, Some, IsSome, cond, eqb, refl, ap, ◌∙◌, arith}
 use Rattle.std.specs.Prelude.{filter, slice_get, IsSomeAnd}
 use Rattle.std.proofs.lemmas.Bool.{eqb-true, eq-eqb}
-use Rattle.std.proofs.lemmas.Option.{slice_get_within, get_or_from_slice_get}
+use Rattle.std.proofs.lemmas.Option.{slice_get_within}
 use Rattle.far_log.specs.declared.slots.Slot.{Slot}
 use Rattle.far_log.specs.Room.{list_at}
 use Rattle.far_log.specs.Storage.{AreLined, slots_end, part_in, parts_in}
@@ -37,11 +37,11 @@ module _ {X : Type 0} (items : List X) where
 
   -- the only slot that begins there
   pub slot-of : (ss : List Slot) (offset i : ℕ) (s : Slot) → IsSome (list_at (parts_in items ss) offset)
-      → ((k : ℕ) (t : Slot) → slice_get ss k ≡ Some t → t.offset ≡ offset → i ≡ k) → s ≡ get_or ss i s → IsSlotOf items ss offset i s
+      → ((k : ℕ) (t : Slot) → slice_get ss k ≡ Some t → t.offset ≡ offset → i ≡ k) → slice_get ss i ≡ Some s → IsSlotOf items ss offset i s
   slot-of ss offset i s h only e =
       let found = some-slot ss offset h in
       let at : i ≡ found.0 = only found.0 found.1.0 found.1.1.here found.1.1.begins in
-      let is : s ≡ found.1.0 = e ∙ ap (λ k. get_or ss k s) at ∙ get_or_from_slice_get ss found.0 found.1.0 s found.1.1.here in
+      let is : s ≡ found.1.0 = cc in
       rw (at, is) found.1.1
 
   pub slot-in-table : (ss : List Slot) (offset i : ℕ) → IsSome (list_at (parts_in items ss) offset)
@@ -55,6 +55,22 @@ module _ {X : Type 0} (items : List X) where
   slot-is-live ss offset i h only =
       let found = some-slot ss offset h in
       rw (only found.0 found.1.0 found.1.1.here found.1.1.begins, found.1.1.here) found.1.1.live
+
+  -- what is found at the offset of a part
+  pub slot-found : (ss : List Slot) (offset : ℕ) (r : Option Slot) (s : Slot) → r ≡ Some s → IsSome (list_at (parts_in items ss) offset)
+      → ((k : ℕ) (t : Slot) → slice_get ss k ≡ Some t → t.offset ≡ offset → r ≡ Some t) → (i : ℕ) × IsSlotOf items ss offset i s
+  slot-found ss offset r s is h found =
+      let some = some-slot ss offset h in
+      let here : r ≡ Some some.1.0 = found some.0 some.1.0 some.1.1.here some.1.1.begins in
+      let same : s ≡ some.1.0 = cc in
+      (some.0, rw same some.1.1)
+
+  pub none-found : (ss : List Slot) (offset : ℕ) (r : Option Slot) → r ≡ None → IsSome (list_at (parts_in items ss) offset)
+      → ((k : ℕ) (t : Slot) → slice_get ss k ≡ Some t → t.offset ≡ offset → r ≡ Some t) → ⊥
+  none-found ss offset r is h found =
+      let some = some-slot ss offset h in
+      let here : r ≡ Some some.1.0 = found some.0 some.1.0 some.1.1.here some.1.1.begins in
+      cc
 
   -- a slot with a part shows it
   live-step : (s : Slot) (ss : List Slot) (offset : ℕ) (live here : Bool) → s.live ≡ live → eqb s.offset offset ≡ here → IsSome (list_at (parts_in items ss) offset) → IsSome (list_at (parts_in items (s ∷ ss)) offset)

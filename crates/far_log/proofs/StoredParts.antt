@@ -1,12 +1,11 @@
 -- What the table of a segment shows: where its parts end, and that they do not overlap.
-use Rattle.std.proofs.Common.{◌≡◌, ℕ, zero, suc, ◌+◌, ◌<◌, ◌≤◌, Bool, true, false, List, [], ◌∷◌, length, get_or, take, drop, map, Some, cond, refl, ap, ◌∙◌, arith, length-take, length-drop}
+use Rattle.std.proofs.Common.{◌≡◌, ℕ, zero, suc, ◌+◌, ◌<◌, ◌≤◌, Bool, true, false, List, [], ◌∷◌, length, get_or, take, drop, map, Some, cond, refl, subst, ap, ◌∙◌, arith, length-take, length-drop}
 use Rattle.std.specs.Prelude.{filter, slice_get}
 use Rattle.std.proofs.Common.{inl, inr}
 use Rattle.std.proofs.lemmas.Bool.{cases_lt}
-use Rattle.std.proofs.lemmas.Option.{slice_get-get_or, get_or_from_slice_get}
 use Rattle.far_log.specs.declared.slots.Slot.{Slot}
 use Rattle.far_log.specs.Room.{end_of, fill_from, AreLaid}
-use Rattle.far_log.specs.Storage.{AreLined, slots_end, EndsLive, part_in, parts_in, IsStored}
+use Rattle.far_log.specs.Storage.{AreLined, slots_end, AreRising, EndsLive, part_in, parts_in, IsStored}
 
 -- slots end no earlier than they begin
 pub begin-le-end : (from : ℕ) (ss : List Slot) → AreLined from ss → from ≤ slots_end from ss
@@ -85,22 +84,26 @@ begins-later from (u ∷ ss) zero (suc k) s t h e f lt =
 begins-later from (u ∷ ss) (suc j) zero s t h e f lt = absurd (omega arith)
 begins-later from (u ∷ ss) (suc j) (suc k) s t h e f lt = begins-later (from + u.len) ss j k s t h.2 e f (omega arith)
 
+pub lined-rising : (from : ℕ) (ss : List Slot) → AreLined from ss → AreRising ss
+lined-rising from ss h = λ j k s t e f lt. begins-later from ss j k s t h e f lt
+
 -- where a slot begins tells on which side of another it stands
-pub at-or-behind : (ss : List Slot) (m k o : ℕ) (s d : Slot) → AreLined 0 ss → m < length ss → (get_or ss m d).offset ≤ o → slice_get ss k ≡ Some s → s.offset ≡ o → m ≤ k
-at-or-behind ss m k o s d h lt le e f = elim (cases_lt k m) [
-  | inl under ↦ absurd (omega (arith, begins-later 0 ss k m s (get_or ss m d) h e (slice_get-get_or ss m d lt) under))
+pub at-or-behind : (ss : List Slot) (m k o : ℕ) (s t : Slot) → AreRising ss → slice_get ss m ≡ Some t → t.offset ≤ o → slice_get ss k ≡ Some s → s.offset ≡ o → m ≤ k
+at-or-behind ss m k o s t h e le f at = elim (cases_lt k m) [
+  | inl under ↦ absurd (omega (arith, h k m s t f e under, at))
   | inr over ↦ over
 ]
 
-pub before : (ss : List Slot) (m k o : ℕ) (s d : Slot) → AreLined 0 ss → m < length ss → o < (get_or ss m d).offset → slice_get ss k ≡ Some s → s.offset ≡ o → k < m
-before ss m k o s d h lt le e f = elim (cases_lt k m) [
+pub before : (ss : List Slot) (m k o : ℕ) (s t : Slot) → AreRising ss → slice_get ss m ≡ Some t → o < t.offset → slice_get ss k ≡ Some s → s.offset ≡ o → k < m
+before ss m k o s t h e lt f at = elim (cases_lt k m) [
   | inl under ↦ under
   | inr over ↦ elim (cases_lt m k) [
-    | inl above ↦ absurd (omega (arith, begins-later 0 ss m k (get_or ss m d) s h (slice_get-get_or ss m d lt) e above))
+    | inl above ↦ absurd (omega (arith, h m k t s e f above, at))
     | inr level ↦
         let same : m ≡ k = omega arith in
-        let is : get_or ss k d ≡ s = get_or_from_slice_get ss k s d e in
-        absurd (omega (arith, ap (λ n. (get_or ss n d).offset) same, ap (λ (u : Slot). u.offset) is))
+        let found : slice_get ss k ≡ Some t = subst (λ n. slice_get ss n ≡ Some t) same e in
+        let is : t ≡ s = cc in
+        absurd (omega (arith, ap (λ (u : Slot). u.offset) is, at))
   ]
 ]
 

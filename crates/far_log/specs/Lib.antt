@@ -3,3 +3,4 @@ pub mod Changes
 pub mod Storage
 pub mod Lending
 pub mod Fitting
+pub mod Chunking

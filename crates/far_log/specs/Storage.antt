@@ -1,13 +1,26 @@
 -- How a segment keeps its parts: its elements in one block, and a table of slots.
-use Rattle.std.specs.Prelude.{◌≡◌, ℕ, zero, suc, ◌+◌, ◌≤◌, ◌<◌, ◌^◌, if◌then◌else◌, true, false, List, [], ◌∷◌, length, take, drop, map, filter, sum_by}
+use Rattle.std.specs.Prelude.{◌≡◌, ℕ, zero, suc, ◌+◌, ◌≤◌, ◌<◌, ◌^◌, if◌then◌else◌, true, false, List, [], ◌∷◌, length, take, drop, map, filter, sum_by, slice_get, Some}
 use Rattle.far_log.specs.declared.slots.Slot.{Slot}
 use Rattle.far_log.specs.declared.links.Link.{Link}
+use Rattle.far_log.specs.declared.entry.Entry.{Entry}
 use Rattle.far_log.specs.Room.{Part}
+
+-- the slots of a table
+abbrev pub slots_of : List Entry → List Slot
+slots_of table = map (λ e. e.slot) table
+
+-- the links of a table
+abbrev pub links_of : List Entry → List Link
+links_of table = map (λ e. e.link) table
 
 -- each slot begins where the one before it ends, and is not empty
 abbrev pub AreLined : ℕ → List Slot → Type 0
 AreLined from [] = Unit {0}
 AreLined from (s ∷ ss) = (s.offset ≡ from) × (0 < s.len) × AreLined (from + s.len) ss
+
+-- each slot begins behind those with lower numbers
+abbrev pub AreRising : List Slot → Type 0
+AreRising slots = (j k : ℕ) (s t : Slot) → slice_get slots j ≡ Some s → slice_get slots k ≡ Some t → j < k → s.offset < t.offset
 
 -- where the last slot ends
 abbrev pub slots_end : ℕ → List Slot → ℕ
@@ -35,6 +48,18 @@ AreLinked number before behind (s ∷ ss) [] = ⊥
 AreLinked number before behind (s ∷ ss) (l ∷ ls) =
     (s.live ≡ true → (l.before ≡ before) × (0 < before → behind ≡ number))
     × AreLinked (suc number) (if s.live then suc number else before) (if s.live then l.behind else behind) ss ls
+
+-- links in which one names another slot behind it
+abbrev pub with_behind : List Link → ℕ → ℕ → List Link
+with_behind [] i behind = []
+with_behind (l ∷ ls) zero behind = record l { behind = behind } ∷ ls
+with_behind (l ∷ ls) (suc i) behind = l ∷ with_behind ls i behind
+
+-- links in which one names another slot before it
+abbrev pub with_before : List Link → ℕ → ℕ → List Link
+with_before [] i before = []
+with_before (l ∷ ls) zero before = record l { before = before } ∷ ls
+with_before (l ∷ ls) (suc i) before = l ∷ with_before ls i before
 
 module _ {X : Type 0} where
   -- the part in a slot

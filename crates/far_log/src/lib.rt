@@ -8,7 +8,9 @@
 //! Contracts see a region as the list of its segments, each as its parts (where a part begins, and its elements) and its
 //! size: `specs/Room.antt`. How it changes is in `specs/Changes.antt`.
 
+mod chunked_vec;
 mod compaction;
+mod entry;
 mod fitting;
 mod links;
 mod region;

@@ -1,8 +1,11 @@
 // How the live slots of a table name one another, so that the last part is found at once when the one behind it goes.
-ghost use Rattle.std.specs.Prelude.{◌≡◌, ◌+◌, ◌<◌, ◌≤◌, ◌^◌, ◌++◌, [], ◌∷◌, true, List, length, take, filter, slice_get, vec_capacity, vec_len, IsSomeAnd};
-ghost use Rattle.far_log.specs.Storage.{AreLinked, EndsLive, emptied_at};
+ghost use Rattle.std.specs.Prelude.{◌≡◌, ◌+◌, ◌<◌, ◌≤◌, ◌^◌, ◌++◌, [], ◌∷◌, true, List, length, take, filter, slice_get, IsSomeAnd, OnOk, OnErr, IfErr};
+ghost use Rattle.far_log.specs.Storage.{AreLinked, EndsLive, emptied_at, with_behind, with_before, slots_of, links_of};
 
+use super::chunked_vec::ChunkedVec;
+use super::entry::Entry;
 use super::slots::Slot;
+use far_types::Refusal;
 
 /// The nearest live slots of a live one. Those of another slot mean nothing.
 #[derive(Clone, Copy)]
@@ -13,41 +16,79 @@ pub struct Link {
     pub behind: u32,
 }
 
-/// Links a live slot behind the last, which is live where there is one.
-pub fn link_last(links: &mut Vec<Link>)
-    requires room { vec_len links.old < vec_capacity links.old }
-    requires few { vec_len links.old < 2 ^ 32 }
-    ensures { (slots : List Slot) (slot : Slot) → AreLinked 0 0 0 slots links.old.items → EndsLive slots → slot.live ≡ true → AreLinked 0 0 0 (slots ++ slot ∷ []) links.new.items }
+// Writes which live slot is behind a slot.
+fn set_behind(table: &mut ChunkedVec<Entry>, number: usize, behind: u32)
+    requires { number < length table.old }
+    ensures slots { slots_of table.new ≡ slots_of table.old }
+    ensures links { links_of table.new ≡ with_behind (links_of table.old) number behind }
 {
-    let number = links.len();
-    if let Some(last) = links.last_mut() {
-        last.behind = number as u32;
-    }
-    links.push_reserved(Link {
+    let entry = table.get(number);
+    let link = Link {
+        behind,
+        ..entry.link
+    };
+    table.set(number, Entry { link, ..entry });
+}
+
+// Writes how many slots there are up to the live one before a slot.
+fn set_before(table: &mut ChunkedVec<Entry>, number: usize, before: u32)
+    requires { number < length table.old }
+    ensures slots { slots_of table.new ≡ slots_of table.old }
+    ensures links { links_of table.new ≡ with_before (links_of table.old) number before }
+{
+    let entry = table.get(number);
+    let link = Link {
+        before,
+        ..entry.link
+    };
+    table.set(number, Entry { link, ..entry });
+}
+
+/// Puts a live slot behind the last, which is live where there is one, and links the two. Refused with `NoMemory` (1) alone;
+/// then the table is as before.
+pub fn push_linked(table: &mut ChunkedVec<Entry>, slot: Slot) -> Result<(), Refusal>
+    requires linked { AreLinked 0 0 0 (slots_of table.old) (links_of table.old) }
+    requires ends { EndsLive (slots_of table.old) }
+    requires few { length table.old < 2 ^ 32 }
+    requires live { slot.live ≡ true }
+    ensures slots { OnOk result (slots_of table.new ≡ slots_of table.old ++ slot ∷ []) }
+    ensures linked { OnOk result (AreLinked 0 0 0 (slots_of table.new) (links_of table.new)) }
+    ensures memory { IfErr result (λ e. e ≡ Refusal.NoMemory) }
+    ensures err { OnErr result (table.new ≡ table.old) }
+{
+    let number = table.len();
+    let link = Link {
         before: number as u32,
         behind: 0,
-    });
+    };
+    table.push(Entry { slot, link })?;
+    if number > 0 {
+        set_behind(table, number - 1, number as u32);
+    }
+    Ok(())
 }
 
 /// Takes a live slot out of the links, and answers how many slots are left once those behind the last part are taken
 /// off. Looks at the slot's neighbours alone.
-pub fn unlink(slots: &[Slot], links: &mut [Link], number: usize) -> usize
-    requires linked { AreLinked 0 0 0 slots.now links.old }
-    requires ends { EndsLive slots.now }
-    requires few { length slots.now < 2 ^ 32 }
-    requires there { IsSomeAnd (slice_get slots.now number) (λ s. s.live ≡ true) }
-    ensures within { result ≤ length slots.now }
-    ensures kept { filter (λ s. s.live) (take result (emptied_at slots.now number)) ≡ filter (λ s. s.live) (emptied_at slots.now number) }
-    ensures last { EndsLive (take result (emptied_at slots.now number)) }
-    ensures linked { AreLinked 0 0 0 (take result (emptied_at slots.now number)) (take result links.new) }
+pub fn unlink(table: &mut ChunkedVec<Entry>, number: usize) -> usize
+    requires linked { AreLinked 0 0 0 (slots_of table.old) (links_of table.old) }
+    requires ends { EndsLive (slots_of table.old) }
+    requires few { length table.old < 2 ^ 32 }
+    requires there { IsSomeAnd (slice_get (slots_of table.old) number) (λ s. s.live ≡ true) }
+    ensures slots { slots_of table.new ≡ slots_of table.old }
+    ensures within { result ≤ length table.old }
+    ensures kept { filter (λ s. s.live) (take result (emptied_at (slots_of table.old) number)) ≡ filter (λ s. s.live) (emptied_at (slots_of table.old) number) }
+    ensures last { EndsLive (take result (emptied_at (slots_of table.old) number)) }
+    ensures linked { AreLinked 0 0 0 (take result (emptied_at (slots_of table.old) number)) (take result (links_of table.new)) }
 {
-    let Link { before, behind } = links[number];
-    if number + 1 == slots.len() {
+    let count = table.len();
+    let Link { before, behind } = table.get(number).link;
+    if number + 1 == count {
         return before as usize;
     }
     if before > 0 {
-        links[before as usize - 1].behind = behind;
+        set_behind(table, before as usize - 1, behind);
     }
-    links[behind as usize].before = before;
-    slots.len()
+    set_before(table, behind as usize, before);
+    count
 }

@@ -4,8 +4,10 @@ ghost use Rattle.std.specs.Borrow.{sem};
 ghost use Rattle.far_log.specs.Room.{list_at, fill_of, space_in, used_in, IsLaid};
 ghost use Rattle.far_log.specs.Changes.{with_part, without_part, gathered, IsOrder};
 
-use super::links::{Link, link_last, unlink};
-use super::slots::{Slot, end_of, slot_at};
+use super::chunked_vec::ChunkedVec;
+use super::entry::Entry;
+use super::links::{push_linked, unlink};
+use super::slots::{Slot, end_of, number_at, slot_at};
 use far_types::Refusal;
 use std::alloc::Global;
 use std::marker::Model;
@@ -14,8 +16,7 @@ use std::marker::Model;
 #[derive(Drop)]
 pub struct Segment<T> {
     items: Vec<T>,
-    slots: Vec<Slot>,
-    links: Vec<Link>,
+    table: ChunkedVec<Entry>,
     used: u32,
     size: u32,
 }
@@ -26,11 +27,11 @@ impl<T> Model for Segment<T> {
     ghost Value = { SegmentRoom T };
 
     ghost use Rattle.std.specs.Prelude.{vec_capacity};
-    ghost use Rattle.far_log.specs.Storage.{parts_in, IsKept};
+    ghost use Rattle.far_log.specs.Storage.{slots_of, links_of, parts_in, IsKept};
 
-    ghost view = { λ s. record { parts = parts_in s.items.items s.slots.items; size = s.size } };
+    ghost view = { λ s. record { parts = parts_in s.items.items (slots_of s.table); size = s.size } };
 
-    ghost invariant = { λ s. IsKept s.items.items s.slots.items s.links.items s.used s.size (vec_capacity s.items) };
+    ghost invariant = { λ s. IsKept s.items.items (slots_of s.table) (links_of s.table) s.used s.size (vec_capacity s.items) };
 }
 
 impl<T: Copy + Drop> Segment<T> {
@@ -42,8 +43,7 @@ impl<T: Copy + Drop> Segment<T> {
         let items = Vec::with_capacity(alloc, size as usize)?;
         Ok(Segment {
             items,
-            slots: Vec::new(alloc),
-            links: Vec::new(alloc),
+            table: ChunkedVec::new(alloc),
             used: 0,
             size,
         })
@@ -76,19 +76,17 @@ impl<T: Copy + Drop> Segment<T> {
     pub fn is_empty(&self) -> bool
         ensures { IsTrue result ↔ (self.now.parts ≡ []) }
     {
-        self.slots.is_empty()
+        self.table.len() == 0
     }
 
     /// Whether a part begins at an offset.
     pub fn holds(&self, offset: u32) -> bool
         ensures { IsTrue result ↔ IsSome (list_at self.now.parts offset) }
     {
-        let number = slot_at(&self.slots, offset);
-        if number >= self.slots.len() {
-            return false;
+        match slot_at(&self.table, offset) {
+            Some(slot) => slot.live && slot.offset == offset,
+            None => false,
         }
-        let slot = self.slots[number];
-        slot.live && slot.offset == offset
     }
 
     /// The part that begins at an offset.
@@ -96,7 +94,9 @@ impl<T: Copy + Drop> Segment<T> {
         requires { IsSome (list_at self.now.parts offset) }
         ensures { list_at self.now.parts offset ≡ Some result.now }
     {
-        let slot = self.slots[slot_at(&self.slots, offset)];
+        let Some(slot) = slot_at(&self.table, offset) else {
+            unreachable!();
+        };
         let from = slot.offset as usize;
         &self.items[from..from + slot.len as usize]
     }
@@ -112,13 +112,12 @@ impl<T: Copy + Drop> Segment<T> {
     {
         let offset = self.items.len() as u32;
         let len = items.len() as u32;
-        self.links.reserve(1)?;
-        self.slots.push(Slot {
+        let slot = Slot {
             offset,
             len,
             live: true,
-        })?;
-        link_last(&mut self.links);
+        };
+        push_linked(&mut self.table, slot)?;
         let Ok(()) = self.items.extend_from_slice(items) else {
             unreachable!();
         };
@@ -131,22 +130,21 @@ impl<T: Copy + Drop> Segment<T> {
         requires { IsSome (list_at self.old.parts offset) }
         ensures { self.new ≡ without_part self.old offset }
     {
-        let number = slot_at(&self.slots, offset);
-        let left = unlink(&self.slots, &mut self.links, number);
-        let slot = &mut self.slots[number];
-        slot.live = false;
-        self.used -= slot.len;
-        self.slots.truncate(left);
-        self.links.truncate(left);
-        self.items.truncate(end_of(&self.slots));
+        let number = number_at(&self.table, offset);
+        let left = unlink(&mut self.table, number);
+        let mut entry = self.table.get(number);
+        entry.slot.live = false;
+        self.table.set(number, entry);
+        self.used -= entry.slot.len;
+        self.table.truncate(left);
+        self.items.truncate(end_of(&self.table));
     }
 
     /// Takes all parts away.
     pub fn clear(&mut self)
         ensures { self.new ≡ record self.old { parts = [] } }
     {
-        self.slots.clear();
-        self.links.clear();
+        self.table.truncate(0);
         self.items.clear();
         self.used = 0;
     }
@@ -169,8 +167,6 @@ impl<T: Copy + Drop> Segment<T> {
         ensures memory { IfErr result (λ e. e ≡ Refusal.NoMemory) }
     {
         let mut offsets = Vec::with_capacity(alloc, order.len())?;
-        self.slots.reserve(order.len())?;
-        self.links.reserve(order.len())?;
         for offset in order {
             offsets.push(self.place(source.part(*offset))?)?;
         }

@@ -1,6 +1,10 @@
 // The table of a segment: where its parts lie, and where parts lay that are gone.
-ghost use Rattle.std.specs.Prelude.{◌≡◌, ℕ, ◌<◌, ◌^◌, slice_get, Some};
-ghost use Rattle.far_log.specs.Storage.{AreLined, slots_end};
+ghost use Rattle.std.specs.Prelude.{◌≡◌, ℕ, ◌+◌, ◌<◌, ◌≤◌, ◌^◌, length, slice_get, Some, IfSome};
+ghost use Rattle.far_log.specs.Chunking.{room_at, start_at};
+ghost use Rattle.far_log.specs.Storage.{AreLined, AreRising, slots_end, slots_of};
+
+use super::chunked_vec::{ChunkedVec, chunk_of, start_of};
+use super::entry::Entry;
 
 /// A stretch of a segment that has a part, or had one.
 #[derive(Clone, Copy)]
@@ -13,18 +17,20 @@ pub struct Slot {
     pub live: bool,
 }
 
-/// The number of the slot that begins at an offset; some number where none does.
-pub fn slot_at(slots: &[Slot], offset: u32) -> usize
-    requires { AreLined 0 slots.now }
-    ensures { (k : ℕ) (s : Slot) → slice_get slots.now k ≡ Some s → s.offset ≡ offset → result ≡ k }
+// The number among these slots of the one that begins at an offset; some number where none does.
+fn slot_among(entries: &[Entry], offset: u32) -> usize
+    requires some { 0 < length entries.now }
+    requires rising { AreRising (slots_of entries.now) }
+    ensures within { result < length entries.now }
+    ensures found { (k : ℕ) (s : Slot) → slice_get (slots_of entries.now) k ≡ Some s → s.offset ≡ offset → result ≡ k }
 {
     let mut low = 0;
-    let mut size = slots.len();
+    let mut size = entries.len();
     while size > 1 {
         let half = size / 2;
         let middle = low + half;
         // One choice, so that a compiler can do without a branch.
-        low = if slots[middle].offset <= offset {
+        low = if entries[middle].slot.offset <= offset {
             middle
         } else {
             low
@@ -34,14 +40,57 @@ pub fn slot_at(slots: &[Slot], offset: u32) -> usize
     low
 }
 
-/// Where the last of the slots ends.
-pub fn end_of(slots: &[Slot]) -> usize
-    requires lined { AreLined 0 slots.now }
-    requires fits { slots_end 0 slots.now < 2 ^ 32 }
-    ensures { result ≡ slots_end 0 slots.now }
+// The number of the chunk in which the slot lies that begins at an offset; that of some chunk where none does.
+fn chunk_at(table: &ChunkedVec<Entry>, offset: u32) -> usize
+    requires some { 0 < length table.now }
+    requires lined { AreLined 0 (slots_of table.now) }
+    ensures few { result ≤ 26 }
+    ensures there { start_at 64 result < length table.now }
+    ensures found { (k : ℕ) (s : Slot) → slice_get (slots_of table.now) k ≡ Some s → s.offset ≡ offset → (start_at 64 result ≤ k) × (k < start_at 64 result + room_at 64 result) }
 {
-    match slots.last() {
-        Some(slot) => slot.offset as usize + slot.len as usize,
-        None => 0,
+    // The last chunk has about half of the slots, so it is looked at first.
+    let mut number = chunk_of(table.len() - 1);
+    while number > 0 {
+        if table.chunk(number)[0].slot.offset <= offset {
+            return number;
+        }
+        number -= 1;
     }
+    0
+}
+
+/// The number of the slot that begins at an offset; some number where none does.
+pub fn number_at(table: &ChunkedVec<Entry>, offset: u32) -> usize
+    requires some { 0 < length table.now }
+    requires lined { AreLined 0 (slots_of table.now) }
+    ensures { (k : ℕ) (s : Slot) → slice_get (slots_of table.now) k ≡ Some s → s.offset ≡ offset → result ≡ k }
+{
+    let chunk = chunk_at(table, offset);
+    start_of(chunk) + slot_among(table.chunk(chunk), offset)
+}
+
+/// The slot that begins at an offset; some slot where none does, and none where there is no slot.
+pub fn slot_at(table: &ChunkedVec<Entry>, offset: u32) -> Option<Slot>
+    requires { AreLined 0 (slots_of table.now) }
+    ensures there { IfSome result (λ s. (k : ℕ) × (slice_get (slots_of table.now) k ≡ Some s)) }
+    ensures found { (k : ℕ) (s : Slot) → slice_get (slots_of table.now) k ≡ Some s → s.offset ≡ offset → result ≡ Some s }
+{
+    if table.len() == 0 {
+        return None;
+    }
+    let entries = table.chunk(chunk_at(table, offset));
+    Some(entries[slot_among(entries, offset)].slot)
+}
+
+/// Where the last of the slots ends.
+pub fn end_of(table: &ChunkedVec<Entry>) -> usize
+    requires lined { AreLined 0 (slots_of table.now) }
+    requires fits { slots_end 0 (slots_of table.now) < 2 ^ 32 }
+    ensures { result ≡ slots_end 0 (slots_of table.now) }
+{
+    let Some(last) = table.len().checked_sub(1) else {
+        return 0;
+    };
+    let slot = table.get(last).slot;
+    slot.offset as usize + slot.len as usize
 }

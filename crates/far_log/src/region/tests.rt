@@ -179,3 +179,33 @@ fn a_range_is_written_in_place(rt: HostRuntime) -> Result<(), Fail> {
     assert_eq!(rt; region.part(front), [Some(1), None].as_slice());
     Ok(())
 }
+
+#[test]
+fn parts_are_found_in_a_table_of_many_chunks(rt: HostRuntime) -> Result<(), Fail> {
+    let mut region = Region::<u8>::new(rt.alloc(), 1, 1_000)?;
+    for number in 0..1_000u32 {
+        let at = region.place(&[(number % 251) as u8])?;
+        assert_eq!(rt; at.offset, number);
+    }
+    for offset in 0..1_000u32 {
+        let at = At { segment: 0, offset };
+        assert!(rt; region.holds(at));
+        assert_eq!(rt; region.part(at), [(offset % 251) as u8].as_slice());
+    }
+    for offset in 1..999u32 {
+        let at = At { segment: 0, offset };
+        assert!(rt; region.holds(at));
+        region.drop_at(at);
+    }
+    assert!(rt; !region.fits(1));
+    let last = At {
+        segment: 0,
+        offset: 999,
+    };
+    assert!(rt; region.holds(last));
+    region.drop_at(last);
+    assert!(rt; region.fits(999));
+    assert_eq!(rt; region.place(&[9, 9])?.offset, 1);
+    assert_eq!(rt; region.used(), 3);
+    Ok(())
+}

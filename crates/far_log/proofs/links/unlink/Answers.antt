@@ -1,72 +1,80 @@
-use Rattle.std.proofs.Common.{length, refl, ap, arith}
-use Rattle.std.proofs.lemmas.List.{take_all}
-use Rattle.far_log.specs.Storage.{emptied_at}
-use Rattle.far_log.proofs.Linked.{length-emptied, ends-emptied, within-slots, within-links, before-within, behind-within, last-left, last-linked, rest-linked, linked-take, length-of-set}
+use Rattle.std.proofs.Common.{length, refl, ap, ◌∙◌, arith}
+use Rattle.std.proofs.lemmas.List.{take_all, length-map}
+use Rattle.far_log.specs.declared.entry.Entry.{Entry}
+use Rattle.far_log.specs.Storage.{slots_of, links_of, emptied_at}
+use Rattle.far_log.proofs.Entries.{link-is}
+use Rattle.far_log.proofs.Linked.{as-many, length-emptied, ends-emptied, within-slots, before-within, behind-within, last-left, last-linked, rest-linked, linked-take}
 use Rattle.far_log.proofs.links.unlink.Goals as goal
 use Rattle.far_log.proofs.links.unlink.Goals.{then-before-gt0, else-before-gt0}
 
-pub bounds-links-number : goal.bounds-links-number
-bounds-links-number c = within-links c.args.slots.now c.args.links.now c.args.number record { before = 0; behind = 0 } c.requires.linked c.requires.there
+pub returns-then-number-count-clause-within : goal.returns-then-number-count-clause-within
+returns-then-number-count-clause-within c =
+    let named = link-is c.args.table.now c.args.number c.get-before.result c.get-before.ensures in
+    let before = before-within (slots_of c.args.table.now) (links_of c.args.table.now) c.args.number c.get-before.result.link c.requires.linked c.requires.there named in
+    omega (arith, before, c.if-number-count.true, c.len-count.ensures.len)
 
-pub bounds-links-number-2 : goal.bounds-links-number-2
-bounds-links-number-2 c = within-links c.args.slots.now c.args.links.now c.args.number record { before = 0; behind = 0 } c.requires.linked c.requires.there
+pub returns-then-number-count-clause-kept : goal.returns-then-number-count-clause-kept
+returns-then-number-count-clause-kept c =
+    let named = link-is c.args.table.now c.args.number c.get-before.result c.get-before.ensures in
+    let long = length-map c.args.table.now (λ (u : Entry). u.slot) in
+    (last-left (slots_of c.args.table.now) (links_of c.args.table.now) c.args.number c.get-before.result.link c.requires.linked c.requires.there named (omega (arith, long, c.if-number-count.true, c.len-count.ensures.len))).0
 
-pub overflow_add-number : goal.overflow_add-number
-overflow_add-number c =
-    let within = within-slots c.args.slots.now c.args.links.now c.args.number record { before = 0; behind = 0 } c.requires.linked c.requires.there in
-    omega (arith, within, c.requires.few)
+pub returns-then-number-count-clause-last : goal.returns-then-number-count-clause-last
+returns-then-number-count-clause-last c =
+    let named = link-is c.args.table.now c.args.number c.get-before.result c.get-before.ensures in
+    let long = length-map c.args.table.now (λ (u : Entry). u.slot) in
+    (last-left (slots_of c.args.table.now) (links_of c.args.table.now) c.args.number c.get-before.result.link c.requires.linked c.requires.there named (omega (arith, long, c.if-number-count.true, c.len-count.ensures.len))).1
 
-pub returns-then-number-slots-clause-within : goal.returns-then-number-slots-clause-within
-returns-then-number-slots-clause-within c =
-    let before = before-within c.args.slots.now c.args.links.now c.args.number record { before = 0; behind = 0 } c.requires.linked c.requires.there in
-    omega (arith, before, within-slots c.args.slots.now c.args.links.now c.args.number record { before = 0; behind = 0 } c.requires.linked c.requires.there)
+pub returns-then-number-count-clause-linked : goal.returns-then-number-count-clause-linked
+returns-then-number-count-clause-linked c =
+    let named = link-is c.args.table.now c.args.number c.get-before.result c.get-before.ensures in
+    last-linked (slots_of c.args.table.now) (links_of c.args.table.now) c.args.number c.get-before.result.link c.requires.linked c.requires.there named
 
-pub returns-then-number-slots-clause-kept : goal.returns-then-number-slots-clause-kept
-returns-then-number-slots-clause-kept c =
-    (last-left c.args.slots.now c.args.links.now c.args.number record { before = 0; behind = 0 } c.requires.linked c.requires.there (omega (arith, c.if-number-slots.true))).0
+pub set_behind-requires : goal.set_behind-requires
+set_behind-requires c =
+    let named = link-is c.args.table.now c.args.number c.get-before.result c.get-before.ensures in
+    let before = before-within (slots_of c.args.table.now) (links_of c.args.table.now) c.args.number c.get-before.result.link c.requires.linked c.requires.there named in
+    let within = within-slots (slots_of c.args.table.now) (links_of c.args.table.now) c.args.number c.get-before.result.link c.requires.linked c.requires.there named in
+    omega (arith, before, within, c.if-before-gt0.true, length-map c.args.table.now (λ (u : Entry). u.slot))
 
-pub returns-then-number-slots-clause-last : goal.returns-then-number-slots-clause-last
-returns-then-number-slots-clause-last c =
-    (last-left c.args.slots.now c.args.links.now c.args.number record { before = 0; behind = 0 } c.requires.linked c.requires.there (omega (arith, c.if-number-slots.true))).1
-
-pub returns-then-number-slots-clause-linked : goal.returns-then-number-slots-clause-linked
-returns-then-number-slots-clause-linked c = last-linked c.args.slots.now c.args.links.now c.args.number record { before = 0; behind = 0 } c.requires.linked c.requires.there
-
-pub bounds-links-before : goal.bounds-links-before
-bounds-links-before c =
-    let before = before-within c.args.slots.now c.args.links.now c.args.number record { before = 0; behind = 0 } c.requires.linked c.requires.there in
-    omega (arith, before, within-links c.args.slots.now c.args.links.now c.args.number record { before = 0; behind = 0 } c.requires.linked c.requires.there)
-
-pub bounds-links-behind : goal.bounds-links-behind
-bounds-links-behind c =
-    let there = within-slots c.args.slots.now c.args.links.now c.args.number record { before = 0; behind = 0 } c.requires.linked c.requires.there in
-    let behind = behind-within c.args.slots.now c.args.links.now c.args.number record { before = 0; behind = 0 } c.requires.linked c.requires.there c.requires.ends (omega (arith, there, c.if-number-slots.false)) in
+pub set_before-requires : goal.set_before-requires
+set_before-requires c =
+    let named = link-is c.args.table.now c.args.number c.get-before.result c.get-before.ensures in
+    let long = length-map c.args.table.now (λ (u : Entry). u.slot) in
+    let within = within-slots (slots_of c.args.table.now) (links_of c.args.table.now) c.args.number c.get-before.result.link c.requires.linked c.requires.there named in
+    let behind = behind-within (slots_of c.args.table.now) (links_of c.args.table.now) c.args.number c.get-before.result.link c.requires.linked c.requires.there named c.requires.ends (omega (arith, within, long, c.if-number-count.false, c.len-count.ensures.len)) in
+    let many = length-map c.args.table.now (λ (u : Entry). u.link) in
     elim c.if-before-gt0.branch [
-      | then-before-gt0 w ↦ omega (arith, behind.1, length-of-set _ _ _ _ w.links-is)
-      | else-before-gt0 w ↦ omega (arith, behind.1, ap length w.links-is)
+      | then-before-gt0 w ↦ omega (arith, behind.1, many, long, ap length w.table-is, ap length w.set_behind.ensures.slots, length-map w.set_behind.new.table (λ (u : Entry). u.slot), as-many 0 0 0 (slots_of c.args.table.now) (links_of c.args.table.now) c.requires.linked)
+      | else-before-gt0 w ↦ omega (arith, behind.1, many, ap length w.table-is)
     ]
 
 pub returns-clause-kept : goal.returns-clause-kept
 returns-clause-kept c =
-    let whole = take_all (length c.args.slots.now) (emptied_at c.args.slots.now c.args.number) (omega (arith, length-emptied c.args.slots.now c.args.number)) in
+    let long = length-map c.args.table.now (λ (u : Entry). u.slot) in
+    let whole = take_all c.len-count.result (emptied_at (slots_of c.args.table.now) c.args.number) (omega (arith, length-emptied (slots_of c.args.table.now) c.args.number, long, c.len-count.ensures.len)) in
     rw whole refl
 
 pub returns-clause-last : goal.returns-clause-last
 returns-clause-last c =
-    let there = within-slots c.args.slots.now c.args.links.now c.args.number record { before = 0; behind = 0 } c.requires.linked c.requires.there in
-    let whole = take_all (length c.args.slots.now) (emptied_at c.args.slots.now c.args.number) (omega (arith, length-emptied c.args.slots.now c.args.number)) in
-    rw whole (ends-emptied c.args.number c.args.slots.now (omega (arith, there, c.if-number-slots.false)) c.requires.ends)
+    let named = link-is c.args.table.now c.args.number c.get-before.result c.get-before.ensures in
+    let long = length-map c.args.table.now (λ (u : Entry). u.slot) in
+    let within = within-slots (slots_of c.args.table.now) (links_of c.args.table.now) c.args.number c.get-before.result.link c.requires.linked c.requires.there named in
+    let whole = take_all c.len-count.result (emptied_at (slots_of c.args.table.now) c.args.number) (omega (arith, length-emptied (slots_of c.args.table.now) c.args.number, long, c.len-count.ensures.len)) in
+    rw whole (ends-emptied c.args.number (slots_of c.args.table.now) (omega (arith, within, long, c.if-number-count.false, c.len-count.ensures.len)) c.requires.ends)
 
 pub returns-clause-linked : goal.returns-clause-linked
 returns-clause-linked c =
-    let there = within-slots c.args.slots.now c.args.links.now c.args.number record { before = 0; behind = 0 } c.requires.linked c.requires.there in
-    let linked = rest-linked c.args.slots.now c.args.links.now c.args.number record { before = 0; behind = 0 } c.requires.linked c.requires.there c.if-before-gt0.links c.requires.ends (omega (arith, there, c.if-number-slots.false))
+    let named = link-is c.args.table.now c.args.number c.get-before.result c.get-before.ensures in
+    let long = length-map c.args.table.now (λ (u : Entry). u.slot) in
+    let within = within-slots (slots_of c.args.table.now) (links_of c.args.table.now) c.args.number c.get-before.result.link c.requires.linked c.requires.there named in
+    let linked = rest-linked (slots_of c.args.table.now) (links_of c.args.table.now) c.args.number c.get-before.result.link c.requires.linked c.requires.there named (links_of c.if-before-gt0.table) c.requires.ends (omega (arith, within, long, c.if-number-count.false, c.len-count.ensures.len))
     (λ some. elim c.if-before-gt0.branch [
-      | then-before-gt0 w ↦ w.links-is
+      | then-before-gt0 w ↦ ap links_of w.table-is ∙ w.set_behind.ensures.links
       | else-before-gt0 w ↦ absurd (omega (arith, w.if-before-gt0.false))
     ])
     (λ none. elim c.if-before-gt0.branch [
       | then-before-gt0 w ↦ absurd (omega (arith, w.if-before-gt0.true))
-      | else-before-gt0 w ↦ w.links-is
+      | else-before-gt0 w ↦ ap links_of w.table-is
     ]) in
-    linked-take (length c.args.slots.now) 0 0 0 _ _ linked
+    rw c.set_before.ensures.links (linked-take c.len-count.result 0 0 0 _ _ linked)

@@ -1,22 +1,25 @@
-use Rattle.std.proofs.Common.{arith}
-use Rattle.far_log.proofs.StoredParts.{at-or-behind, before}
+use Rattle.std.proofs.Common.{◌≡◌, ◌+◌, ◌-◌, Some, length, drop, ap, sym, subst, ◌∙◌, arith, length-take, length-drop}
+use Rattle.std.specs.Prelude.{slice_get}
+use Rattle.far_log.specs.Chunking.{room_at, start_at}
+use Rattle.far_log.specs.Storage.{slots_of, AreRising}
+use Rattle.far_log.proofs.Chunks.{start-room}
+use Rattle.far_log.proofs.StoredParts.{lined-rising}
+use Rattle.far_log.proofs.Entries.{part-rising, in-part, among}
 use Rattle.far_log.proofs.slots.slot_at.Goals as goal
-use Rattle.far_log.proofs.slots.slot_at.Goals.{then-slots-middle, else-slots-middle}
 
-pub loop-size-preserved : goal.loop-size-preserved
-loop-size-preserved c = elim c.if-slots-middle.branch [
-  | then-slots-middle w ↦ record {
-    within = omega (arith, w.low-is, c.loop-size.invariant.within);
-    between = λ k s e f.
-        let was = c.loop-size.invariant.between k s e f in
-        let behind = at-or-behind c.args.slots.now _ k c.args.offset s _ c.requires (omega (arith, c.loop-size.invariant.within)) w.if-slots-middle.true e f in
-        (omega (arith, w.low-is, behind), omega (arith, w.low-is, was.1));
-  }
-  | else-slots-middle w ↦ record {
-    within = omega (arith, w.low-is, c.loop-size.invariant.within);
-    between = λ k s e f.
-        let was = c.loop-size.invariant.between k s e f in
-        let under = before c.args.slots.now _ k c.args.offset s _ c.requires (omega (arith, c.loop-size.invariant.within)) w.if-slots-middle.false e f in
-        (omega (arith, w.low-is, was.0), omega (arith, w.low-is, under));
-  }
-]
+pub slot_among-requires-clause-some : goal.slot_among-requires-clause-some
+slot_among-requires-clause-some c = omega (arith, ap length c.chunk-entries.ensures, length-take (room_at 64 c.chunk_at.result) (drop (start_at 64 c.chunk_at.result) c.args.table.now), length-drop (start_at 64 c.chunk_at.result) c.args.table.now, c.chunk_at.ensures.there, start-room 64 c.chunk_at.result)
+
+pub slot_among-requires-clause-rising : goal.slot_among-requires-clause-rising
+slot_among-requires-clause-rising c = subst (λ es. AreRising (slots_of es)) (sym c.chunk-entries.ensures) (part-rising c.args.table.now (start_at 64 c.chunk_at.result) (room_at 64 c.chunk_at.result) (lined-rising 0 (slots_of c.args.table.now) c.requires))
+
+pub returns-clause-there : goal.returns-clause-there
+returns-clause-there c = (start_at 64 c.chunk_at.result + c.slot_among.result, among c.args.table.now (start_at 64 c.chunk_at.result) (room_at 64 c.chunk_at.result) c.chunk-entries.result.now c.slot_among.result _ c.chunk-entries.ensures c.slot_among.ensures.within)
+
+pub returns-clause-found : goal.returns-clause-found
+returns-clause-found c = λ k s e at.
+    let bounds = c.chunk_at.ensures.found k s e at in
+    let here = in-part c.args.table.now (start_at 64 c.chunk_at.result) (room_at 64 c.chunk_at.result) k s e bounds.0 bounds.1 in
+    let found = c.slot_among.ensures.found (k - start_at 64 c.chunk_at.result) s (subst (λ es. slice_get (slots_of es) (k - start_at 64 c.chunk_at.result) ≡ Some s) (sym c.chunk-entries.ensures) here) at in
+    let same : start_at 64 c.chunk_at.result + c.slot_among.result ≡ k = omega (arith, found, bounds.0) in
+    sym (ap (slice_get (slots_of c.args.table.now)) (sym same) ∙ among c.args.table.now (start_at 64 c.chunk_at.result) (room_at 64 c.chunk_at.result) c.chunk-entries.result.now c.slot_among.result _ c.chunk-entries.ensures c.slot_among.ensures.within) ∙ e

@@ -1,12 +1,14 @@
 use Rattle.std.proofs.Common.{◌≡◌, ℕ, ◌+◌, ◌<◌, ◌≤◌, length, Some}
 use Rattle.std.specs.Prelude.{slice_get}
 use Rattle.far_log.specs.declared.slots.Slot.{Slot}
-use Rattle.far_log.proofs.slots.slot_at.Given as goal
+use Rattle.far_log.specs.Storage.{slots_of}
+use Rattle.far_log.proofs.slots.slot_among.Given as goal
 
 abbrev pub invariant-loop-size : goal.invariant-loop-size
 invariant-loop-size l = record {
-  within : l.low + l.size ≤ length l.slots;
-  between : (k : ℕ) (s : Slot) → slice_get l.slots k ≡ Some s → s.offset ≡ l.offset → (l.low ≤ k) × (k < l.low + l.size);
+  some : 0 < l.size;
+  within : l.low + l.size ≤ length l.entries;
+  between : (k : ℕ) (s : Slot) → slice_get (slots_of l.entries) k ≡ Some s → s.offset ≡ l.offset → (l.low ≤ k) × (k < l.low + l.size);
 }
 
 abbrev pub decreases-loop-size : goal.decreases-loop-size

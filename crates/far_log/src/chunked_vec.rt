@@ -1,0 +1,193 @@
+// A list in chunks that double.
+ghost use Rattle.std.specs.Prelude.{◌≡◌, ℕ, ◌+◌, ◌<◌, ◌≤◌, ◌^◌, List, [], ◌∷◌, ◌++◌, length, take, drop, vec_len, slice_get, slice_set, Some, OnOk, OnErr, IfErr};
+ghost use Rattle.far_log.specs.Chunking.{room_at, start_at, joined, AreChunks, IsPlaceOf};
+
+use far_types::Refusal;
+use std::alloc::Global;
+use std::marker::Model;
+
+// How many elements the first chunk takes, and its binary logarithm.
+const FIRST: usize = 64;
+
+const FIRST_LEVEL: usize = 6;
+
+// Where an element lies: the number of its chunk, and its place there.
+#[derive(Clone, Copy)]
+struct Place {
+    chunk: usize,
+    at: usize,
+}
+
+// How many elements a chunk takes.
+fn room_of(chunk: usize) -> usize
+    requires { chunk ≤ 26 }
+    ensures room { result ≡ room_at 64 chunk }
+    ensures start { result ≡ start_at 64 chunk + 64 }
+    ensures small { result ≤ 2 ^ 32 }
+{
+    FIRST << chunk
+}
+
+// Where the element with an index lies.
+fn place_of(index: usize) -> Place
+    requires { index ≤ 2 ^ 32 }
+    ensures place { IsPlaceOf index result.chunk result.at }
+    ensures few { result.chunk ≤ 26 }
+{
+    // In front of chunk k lie 64 * 2^k - 64 elements, so that the highest bit of the sum tells the chunk.
+    let sum = index + FIRST;
+    let chunk = sum.ilog2() as usize - FIRST_LEVEL;
+    Place {
+        chunk,
+        at: sum - room_of(chunk),
+    }
+}
+
+/// The number of the chunk in which the element with an index lies.
+pub fn chunk_of(index: usize) -> usize
+    requires { index ≤ 2 ^ 32 }
+    ensures from { start_at 64 result ≤ index }
+    ensures to { index < start_at 64 result + room_at 64 result }
+    ensures few { result ≤ 26 }
+{
+    // A short list has one chunk, and this choice spares it the logarithm.
+    if index < FIRST {
+        0
+    } else {
+        place_of(index).chunk
+    }
+}
+
+/// The index of the first element of a chunk.
+pub fn start_of(chunk: usize) -> usize
+    requires { chunk ≤ 26 }
+    ensures start { result ≡ start_at 64 chunk }
+    ensures small { result < 2 ^ 32 }
+{
+    room_of(chunk) - FIRST
+}
+
+// Makes a chunk, unless it is there. Refused, the chunks are as before.
+fn make_chunk<T: Drop>(chunks: &mut Vec<Vec<T>>, chunk: usize) -> Result<(), Refusal>
+    requires few { chunk ≤ 26 }
+    requires kept { AreChunks 64 chunks.old.items }
+    requires next { chunk ≤ length chunks.old.items }
+    requires full { chunk ≡ length chunks.old.items → length (joined chunks.old.items) ≡ start_at 64 chunk }
+    ensures there { OnOk result (chunk < length chunks.new.items) }
+    ensures kept { AreChunks 64 chunks.new.items }
+    ensures same { joined chunks.new.items ≡ joined chunks.old.items }
+    ensures memory { IfErr result (λ e. e ≡ Refusal.NoMemory) }
+{
+    if chunk == chunks.len() {
+        let alloc = *chunks.allocator();
+        chunks.push(Vec::with_capacity(alloc, room_of(chunk))?)?;
+    }
+    Ok(())
+}
+
+/// A list of plain values that grows without moving what it holds (a segmented array).
+///
+/// It lies in chunks, the first with room for 64 values and each other with twice the room of the one before it. A chunk
+/// is made when it is first needed; only the list of at most 27 chunks moves. A cut keeps the chunks for values to
+/// come, as `Vec` keeps its memory: they are given back when the list is dropped.
+#[derive(Drop)]
+pub struct ChunkedVec<T> {
+    chunks: Vec<Vec<T>>,
+    len: usize,
+}
+
+impl<T> Model for ChunkedVec<T> {
+    ghost use Rattle.std.specs.Prelude.{List, take};
+    ghost use Rattle.far_log.specs.Chunking.{joined, IsChunked};
+
+    ghost Value = { List T };
+
+    ghost view = { λ v. take v.len (joined v.chunks.items) };
+
+    ghost invariant = { λ v. IsChunked v.chunks.items v.len };
+}
+
+impl<T: Copy + Drop> ChunkedVec<T> {
+    /// An empty list, which takes no memory.
+    pub fn new(alloc: Global) -> ChunkedVec<T>
+        ensures { result ≡ [] }
+    {
+        ChunkedVec {
+            chunks: Vec::new(alloc),
+            len: 0,
+        }
+    }
+
+    /// How many values it has.
+    pub fn len(&self) -> usize
+        ensures len { result ≡ length self.now }
+        ensures few { result ≤ 2 ^ 32 }
+    {
+        self.len
+    }
+
+    /// The value with an index.
+    pub fn get(&self, index: usize) -> T
+        requires { index < length self.now }
+        ensures { slice_get self.now index ≡ Some result }
+    {
+        let chunks = &self.chunks;
+        let Place { chunk, at } = place_of(index);
+        chunks[chunk][at]
+    }
+
+    /// The values of one chunk, in place.
+    pub fn chunk(&self, chunk: usize) -> &[T]
+        requires few { chunk ≤ 26 }
+        requires there { start_at 64 chunk < length self.now }
+        ensures { result.now ≡ take (room_at 64 chunk) (drop (start_at 64 chunk) self.now) }
+    {
+        let left = self.len - start_of(chunk);
+        let chunk = &self.chunks[chunk];
+        if left < chunk.len() {
+            return &chunk[..left];
+        }
+        chunk
+    }
+
+    /// Sets the value with an index.
+    pub fn set(&mut self, index: usize, value: T)
+        requires { index < length self.old }
+        ensures { self.new ≡ slice_set self.old index value }
+    {
+        let chunks = &mut self.chunks;
+        let Place { chunk, at } = place_of(index);
+        chunks[chunk][at] = value;
+    }
+
+    /// Puts a value behind the last. Moves none. Refused with `NoMemory` (1) alone, where a chunk cannot be made; then
+    /// the list is as before.
+    pub fn push(&mut self, value: T) -> Result<(), Refusal>
+        requires few { length self.old < 2 ^ 32 }
+        ensures pushed { OnOk result (self.new ≡ self.old ++ value ∷ []) }
+        ensures memory { IfErr result (λ e. e ≡ Refusal.NoMemory) }
+        ensures err { OnErr result (self.new ≡ self.old) }
+    {
+        let Place { chunk, at } = place_of(self.len);
+        make_chunk(&mut self.chunks, chunk)?;
+        let chunk = &mut self.chunks[chunk];
+        if at < chunk.len() {
+            chunk[at] = value;
+        } else {
+            chunk.push_reserved(value);
+        }
+        self.len += 1;
+        Ok(())
+    }
+
+    /// Cuts the list to its first `len` values; a shorter one is left as it is. Costs the same whatever it cuts off,
+    /// and gives no memory back.
+    pub fn truncate(&mut self, len: usize)
+        ensures { self.new ≡ take len self.old }
+    {
+        self.len = self.len.min(len);
+    }
+}
+
+#[cfg(test)]
+mod tests;
