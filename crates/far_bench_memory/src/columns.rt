@@ -1,5 +1,4 @@
 // A fold of a column's numbers, lent in place, beside a fold of a list.
-ghost use Rattle.std.specs.Prelude.{◌≡◌, length};
 ghost use Rattle.far_vector.specs.Vector.{IsVector};
 ghost use Rattle.far_columns.specs.Numbers.{number_lists};
 
@@ -66,7 +65,10 @@ fn fold_lent<S: FarRead>(
     }
     let mut lents = column.lent(objects, alive, 0, column.len())?;
     let mut total = (0u64, 0i128);
-    while let Some(lent) = lents.next() {
+    for _ in 0..lents.len() {
+        let Some(lent) = lents.next() else {
+            break;
+        };
         let (count, sum) = fold(lent.values, lent.alive);
         total = (total.0.wrapping_add(count), total.1.wrapping_add(sum));
     }
@@ -83,7 +85,7 @@ fn numbers(alloc: Global) -> Result<Vec<Option<i64>>, Refusal> {
 }
 
 /// Times the fold of a list and that of a column's pieces.
-pub fn measure<S: FarRead>(rt: &HostRuntime, rounds: u32) -> io::Result<LentTimes> {
+pub fn measure<S: FarRead>(rt: &HostRuntime, _store: &S, rounds: u32) -> io::Result<LentTimes> {
     let alloc = rt.alloc();
     let numbers = numbers(alloc).map_err(io_error)?;
     let alive = all_alive(alloc, numbers.len()).map_err(io_error)?;
