@@ -5,7 +5,10 @@ pub mod IntForms
 pub mod LentForms
 pub mod MaskBits
 pub mod MaskWriting
+pub mod ChangedFields
+pub mod ChangedForms
 pub mod ChangedLengths
+pub mod ChangedTexts
 pub mod Laws
 pub mod Masks
 pub mod Meaning

@@ -1,12 +1,13 @@
 -- The mask of values, byte by byte.
-use Rattle.std.proofs.Common.{◌≡◌, ℕ, ◌+◌, ◌*◌, ◌/◌, ◌<◌, Bool, List, [], ◌∷◌, ◌++◌, length, get_or, map, take, drop, Option, refl, sym, ap, ◌∙◌, arith}
+use Rattle.std.proofs.Common.{◌≡◌, ℕ, ◌+◌, ◌-◌, ◌*◌, ◌/◌, ◌^◌, ◌<◌, ◌≤◌, Bool, false, List, [], ◌∷◌, ◌++◌, length, get_or, map, take, drop, min, Option, refl, sym, ap, ◌∙◌, arith}
 use Rattle.std.specs.Prelude.{is_none, ◌||◌}
 use Rattle.std.specs.Int.{div_ceil}
 use Rattle.std.specs.List.{list_any, range_with_len}
-use Rattle.std.proofs.lemmas.List.{length-map, take_at, drop_at, take-map, drop-map}
+use Rattle.std.proofs.lemmas.List.{length-map, length-take, length-drop, drop_more, drop_all, take_at, drop_at}
+use Rattle.std.proofs.Math.Nat.{pow-le-pow_right}
 use Rattle.std.proofs.lemmas.Grind.{same_number_lists}
 use Rattle.far_codec.specs.FarForm.{mask_byte, mask_bytes, some_missing}
-use Rattle.far_codec.specs.MaskLaws.{part, length-mask_bytes, mask_byte_at}
+use Rattle.far_codec.specs.MaskLaws.{bit, part, flag_of_part, mask_byte-lt, length-mask_bytes, mask_byte_at}
 
 abbrev pub flags_in : {A : Type 0} → List (Option A) → List Bool
 flags_in values = map is_none values
@@ -21,9 +22,29 @@ pub missing_any : {A : Type 0} (values : List (Option A)) → list_any is_none v
 missing_any [] = refl
 missing_any (v ∷ values) = ap (λ b. is_none v || b) (missing_any values)
 
--- the byte of the eight values from 8 * k on
-pub part_is : {A : Type 0} (values : List (Option A)) (k : ℕ) → mask_byte (flags_in (take 8 (drop (8 * k) values))) ≡ part (flags_in values) k
-part_is values k = ap mask_byte (sym (take-map is_none 8 (drop (8 * k) values)) ∙ ap (take 8) (sym (drop-map is_none (8 * k) values)))
+-- the flags of the eight values from 8 * k on
+abbrev pub eight : List Bool → ℕ → List Bool
+eight flags k = take 8 (drop (8 * k) flags)
+
+pub length-eight : (flags : List Bool) (k few : ℕ) → 8 * k ≤ length flags → few ≡ min (length flags - 8 * k) 8 → length (eight flags k) ≡ few
+length-eight flags k few h is = omega (arith, is, length-take 8 (drop (8 * k) flags), length-drop (8 * k) flags)
+
+-- their byte, of one flag more
+pub byte_more : (flags : List Bool) (k i : ℕ) → i < length (eight flags k) → bit (get_or flags (8 * k + i) false) + 2 * mask_byte (drop (i + 1) (eight flags k)) ≡ mask_byte (drop i (eight flags k))
+byte_more flags k i h =
+    ap (λ b. bit b + 2 * mask_byte (drop (i + 1) (eight flags k))) (sym (flag_of_part flags k i (omega (arith, length-take 8 (drop (8 * k) flags)))))
+    ∙ ap mask_byte (sym (drop_more (eight flags k) i false h))
+
+-- and of no flag
+pub byte_none : (flags : List Bool) (k : ℕ) → mask_byte (drop (length (eight flags k)) (eight flags k)) ≡ 0
+byte_none flags k = ap mask_byte (drop_all (length (eight flags k)) (eight flags k) (omega arith))
+
+-- seven flags leave room for one more
+pub byte_small : (flags : List Bool) (k i : ℕ) → 0 < i → mask_byte (drop i (eight flags k)) < 128
+byte_small flags k i h =
+    let rest = drop i (eight flags k) in
+    let wider : 2 ^ length rest ≤ 2 ^ 7 = pow-le-pow_right {n = 2} (omega arith) {i = length rest} {j = 7} (omega (arith, length-drop i (eight flags k), length-take 8 (drop (8 * k) flags))) in
+    omega (arith, mask_byte-lt rest)
 
 pub mask_is_parts : (flags : List Bool) → mask_bytes flags ≡ map (part flags) (range_with_len 0 ((length flags + 7) / 8))
 unfolding mask_bytes

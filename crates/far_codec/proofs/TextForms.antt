@@ -206,7 +206,7 @@ pub record HasTextParts (mask fields : List ℕ) (count : ℕ) (texts : Texts) :
   pub mask_is : mask ≡ mask_of (map is_none texts)
   pub fields_are : fields ≡ flat_map (to_le_bytes w32) (ends_of texts) ++ flat_map bytes_of texts
 
-pub parts_in : (mask fields front body : List ℕ) (count : ℕ) (texts : Texts) (words : List (List ℕ)) → AreTexts texts → HasTextParts mask fields count texts → front ≡ take (4 * count) fields → body ≡ drop (4 * count) fields → words ≡ first_chunks 4 (length front / 4) front → (ends_in words ≡ ends_of texts) × (body ≡ flat_map bytes_of texts)
+pub parts_in : (mask fields front body : List ℕ) (count : ℕ) (texts : Texts) (words : List (List ℕ)) → AreTexts texts → HasTextParts mask fields count texts → front ≡ take (4 * count) fields → body ≡ drop (4 * count) fields → words ≡ first_chunks 4 (length front / 4) front → (ends_in words ≡ ends_of texts) × (body ≡ flat_map bytes_of texts) × (words ≡ map (to_le_bytes w32) (ends_in words))
 parts_in mask fields front body count texts words are parts front_is body_is is =
     let ends = ends_of texts in
     let end_bytes = flat_map (to_le_bytes w32) ends in
@@ -216,4 +216,5 @@ parts_in mask fields front body count texts words are parts front_is body_is is 
     let body_same : body ≡ texts_bytes = body_is ∙ ap (drop (4 * count)) parts.fields_are ∙ drop_at end_bytes texts_bytes (4 * count) many in
     let count_front : length front / 4 ≡ length ends = omega (arith, ap length front_same, many, length-ends_of texts, parts.count_is) in
     let words_are : words ≡ map (to_le_bytes w32) ends = is ∙ ap (λ k. first_chunks 4 k front) count_front ∙ ap (first_chunks 4 (length ends)) front_same ∙ chunks_again 4 (to_le_bytes w32) (λ e. refl) ends in
-    (ap ends_in words_are ∙ ends_again texts are, body_same)
+    let ends_are_read = ap ends_in words_are ∙ ends_again texts are in
+    (ends_are_read, body_same, words_are ∙ ap (map (to_le_bytes w32)) (sym ends_are_read))

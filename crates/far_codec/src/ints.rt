@@ -105,7 +105,7 @@ pub fn encode_ints(alloc: Global, numbers: &[Option<i64>]) -> Result<Vec<u8>, Re
         return Ok(form);
     }
     form.clear();
-    push_head(&mut form, 0, numbers)?;
+    push_head(&mut form, 0, &numbers)?;
     push_words(&mut form, numbers)?;
     Ok(form)
 }

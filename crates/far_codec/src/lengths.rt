@@ -41,7 +41,7 @@ fn mask_size(missing: bool, count: usize) -> usize
 }
 
 /// The length of the form of so many texts with so many bytes.
-fn length_of(missing: bool, count: usize, bytes: usize) -> usize
+pub(crate) fn length_of(missing: bool, count: usize, bytes: usize) -> usize
     requires few { count ≤ 2 ^ 32 }
     requires room { bytes < 2 ^ 63 + 2 ^ 33 }
     ensures { result ≡ 6 + cond missing ((count + 7) / 8) 0 + 4 * count + bytes }

@@ -2,7 +2,9 @@
 //! Far forms: how the values of one column and row group lie in the far store, and the elements of objects.
 
 mod bytes;
+mod changes;
 mod elem;
+mod flags;
 mod head;
 mod ints;
 mod lengths;
@@ -16,6 +18,7 @@ mod texts;
 mod values;
 mod words;
 
+pub use changes::{form_of, form_with, form_with_next};
 pub use elem::Elem;
 pub use ints::{encode_ints, ints_length};
 pub use lengths::{length_with, length_with_next};

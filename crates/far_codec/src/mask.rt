@@ -2,18 +2,19 @@
 ghost use Rattle.std.specs.Prelude.{◌≡◌, true, ◌++◌, ◌+◌, ◌*◌, ◌/◌, ◌<◌, ◌≤◌, ◌^◌, ℕ, List, length, map, take, drop, cond, is_none, OnOk, IfSome, IsSomeAnd};
 ghost use Rattle.std.specs.List.{list_any};
 ghost use Rattle.far_types.specs.FormLengths.{mask_length};
-ghost use Rattle.far_codec.specs.FarForm.{mask_byte, mask_bytes, head};
+ghost use Rattle.far_codec.specs.FarForm.{mask_byte, mask_bytes, head, some_missing};
 
+use crate::flags::Flags;
 use crate::head::has_bit;
 use std::alloc::AllocError;
 
 /// Whether a value is missing.
-fn any_missing<T>(values: &[Option<T>]) -> bool
-    ensures { result ≡ list_any is_none values.now }
+fn any_missing<F: Flags>(flags: &F) -> bool
+    ensures { result ≡ some_missing (F.flags flags.now) }
 {
     let mut missing = false;
-    for value in values {
-        missing |= value.is_none();
+    for i in 0..flags.count() {
+        missing |= flags.is_missing(i);
     }
     missing
 }
@@ -22,7 +23,7 @@ fn any_missing<T>(values: &[Option<T>]) -> bool
 pub(crate) fn mask_length<T>(values: &[Option<T>]) -> usize
     ensures { result ≡ mask_length values.now }
 {
-    if any_missing(values) {
+    if any_missing(&values) {
         values.len().div_ceil(8)
     } else {
         0
@@ -36,50 +37,36 @@ fn version(masked: bool) -> u8
     if masked { 2 } else { 1 }
 }
 
-/// The mask byte of up to eight values.
-fn mask_byte<T>(values: &[Option<T>]) -> u8
-    requires { length values.now ≤ 8 }
-    ensures { result ≡ mask_byte (map is_none values.now) }
+/// The mask byte of the eight values from `8 * k` on.
+fn byte_at<F: Flags>(flags: &F, k: usize) -> u8
+    requires { 8 * k ≤ length (F.flags flags.now) }
+    ensures { result ≡ mask_byte (take 8 (drop (8 * k) (F.flags flags.now))) }
 {
     let mut byte = 0;
-    let mut i = values.len();
+    let mut i = (flags.count() - 8 * k).min(8);
     while i > 0 {
         i -= 1;
-        byte = 2 * byte + u8::from(values[i].is_none());
+        byte = 2 * byte + u8::from(flags.is_missing(8 * k + i));
     }
     byte
 }
 
-/// The mask byte of the eight values from `8 * k` on.
-fn byte_at<T>(values: &[Option<T>], k: usize) -> u8
-    requires { 8 * k ≤ length values.now }
-    ensures { result ≡ mask_byte (map is_none (take 8 (drop (8 * k) values.now))) }
-{
-    let (_, from) = values.split_at(8 * k);
-    let (chunk, _) = from.split_at(from.len().min(8));
-    mask_byte(chunk)
-}
-
 /// Appends the mask of values of which one is missing.
-fn push_mask<T>(form: &mut Vec<u8>, values: &[Option<T>]) -> Result<(), AllocError>
-    ensures { OnOk result (form.new.items ≡ form.old.items ++ mask_bytes (map is_none values.now)) }
+fn push_mask<F: Flags>(form: &mut Vec<u8>, flags: &F) -> Result<(), AllocError>
+    ensures { OnOk result (form.new.items ≡ form.old.items ++ mask_bytes (F.flags flags.now)) }
 {
-    for k in 0..values.len().div_ceil(8) {
-        form.push(byte_at(values, k))?;
+    for k in 0..flags.count().div_ceil(8) {
+        form.push(byte_at(flags, k))?;
     }
     Ok(())
 }
 
 /// Appends the head and the mask of values.
-pub(crate) fn push_head<T>(
-    form: &mut Vec<u8>,
-    kind: u8,
-    values: &[Option<T>],
-) -> Result<(), AllocError>
-    ensures { OnOk result (form.new.items ≡ form.old.items ++ head kind (map is_none values.now)) }
+pub(crate) fn push_head<F: Flags>(form: &mut Vec<u8>, kind: u8, flags: &F) -> Result<(), AllocError>
+    ensures { OnOk result (form.new.items ≡ form.old.items ++ head kind (F.flags flags.now)) }
 {
-    let count = values.len().to_le_bytes();
-    let masked = any_missing(values);
+    let count = flags.count().to_le_bytes();
+    let masked = any_missing(flags);
     form.extend_from_slice(&[
         version(masked),
         kind,
@@ -89,7 +76,7 @@ pub(crate) fn push_head<T>(
         count[3],
     ])?;
     if masked {
-        push_mask(form, values)?;
+        push_mask(form, flags)?;
     }
     Ok(())
 }
@@ -105,7 +92,7 @@ fn strip_mask<'a, T>(bytes: &'a [u8], values: &[Option<T>]) -> Option<&'a [u8]>
     }
     let (mask, rest) = bytes.split_at(length);
     for k in 0..length {
-        if mask[k] != byte_at(values, k) {
+        if mask[k] != byte_at(&values, k) {
             return None;
         }
     }

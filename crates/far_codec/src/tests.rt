@@ -5,6 +5,8 @@ use std::alloc::Global;
 use std::process::Abort;
 use std::test::*;
 
+mod changes;
+
 const ONE_AND_MINUS_ONE: [u8; 22] = [
     1, 0, 2, 0, 0, 0, 1, 0, 0, 0, 0, 0, 0, 0, 255, 255, 255, 255, 255, 255, 255, 255,
 ];

@@ -77,7 +77,7 @@ pub fn encode_texts(alloc: Global, texts: &[Option<Text>]) -> Result<Vec<u8>, Re
     ensures memory { IfErr result (λ e. e ≡ Refusal.NoMemory) }
 {
     let mut form = Vec::with_capacity(alloc, texts_length(texts))?;
-    push_head(&mut form, 1, texts)?;
+    push_head(&mut form, 1, &texts)?;
     push_ends(&mut form, texts)?;
     push_texts(&mut form, texts)?;
     Ok(form)
@@ -105,6 +105,7 @@ pub(crate) fn mask_size(version: u8, count: usize) -> usize
 pub(crate) fn known_parts(form: &[u8]) -> TextParts<'_>
     requires { IsTextsForm form.now }
     ensures parts { AreTextParts result.mask.now (ends_in result.ends.now) result.body.now }
+    ensures words { result.ends.now ≡ map (to_le_bytes w32) (ends_in result.ends.now) }
     ensures same { texts_of result.mask.now (ends_in result.ends.now) result.body.now ≡ texts_meaning form.now }
 {
     let count = u32::from_le_bytes([form[2], form[3], form[4], form[5]]) as usize;

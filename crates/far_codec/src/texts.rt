@@ -18,14 +18,14 @@ pub(crate) struct TextParts<'a> {
 }
 
 /// The end that four bytes are.
-fn end_in(word: &[u8; 4]) -> usize
+pub(crate) fn end_in(word: &[u8; 4]) -> usize
     ensures { result ≡ from_le_bytes w32 word.now }
 {
     u32::from_le_bytes(*word) as usize
 }
 
 /// Where text `i` begins: where the one before it ends.
-fn start_in(ends: &[[u8; 4]], i: usize) -> usize
+pub(crate) fn start_in(ends: &[[u8; 4]], i: usize) -> usize
     requires { i ≤ length ends.now }
     ensures { result ≡ slice_index (0 ∷ ends_in ends.now) i }
 {

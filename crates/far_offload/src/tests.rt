@@ -91,12 +91,12 @@ fn text(alloc: Global, bytes: &str) -> Result<Text, Refusal>
     Ok(Text::new(String::from_str(alloc, bytes)?))
 }
 
-/// The aggregate of column 0 by the texts of column 1, over the rows that pass one test.
-fn by_text(alloc: Global, fold: Fold, test: Test) -> Result<Spec, Refusal> {
+/// The aggregate of column 0 by the keys of a column, over the rows that pass one test.
+fn by_column(alloc: Global, fold: Fold, key: u32, test: Test) -> Result<Spec, Refusal> {
     Ok(Spec {
         fold,
         value: 0,
-        key: Some(1),
+        key: Some(key),
         filter: Filter::new(Vec::from_array(alloc, [test])?),
     })
 }
@@ -110,12 +110,7 @@ fn lines(alloc: Global, done: &PartialDone) -> Result<Answer, Refusal> {
 }
 
 /// Six rows: two under `ab`, of which one has no value and one is dead, one under `b`, one under `ac`, one under no key.
-fn six_rows(
-    alloc: Global,
-    fold: Fold,
-    test: Test,
-    store: &impl FarStore,
-) -> Result<Answer, Refusal> {
+fn six_rows(alloc: Global, spec: Spec, store: &impl FarStore) -> Result<Answer, Refusal> {
     let numbers = [Some(3), Some(4), None, Some(5), Some(7), Some(9)];
     let texts = [
         Some(text(alloc, "ab")?),
@@ -126,7 +121,6 @@ fn six_rows(
         Some(text(alloc, "ac")?),
     ];
     let alive = Vec::from_array(alloc, [true, true, true, true, false, true])?;
-    let spec = by_text(alloc, fold, test)?;
     let (done, _) = carried(alloc, store, spec, &numbers, &texts, alive)?;
     lines(alloc, &done)
 }
@@ -197,7 +191,7 @@ fn rows_are_folded_under_their_texts(rt: HostRuntime) -> Result<(), Fail> {
     };
     let ab = Some(Key::Text(text(alloc, "ab")?));
     let ac = Some(Key::Text(text(alloc, "ac")?));
-    match six_rows(alloc, Fold::Totals, begins, &store)? {
+    match six_rows(alloc, by_column(alloc, Fold::Totals, 1, begins)?, &store)? {
         Answer::Totals(lines) => {
             assert!(rt; lines.as_slice() == [(ab, 1, 3), (ac, 1, 9)].as_slice())
         }
@@ -217,11 +211,46 @@ fn extrema_are_those_of_the_rows_that_pass(rt: HostRuntime) -> Result<(), Fail> 
     };
     let ac = Some(Key::Text(text(alloc, "ac")?));
     let b = Some(Key::Text(text(alloc, "b")?));
-    match six_rows(alloc, Fold::Extrema, at_least, &store)? {
+    match six_rows(alloc, by_column(alloc, Fold::Extrema, 1, at_least)?, &store)? {
         Answer::Totals(_) => assert!(rt; false),
         Answer::Extrema(lines) => {
             assert!(rt; lines.as_slice() == [(ac, 9, 9), (b, 4, 4)].as_slice())
         }
+    }
+    Ok(())
+}
+
+#[test]
+fn rows_are_folded_under_their_numbers(rt: HostRuntime) -> Result<(), Fail> {
+    let alloc = rt.alloc();
+    let store = AgentStore::new(&rt, alloc, 8)?;
+    let less = Test::Int {
+        column: 0,
+        op: Op::Lt,
+        value: 9,
+    };
+    let (three, four, five) = (Some(Key::Int(3)), Some(Key::Int(4)), Some(Key::Int(5)));
+    match six_rows(alloc, by_column(alloc, Fold::Totals, 0, less)?, &store)? {
+        Answer::Totals(lines) => {
+            assert!(rt; lines.as_slice() == [(three, 1, 3), (four, 1, 4), (five, 1, 5)].as_slice())
+        }
+        Answer::Extrema(_) => assert!(rt; false),
+    }
+    Ok(())
+}
+
+#[test]
+fn a_test_for_a_text_passes_that_text_alone(rt: HostRuntime) -> Result<(), Fail> {
+    let alloc = rt.alloc();
+    let store = AgentStore::new(&rt, alloc, 8)?;
+    let is = Test::TextIs {
+        column: 1,
+        text: text(alloc, "b")?,
+    };
+    let four = Some(Key::Int(4));
+    match six_rows(alloc, by_column(alloc, Fold::Extrema, 0, is)?, &store)? {
+        Answer::Totals(_) => assert!(rt; false),
+        Answer::Extrema(lines) => assert!(rt; lines.as_slice() == [(four, 4, 4)].as_slice()),
     }
     Ok(())
 }

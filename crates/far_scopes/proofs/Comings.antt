@@ -8,9 +8,10 @@ use Rattle.far_pointer.specs.declared.pointer.At.{At}
 use Rattle.far_pointer.specs.declared.pointer.Pointer.{Pointer}
 use Rattle.far_pointer.specs.declared.pointer.Pointer.TheVariants.{Local}
 use Rattle.far_pointer.specs.Layout.{is_dirty}
+use Rattle.far_scopes.specs.declared.entry.Entry.{Entry}
 use Rattle.far_scopes.specs.Recency.{has}
 use Rattle.far_scopes.specs.Memory.{Memory, list_in, ChangesList}
-use Rattle.far_scopes.specs.Movement.{Movement, word_of, entry_of, is_local, dirty, list_of, AreClean, IsTracked, AreTracked}
+use Rattle.far_scopes.specs.Movement.{Movement, word_of, entry_of, is_local, dirty, pins_of, list_of, AreClean, IsTracked, AreTracked}
 use Rattle.far_scopes.specs.Effects.{new_entry}
 use Rattle.far_scopes.proofs.WordPlaces.{slice_get-push_last, slice_get-push_other, place-push_last, place-push_other, place-end}
 use Rattle.far_scopes.proofs.RecencyLaws.{has-cons_same, has-cons_other}
@@ -44,6 +45,13 @@ module _ {X K : Type 0} (meaning : List ℕ → List X) (content : K → List �
     entries = slice_get-push_other m.entries (new_entry name (length list));
     lists = λ p ne. change.others p (apart p ne);
   }
+
+  -- it is local, and has no pin
+  pub last-made : (is_local with_one (length m.entries) ≡ true) × (pins_of with_one (length m.entries) ≡ 0)
+  last-made = (
+    rw (words, tracked.even) (ap is_some (place-push_last m.memory.words (Local at true true false))),
+    ap (λ e. option_map_or (λ (entry : Entry K). entry.pins) e 0) (slice_get-push_last m.entries (new_entry name (length list))),
+  )
 
   pub lists-made : ChangesList (list_of meaning content m) (list_of meaning content with_one) (length m.entries) (Some list)
   lists-made = list-one meaning content m with_one (length m.entries) others (Some list) (rw list-new refl)

@@ -1,13 +1,14 @@
 // Objects with their store, and the last job of each kind.
-ghost use Rattle.std.specs.Prelude.{◌<◌, ℕ, List, length, IsTrue, IsOk, IfOk};
+ghost use Rattle.std.specs.Prelude.{◌≡◌, ◌<◌, ◌^◌, ℕ, List, length, All, IsTrue, IsOk, IfOk, OnOk};
 ghost use Rattle.far_scopes.specs.Movement.{AreClean, AreHere};
+ghost use Rattle.far_scopes.specs.Replacing.{AreListedOnce};
 ghost use Rattle.far_evacuator.specs.Jobs.{IsFormOf};
 ghost use Rattle.far_evacuator.specs.Beginning.{IsWanted};
 
 use crate::{Carried, EvacJob, FetchJob, Fetched, Want, begin_evac, begin_fetch, commit, install};
 use far_codec::{Elem, kind_of};
 use far_pointer::Pointer;
-use far_scopes::Objects;
+use far_scopes::{Objects, Replacement, Scope};
 use far_store::{FarStore, Meter};
 use far_types::{Kind, Name, Refusal};
 use std::alloc::Global;
@@ -136,6 +137,55 @@ impl<'a, T: Sample, S: FarStore> Desk<'a, T, S> {
             Err(Refusal::NoMemory) => self.objects.replace(o, list),
             reply => reply,
         }
+    }
+
+    /// Unmakes the last object where it is local and has no pin.
+    pub fn uncreate(&mut self) -> Result<(), Refusal> {
+        let count = self.objects.count();
+        if count == 0 {
+            return Err(Refusal::NoRow);
+        }
+        let o = count - 1;
+        self.objects.lend(o)?;
+        if self.objects.pins(o) > 0 {
+            return Err(Refusal::Pinned);
+        }
+        self.objects.uncreate();
+        Ok(())
+    }
+
+    /// Gives two objects other lists, both or none.
+    pub fn replace_both(
+        &mut self,
+        alloc: Global,
+        objects: [u32; 2],
+        first: &[T],
+        second: &[T],
+    ) -> Result<(), Refusal> {
+        self.in_use(objects[0])?;
+        self.in_use(objects[1])?;
+        if objects[0] == objects[1] || first.is_empty() || second.is_empty() {
+            return Err(Refusal::RowWidth);
+        }
+        let lists = [
+            Replacement {
+                object: objects[0],
+                list: first.to_vec(alloc)?,
+            },
+            Replacement {
+                object: objects[1],
+                list: second.to_vec(alloc)?,
+            },
+        ];
+        replace_both(&mut self.objects, &lists)
+    }
+
+    /// Pins three listings together, unpins the first once, and closes the scope: how many pins it took back.
+    pub fn pin_together(&mut self, alloc: Global, listed: [u32; 3]) -> Result<u32, Refusal> {
+        self.in_use(listed[0])?;
+        self.in_use(listed[1])?;
+        self.in_use(listed[2])?;
+        pin_together(&mut self.objects, alloc, listed[0], &listed)
     }
 
     pub fn pin(&mut self, o: u32) -> Result<(), Refusal> {
@@ -338,6 +388,69 @@ fn write_over<T: Sample, S: FarStore>(
         lent.copy_from_slice(list);
     }
     Ok(())
+}
+
+// Gives listed objects other lists, and tries again where that is refused.
+fn replace_both<T: Sample, S: FarStore>(
+    objects: &mut Objects<T, S>,
+    lists: &[Replacement<T>],
+) -> Result<(), Refusal>
+    requires some { All (λ r. 0 < length r.list.items) lists.now }
+    requires within { All (λ r. r.object < length objects.old.entries) lists.now }
+    requires once { AreListedOnce lists.now }
+    ensures clean { AreClean T.meaning S.content objects.old → AreClean T.meaning S.content objects.new }
+    ensures store { (name : List ℕ) → AreHere S.is_of name objects.old → AreHere S.is_of name objects.new }
+{
+    match objects.replace_all(lists) {
+        Ok(()) => Ok(()),
+        Err(_) => objects.replace_all(lists),
+    }
+}
+
+// Pins listed objects, and tries again where that is refused.
+fn enter_again<T: Sample, S: FarStore>(
+    objects: &mut Objects<T, S>,
+    alloc: Global,
+    listed: &[u32],
+) -> Result<Scope, Refusal>
+    requires within { All (λ o. o < length objects.old.entries) listed.now }
+    requires few { length listed.now < 2 ^ 32 }
+    ensures scope { IfOk result (λ scope. scope ≡ listed.now) }
+    ensures count { OnOk result (length objects.new.entries ≡ length objects.old.entries) }
+    ensures clean { AreClean T.meaning S.content objects.old → AreClean T.meaning S.content objects.new }
+    ensures store { (name : List ℕ) → AreHere S.is_of name objects.old → AreHere S.is_of name objects.new }
+{
+    match objects.enter(alloc, listed) {
+        Ok(scope) => Ok(scope),
+        Err(_) => Ok(objects.enter(alloc, listed)?),
+    }
+}
+
+// Takes back a pin.
+fn unpin_one<T: Sample, S: FarStore>(objects: &mut Objects<T, S>, o: u32)
+    requires within { o < length objects.old.entries }
+    ensures count { length objects.new.entries ≡ length objects.old.entries }
+    ensures clean { AreClean T.meaning S.content objects.old → AreClean T.meaning S.content objects.new }
+    ensures store { (name : List ℕ) → AreHere S.is_of name objects.old → AreHere S.is_of name objects.new }
+{
+    objects.unpin(o).ok();
+}
+
+fn pin_together<T: Sample, S: FarStore>(
+    objects: &mut Objects<T, S>,
+    alloc: Global,
+    first: u32,
+    listed: &[u32],
+) -> Result<u32, Refusal>
+    requires first { first < length objects.old.entries }
+    requires within { All (λ o. o < length objects.old.entries) listed.now }
+    requires few { length listed.now < 2 ^ 32 }
+    ensures clean { AreClean T.meaning S.content objects.old → AreClean T.meaning S.content objects.new }
+    ensures store { (name : List ℕ) → AreHere S.is_of name objects.old → AreHere S.is_of name objects.new }
+{
+    let scope = enter_again(objects, alloc, listed)?;
+    unpin_one(objects, first);
+    Ok(objects.close(scope))
 }
 
 fn begin_spelled<T: Sample, S: FarStore>(

@@ -1,4 +1,6 @@
 // Plain objects: what each call should answer, and what each object should be then.
+mod several;
+
 use super::desk::{Limits, Record};
 use crate::Want;
 use far_types::Refusal;
@@ -151,11 +153,7 @@ impl<T: Copy + Drop + PartialEq> Plains<T> {
         self.local(o)?;
         let place = self.room_for(list.len())?;
         self.may_write(o)?;
-        self.mark(o)?;
-        let object = self.object_mut(o)?;
-        object.list = list.to_vec(alloc)?;
-        object.place = Some(place);
-        Ok(())
+        self.settle(o, list.to_vec(alloc)?, place)
     }
 
     pub fn pin(&mut self, o: u32) -> Result<(), Refusal> {
@@ -388,6 +386,15 @@ impl<T: Copy + Drop + PartialEq> Plains<T> {
         } else {
             Err(Refusal::EditsUsedUp)
         }
+    }
+
+    // The object has another list, at another place.
+    fn settle(&mut self, o: u32, list: Vec<T>, place: Place) -> Result<(), Refusal> {
+        self.mark(o)?;
+        let object = self.object_mut(o)?;
+        object.list = list;
+        object.place = Some(place);
+        Ok(())
     }
 
     // The object was written.

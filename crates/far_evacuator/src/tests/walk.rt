@@ -87,7 +87,7 @@ impl<'a, T: Drawn, S: FarStore> Walk<'a, T, S> {
     fn step(&mut self, alloc: Global, draws: &mut Draws) -> Result<Step, Refusal> {
         let o = draws.below(self.plains.count().saturating_add(1));
         let (desk, plains) = (&mut self.desk, &mut self.plains);
-        Ok(match draws.below(26) {
+        Ok(match draws.below(31) {
             0 if plains.count() < OBJECTS => {
                 let list = T::draw(alloc, draws)?;
                 Step::numbered(desk.create(&list), plains.create(alloc, &list))
@@ -119,6 +119,22 @@ impl<'a, T: Drawn, S: FarStore> Walk<'a, T, S> {
             18..=20 => Step(desk.commit(), plains.commit()),
             21 | 22 => Step(desk.begin_fetch(o), plains.begin_fetch(o)),
             23 => Step(desk.carry_fetch(alloc), plains.carry_fetch()),
+            24 => Step(desk.uncreate(), plains.uncreate()),
+            25 | 26 => {
+                let objects = [o, draws.below(plains.count().saturating_add(1))];
+                let (first, second) = (T::draw(alloc, draws)?, T::draw(alloc, draws)?);
+                Step(
+                    desk.replace_both(alloc, objects, &first, &second),
+                    plains.replace_both(alloc, objects, &first, &second),
+                )
+            }
+            27 | 28 => {
+                let listed = [o, draws.below(plains.count()), o];
+                Step::numbered(
+                    desk.pin_together(alloc, listed),
+                    plains.pin_together(listed),
+                )
+            }
             _ => Step(desk.install(alloc), plains.install()),
         })
     }

@@ -1,6 +1,6 @@
 // Objects that are made, and the last one unmade.
-ghost use Rattle.std.specs.Prelude.{◌≡◌, ◌-◌, ◌<◌, ◌^◌, ◌↔◌, ◌⊎◌, length, false, true, Some, None, OnOk, OnErr, IfOk, IfErr, IsErrOf, ℕ, List};
-ghost use Rattle.far_log.specs.Room.{fits_in};
+ghost use Rattle.std.specs.Prelude.{◌≡◌, ◌-◌, ◌<◌, ◌^◌, ◌↔◌, ◌⊎◌, ◌∷◌, length, false, true, Some, None, OnOk, OnErr, IfOk, IfErr, IsErrOf, ℕ, List};
+ghost use Rattle.far_log.specs.Room.{fits_in, spaces_of, fit_in_order};
 ghost use Rattle.far_scopes.specs.Memory.{ChangesList};
 ghost use Rattle.far_scopes.specs.Movement.{list_of, AreClean, is_local, pins_of, AreHere, ChangesObject};
 ghost use Rattle.far_scopes.specs.Effects.{created, uncreated};
@@ -12,7 +12,8 @@ use far_types::{Name, Refusal};
 
 impl<T: Elem, S: FarRead> Objects<T, S> {
     /// Makes an object of this list, and answers its number, which is the next: it is local, dirty, hot and used last,
-    /// and was never written, away or pinned. `uncreate` undoes it (`undone`).
+    /// and was never written, away or pinned. `uncreate` undoes it (`undone`). Lists of further lengths that found room in
+    /// order behind this one still do (`next`).
     ///
     /// Refused with `RegionFull` (17) exactly where no segment has the space, else with `NoMemory` (1) alone; then nothing
     /// is changed.
@@ -23,6 +24,8 @@ impl<T: Elem, S: FarRead> Objects<T, S> {
         ensures created { OnOk result (self.new ≡ created self.old name items.now) }
         ensures list { OnOk result (ChangesList (list_of T.meaning S.content self.old) (list_of T.meaning S.content self.new) (length self.old.entries) (Some items.now)) }
         ensures undone { OnOk result (uncreated self.new ≡ self.old) }
+        ensures last { OnOk result ((is_local self.new (length self.old.entries) ≡ true) × (pins_of self.new (length self.old.entries) ≡ 0)) }
+        ensures next { OnOk result ((lens : List ℕ) → fit_in_order (spaces_of self.old.memory.room) (length items.now ∷ lens) ≡ fit_in_order (spaces_of self.new.memory.room) lens) }
         ensures clean { AreClean T.meaning S.content self.old → AreClean T.meaning S.content self.new }
         ensures others { OnOk result (ChangesObject self.old self.new (length self.old.entries)) }
         ensures store { (name : List ℕ) → AreHere S.is_of name self.old → AreHere S.is_of name self.new }

@@ -40,8 +40,12 @@ impl<T: Elem, S: FarRead> Objects<T, S> {
         Ok(())
     }
 
-    // Whether an object may get a list of so many elements. Takes no memory.
-    fn may_replace(&self, o: u32, len: usize) -> Result<(), Refusal>
+    /// Whether an object may get another list, of so many elements. Takes no memory.
+    ///
+    /// Refused as `replace` is, but never for want of memory: with `Absent` (16) exactly where the object is away, else
+    /// with `RegionFull` (17) exactly where no segment has the space, else with `EditsUsedUp` (24) exactly where it was
+    /// written as often as objects may be.
+    pub fn may_replace(&self, o: u32, len: usize) -> Result<(), Refusal>
         requires { o < length self.now.entries }
         ensures { refusal_in result ≡ replace_refusal self.now o len }
     {

@@ -16,6 +16,32 @@ fn pins_given_back<S: FarRead>(alloc: Global, store: &S) -> Result<u32, Refusal>
     Ok(objects.close(scope))
 }
 
+/// Pins an object so many times, where there is such an object.
+fn pin_often<S: FarRead>(
+    objects: &mut Objects<i64, S>,
+    o: u32,
+    times: u32,
+) -> Result<(), Refusal> {
+    for _ in 0..times {
+        if o >= objects.count() {
+            return Err(Refusal::NoRow);
+        }
+        objects.pin(o)?;
+    }
+    Ok(())
+}
+
+/// How many pins an object has that was pinned 65,535 times, and why it gets no more.
+fn pinned_out<S: FarRead>(alloc: Global, store: &S) -> Result<(u32, Option<Refusal>), Refusal> {
+    let mut objects: Objects<i64, S> = empty(alloc, store)?;
+    objects.create(name_of(0), &[1])?;
+    pin_often(&mut objects, 0, 65_535)?;
+    if objects.count() == 0 {
+        return Err(Refusal::NoRow);
+    }
+    Ok((objects.pins(0), objects.pin(0).err()))
+}
+
 /// The list of an object that was written twice, and why a third write is refused.
 fn written_out<S: FarRead>(
     alloc: Global,
@@ -56,6 +82,15 @@ fn entered_with_one_away<S: FarStore>(
 fn a_scope_gives_back_a_pin_for_each_listing(rt: HostRuntime) -> Result<(), Fail> {
     let store = AgentStore::new(&rt, rt.alloc(), 4)?;
     assert_eq!(rt; pins_given_back(rt.alloc(), &store)?, 3);
+    Ok(())
+}
+
+#[test]
+fn an_object_takes_65535_pins(rt: HostRuntime) -> Result<(), Fail> {
+    let store = AgentStore::new(&rt, rt.alloc(), 4)?;
+    let (pins, refused) = pinned_out(rt.alloc(), &store)?;
+    assert_eq!(rt; pins, 65_535);
+    assert_eq!(rt; refused, Some(Refusal::EditsUsedUp));
     Ok(())
 }
 

@@ -6,7 +6,7 @@ use Rattle.far_codec.specs.FarForm.{mask_bytes}
 use Rattle.far_codec.specs.MaskLaws.{part}
 use Rattle.far_codec.proofs.Masks.{is_set}
 use Rattle.far_codec.proofs.MaskBits.{bytes_tell}
-use Rattle.far_codec.proofs.MaskWriting.{flags_in, missing_any, part_is, mask_len, mask_same, mask_front, mask_back, front_byte}
+use Rattle.far_codec.proofs.MaskWriting.{flags_in, missing_any, mask_len, mask_same, mask_front, mask_back, front_byte}
 use Rattle.far_codec.proofs.mask.strip_mask.Goals as goal
 use borrow.Author.Count.{below_more}
 
@@ -20,13 +20,13 @@ returns-then-mask-k-clause-only g c rest e any =
     let len = c.div_ceil-length.result in
     let k = c.loop-k.k in
     let front = mask_front values c.args.bytes.now c.split_at.result.0.now rest len c.div_ceil-length.ensures e c.split_at.ensures.front in
-    absurd (c.if-mask-k.true (front_byte values c.split_at.result.0.now len k c.div_ceil-length.ensures front c.loop-k-test.true ∙ sym (c.byte_at.ensures ∙ part_is values k)))
+    absurd (c.if-mask-k.true (front_byte values c.split_at.result.0.now len k c.div_ceil-length.ensures front c.loop-k-test.true ∙ sym (c.byte_at.ensures)))
 
 pub loop-k-preserved : goal.loop-k-preserved
 loop-k-preserved g c =
     let values = c.args.values.now in
     let k = c.loop-k.k in
-    below_more (λ j. get_or c.split_at.result.0.now j 0 ≡ part (flags_in values) j) k c.loop-k.invariant (c.if-mask-k.false ∙ c.byte_at.ensures ∙ part_is values k)
+    below_more (λ j. get_or c.split_at.result.0.now j 0 ≡ part (flags_in values) j) k c.loop-k.invariant (c.if-mask-k.false ∙ c.byte_at.ensures)
 
 -- the mask has a bit where a value is missing
 pub returns-then-not-has_bit-clause-only : goal.returns-then-not-has_bit-clause-only

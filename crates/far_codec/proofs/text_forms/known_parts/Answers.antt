@@ -79,6 +79,16 @@ returns-clause-parts c =
     let same = parts_in c.split_at-2.result.0.now c.split_at-2.result.1.now c.split_at-3.result.0.now c.split_at-3.result.1.now count (texts_meaning form) c.as_chunks.result.0.now c.requires.texts parts c.split_at-3.ensures.front c.split_at-3.ensures.back c.as_chunks.ensures.front in
     rw (parts.mask_is, same.0, same.1) (parts_of_form (texts_meaning form) c.requires.texts)
 
+pub returns-clause-words : goal.returns-clause-words
+returns-clause-words c =
+    let form = c.args.form.now in
+    let count = c.from_le_bytes-count.result in
+    let many = count_is form count c.requires c.from_le_bytes-count.ensures in
+    let size = size_is form count c.mask_size.result c.requires many c.mask_size.ensures in
+    let parts = known form c.split_at.result.1.now c.split_at-2.result.0.now c.split_at-2.result.1.now count c.mask_size.result c.requires c.split_at.ensures.back c.split_at-2.ensures.front c.split_at-2.ensures.back many size in
+    let same = parts_in c.split_at-2.result.0.now c.split_at-2.result.1.now c.split_at-3.result.0.now c.split_at-3.result.1.now count (texts_meaning form) c.as_chunks.result.0.now c.requires.texts parts c.split_at-3.ensures.front c.split_at-3.ensures.back c.as_chunks.ensures.front in
+    same.2
+
 pub returns-clause-same : goal.returns-clause-same
 returns-clause-same c =
     let form = c.args.form.now in

@@ -1,7 +1,8 @@
-use Rattle.std.proofs.Common.{◌≡◌, ◌<◌, ◌^◌, length, sym, ap, subst}
+use Rattle.std.proofs.Common.{◌≡◌, ◌<◌, ◌^◌, length, sym, ap, subst, ◌∙◌}
 use Rattle.far_scopes.specs.Placing.{removed}
 use Rattle.far_scopes.proofs.Undone.{uncreated-created}
-use Rattle.far_scopes.proofs.Comings.{tracked-made, lists-made, clean-made}
+use Rattle.far_scopes.proofs.Comings.{tracked-made, lists-made, clean-made, last-made}
+use Rattle.far_scopes.proofs.FitsAll.{fits-next}
 use Rattle.far_scopes.proofs.objects.Objects.create.Goals as goal
 
 pub invariant_of-self-2 : goal.invariant_of-self-2
@@ -17,3 +18,9 @@ pub returns-clause-undone : goal.returns-clause-undone
 returns-clause-undone g c =
     let back = subst (λ memory. removed memory ≡ c.self.inside.memory) c.in_default.ensures.ok c.in_default.ensures.undone in
     rw (← c.self.view_is, c.push_reserved.ensures.items, c.in_ok-add.ensures.ok, c.len-o.ensures, c.reserve.new.self.ok.0, c.reserve.ensures.items, c.in_default.ensures.ok) (uncreated-created _ c.args.name c.args.items.now back)
+
+pub returns-clause-last : goal.returns-clause-last
+returns-clause-last g c = rw (← c.self.view_is, c.push_reserved.ensures.items, c.reserve.ensures.items) (last-made g.T.Elem.meaning g.S.FarRead.content _ _ c.self.invariant c.add-2.new.self _ c.args.name c.args.items.now (ap (λ m. m.words) c.in_default.ensures.ok) c.in_default.ensures.list)
+
+pub returns-clause-next : goal.returns-clause-next
+returns-clause-next g c = λ lens. rw (← c.self.view_is, c.in_default.ensures.ok) (fits-next c.self.inside.memory.room c.args.items.now lens (sym c.fits.ensures ∙ c.if-not-fits.false))

@@ -1,0 +1,163 @@
+// Far forms of texts made from the form before one of them changed, in one pass.
+ghost use Rattle.std.specs.Prelude.{◌≡◌, ◌++◌, ◌∷◌, ◌+◌, ◌-◌, ◌<◌, ◌≤◌, ◌^◌, [], List, length, map, slice_set, All, OnOk, IfOk, IfErr, IfSome};
+ghost use Rattle.std.specs.List.{flat_map};
+ghost use Rattle.std.specs.Int.{w32, to_le_bytes};
+ghost use Rattle.std.specs.Str.{IsUtf8};
+ghost use Rattle.far_types.specs.FormLengths.{text_bytes, texts_length};
+ghost use Rattle.far_codec.specs.Changes.{with_text};
+ghost use Rattle.far_codec.specs.TextForm.{bytes_of, ends_of, texts_of, ends_in, texts_meaning, AreTexts, AreTextParts, IsTextsForm};
+
+use crate::flags::ChangedFlags;
+use crate::lengths::{length_of, length_with, length_with_next};
+use crate::mask::push_head;
+use crate::text_forms::{bytes_in, known_parts};
+use crate::texts::{TextParts, end_in, start_in};
+use far_types::{Refusal, Text};
+use std::alloc::{AllocError, Global};
+
+/// Appends ends that were counted from one byte, counted from another.
+fn push_moved(
+    form: &mut Vec<u8>,
+    ends: &[[u8; 4]],
+    from: usize,
+    to: usize,
+) -> Result<(), AllocError>
+    requires { All (λ end. (from ≤ end) × (end - from + to < 2 ^ 32)) (ends_in ends.now) }
+    ensures { OnOk result (form.new.items ≡ form.old.items ++ flat_map (to_le_bytes w32) (map (λ end. end - from + to) (ends_in ends.now))) }
+{
+    for word in ends {
+        let end = end_in(word) - from + to;
+        form.extend_from_slice(&(end as u32).to_le_bytes())?;
+    }
+    Ok(())
+}
+
+/// Appends the ends and the bytes of the texts of which text `i` is this one. What stands before it and behind it is
+/// copied as it lies, but for the ends behind it.
+fn push_fields(
+    form: &mut Vec<u8>,
+    parts: TextParts<'_>,
+    i: usize,
+    text: &Option<Text>,
+) -> Result<(), AllocError>
+    requires parts { AreTextParts parts.mask.now (ends_in parts.ends.now) parts.body.now }
+    requires words { parts.ends.now ≡ map (to_le_bytes w32) (ends_in parts.ends.now) }
+    requires there { i ≤ length parts.ends.now }
+    requires room { text_bytes (with_text (texts_of parts.mask.now (ends_in parts.ends.now) parts.body.now) i text.now) < 2 ^ 32 }
+    ensures utf8 { IfSome text.now IsUtf8 }
+    ensures written { let texts = with_text (texts_of parts.entry.mask.now (ends_in parts.entry.ends.now) parts.entry.body.now) i text.now in OnOk result (form.new.items ≡ form.old.items ++ (flat_map (to_le_bytes w32) (ends_of texts) ++ flat_map bytes_of texts)) }
+{
+    let after = (i + 1).min(parts.ends.len());
+    let start = start_in(parts.ends, i);
+    let old_end = start_in(parts.ends, after);
+    let bytes = bytes_in(text);
+    let end = start + bytes.len();
+    let (ends_before, _) = parts.ends.split_at(i);
+    let (_, ends_behind) = parts.ends.split_at(after);
+    let (before, _) = parts.body.split_at(start);
+    let (_, behind) = parts.body.split_at(old_end);
+    form.extend_from_slice(ends_before.as_flattened())?;
+    form.extend_from_slice(&(end as u32).to_le_bytes())?;
+    push_moved(form, ends_behind, old_end, end)?;
+    form.extend_from_slice(before)?;
+    form.extend_from_slice(bytes)?;
+    form.extend_from_slice(behind)?;
+    Ok(())
+}
+
+/// The far form of the texts of which text `i` is this one. It has so many bytes.
+fn form_around(
+    alloc: Global,
+    parts: TextParts<'_>,
+    i: usize,
+    text: &Option<Text>,
+    size: usize,
+) -> Result<Vec<u8>, Refusal>
+    requires parts { AreTextParts parts.mask.now (ends_in parts.ends.now) parts.body.now }
+    requires words { parts.ends.now ≡ map (to_le_bytes w32) (ends_in parts.ends.now) }
+    requires texts { AreTexts (texts_of parts.mask.now (ends_in parts.ends.now) parts.body.now) }
+    requires there { i ≤ length parts.ends.now }
+    requires room { texts_length (with_text (texts_of parts.mask.now (ends_in parts.ends.now) parts.body.now) i text.now) < 2 ^ 32 }
+    ensures form { IfOk result (λ new. IsTextsForm new.items) }
+    ensures texts { let texts = with_text (texts_of parts.entry.mask.now (ends_in parts.entry.ends.now) parts.entry.body.now) i text.now in IfOk result (λ new. texts_meaning new.items ≡ texts) }
+    ensures length { let texts = with_text (texts_of parts.entry.mask.now (ends_in parts.entry.ends.now) parts.entry.body.now) i text.now in IfOk result (λ new. length new.items ≡ texts_length texts) }
+    ensures memory { IfErr result (λ e. e ≡ Refusal.NoMemory) }
+{
+    let flags = ChangedFlags {
+        mask: parts.mask,
+        count: parts.ends.len().max(i + 1),
+        i,
+        missing: text.is_none(),
+    };
+    let mut form = Vec::with_capacity(alloc, size)?;
+    push_head(&mut form, 1, &flags)?;
+    push_fields(&mut form, parts, i, text)?;
+    Ok(form)
+}
+
+/// The far form of texts once text `i` is this one: one pass over the old form, one allocation. Refused with
+/// `NoMemory` (1) alone.
+pub fn form_with(
+    alloc: Global,
+    form: &[u8],
+    i: usize,
+    text: &Option<Text>,
+) -> Result<Vec<u8>, Refusal>
+    requires form { IsTextsForm form.now }
+    requires there { i < length (texts_meaning form.now) }
+    requires room { texts_length (slice_set (texts_meaning form.now) i text.now) < 2 ^ 32 }
+    ensures form { IfOk result (λ new. IsTextsForm new.items) }
+    ensures texts { IfOk result (λ new. texts_meaning new.items ≡ slice_set (texts_meaning form.now) i text.now) }
+    ensures length { IfOk result (λ new. length new.items ≡ texts_length (slice_set (texts_meaning form.now) i text.now)) }
+    ensures memory { IfErr result (λ e. e ≡ Refusal.NoMemory) }
+{
+    form_around(
+        alloc,
+        known_parts(form),
+        i,
+        text,
+        length_with(form, i, text),
+    )
+}
+
+/// The far form of texts once this text stands behind the others: one pass over the old form, one allocation. Refused
+/// with `NoMemory` (1) alone.
+pub fn form_with_next(alloc: Global, form: &[u8], text: &Option<Text>) -> Result<Vec<u8>, Refusal>
+    requires form { IsTextsForm form.now }
+    requires room { texts_length (texts_meaning form.now ++ text.now ∷ []) < 2 ^ 32 }
+    ensures form { IfOk result (λ new. IsTextsForm new.items) }
+    ensures texts { IfOk result (λ new. texts_meaning new.items ≡ texts_meaning form.now ++ text.now ∷ []) }
+    ensures length { IfOk result (λ new. length new.items ≡ texts_length (texts_meaning form.now ++ text.now ∷ [])) }
+    ensures memory { IfErr result (λ e. e ≡ Refusal.NoMemory) }
+{
+    let parts = known_parts(form);
+    form_around(
+        alloc,
+        parts,
+        parts.ends.len(),
+        text,
+        length_with_next(form, text),
+    )
+}
+
+/// The far form of one text. Refused with `NoMemory` (1) alone.
+pub fn form_of(alloc: Global, text: &Option<Text>) -> Result<Vec<u8>, Refusal>
+    requires { texts_length (text.now ∷ []) < 2 ^ 32 }
+    ensures form { IfOk result (λ new. IsTextsForm new.items) }
+    ensures texts { IfOk result (λ new. texts_meaning new.items ≡ text.now ∷ []) }
+    ensures length { IfOk result (λ new. length new.items ≡ texts_length (text.now ∷ [])) }
+    ensures memory { IfErr result (λ e. e ≡ Refusal.NoMemory) }
+{
+    let none = TextParts {
+        mask: &[],
+        ends: &[],
+        body: &[],
+    };
+    form_around(
+        alloc,
+        none,
+        0,
+        text,
+        length_of(text.is_none(), 1, bytes_in(text).len()),
+    )
+}
