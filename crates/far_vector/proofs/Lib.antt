@@ -9,3 +9,4 @@ mod RangeLaws
 mod Listed
 mod PieceLaws
 mod Lendable
+mod Together

@@ -2,3 +2,4 @@ pub mod Vector
 pub mod Pieces
 pub mod Effects
 pub mod Refusing
+pub mod Vectors
