@@ -51,9 +51,9 @@ module _ {X : Type 0} where
           let ne : j ≢ k = λ e. omega (arith, below, same, e) in
           subst (λ x. AreApart x (slice_index_or (slice_set vectors k v') j d)) (sym (here i d same)) (subst (AreApart v') (sym (other j d ne)) (untouched j d ne (still j within)).apart)
       | inr ne ↦ elim (cases_eq j k) [
-          | inl same ↦ subst (λ x. AreApart x (slice_index_or (slice_set vectors k v') j d)) (sym (other i d ne)) (subst (AreApart (slice_index_or vectors i d)) (sym (here j d same)) (apart-turned v' (slice_index_or vectors i d) (untouched i d ne (omega (arith, below, still j within))).apart))
-          | inr nj ↦ subst (λ x. AreApart x (slice_index_or (slice_set vectors k v') j d)) (sym (other i d ne)) (subst (AreApart (slice_index_or vectors i d)) (sym (other j d nj)) (are.apart i j d below (still j within)))
-        ]
+        | inl same ↦ subst (λ x. AreApart x (slice_index_or (slice_set vectors k v') j d)) (sym (other i d ne)) (subst (AreApart (slice_index_or vectors i d)) (sym (here j d same)) (apart-turned v' (slice_index_or vectors i d) (untouched i d ne (omega (arith, below, still j within))).apart))
+        | inr nj ↦ subst (λ x. AreApart x (slice_index_or (slice_set vectors k v') j d)) (sym (other i d ne)) (subst (AreApart (slice_index_or vectors i d)) (sym (other j d nj)) (are.apart i j d below (still j within)))
+      ]
     ]
 
     pub vectors-after : AreVectors new (slice_set vectors k v')

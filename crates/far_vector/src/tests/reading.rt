@@ -12,7 +12,7 @@ use std::alloc::Global;
 use std::test::Fail;
 
 /// The last of five numbers, which lie in row groups of four, and the second and third.
-fn numbers<S: FarRead>(
+fn numbers_in<S: FarRead>(
     alloc: Global,
     objects: &mut Objects<Option<i64>, S>,
 ) -> Result<(Option<i64>, Vec<Option<i64>>), Refusal> {
@@ -25,6 +25,14 @@ fn numbers<S: FarRead>(
     let last = vector.get(objects, 4)?;
     let part = vector.part(objects, 1, 3)?;
     Ok((last, part.to_vec(alloc)?))
+}
+
+fn numbers<S: FarRead>(
+    alloc: Global,
+    store: &S,
+) -> Result<(Option<i64>, Vec<Option<i64>>), Refusal> {
+    let mut objects = no_objects(alloc, store, 5)?;
+    numbers_in(alloc, &mut objects)
 }
 
 /// How many pieces all elements have, and how long the first two are.
@@ -42,7 +50,7 @@ fn lengths<T: Elem, S: FarRead>(
 }
 
 /// The same of five numbers that lie in row groups of four.
-fn piece_lengths<S: FarRead>(
+fn lengths_in<S: FarRead>(
     alloc: Global,
     objects: &mut Objects<Option<i64>, S>,
 ) -> Result<(usize, Option<usize>, Option<usize>), Refusal> {
@@ -55,8 +63,16 @@ fn piece_lengths<S: FarRead>(
     lengths(&vector, objects)
 }
 
+fn piece_lengths<S: FarRead>(
+    alloc: Global,
+    store: &S,
+) -> Result<(usize, Option<usize>, Option<usize>), Refusal> {
+    let mut objects = no_objects(alloc, store, 5)?;
+    lengths_in(alloc, &mut objects)
+}
+
 /// How many numbers there are, and the objects of the second row group and of one that is not there.
-fn objects_of<S: FarRead>(
+fn objects_in<S: FarRead>(
     alloc: Global,
     objects: &mut Objects<i64, S>,
 ) -> Result<(usize, Option<u32>, Option<u32>), Refusal> {
@@ -65,11 +81,18 @@ fn objects_of<S: FarRead>(
     Ok((vector.len(), vector.object(1), vector.object(2)))
 }
 
+fn objects_of<S: FarRead>(
+    alloc: Global,
+    store: &S,
+) -> Result<(usize, Option<u32>, Option<u32>), Refusal> {
+    let mut objects = no_objects(alloc, store, 5)?;
+    objects_in(alloc, &mut objects)
+}
+
 #[test]
 fn five_numbers_are_read_from_two_row_groups(rt: HostRuntime) -> Result<(), Fail> {
     let store = AgentStore::new(&rt, rt.alloc(), 4)?;
-    let mut objects = no_objects(rt.alloc(), &store, 5)?;
-    let (last, part) = numbers(rt.alloc(), &mut objects)?;
+    let (last, part) = numbers(rt.alloc(), &store)?;
     assert_eq!(rt; last, Some(5));
     assert_eq!(rt; part.as_slice(), [Some(2), Some(3)].as_slice());
     Ok(())
@@ -78,8 +101,7 @@ fn five_numbers_are_read_from_two_row_groups(rt: HostRuntime) -> Result<(), Fail
 #[test]
 fn five_numbers_are_lent_in_pieces_of_four_and_one(rt: HostRuntime) -> Result<(), Fail> {
     let store = AgentStore::new(&rt, rt.alloc(), 4)?;
-    let mut objects = no_objects(rt.alloc(), &store, 5)?;
-    let lengths = piece_lengths(rt.alloc(), &mut objects)?;
+    let lengths = piece_lengths(rt.alloc(), &store)?;
     assert_eq!(rt; lengths, (2, Some(4), Some(1)));
     Ok(())
 }
@@ -87,7 +109,6 @@ fn five_numbers_are_lent_in_pieces_of_four_and_one(rt: HostRuntime) -> Result<()
 #[test]
 fn a_vector_names_the_objects_of_its_row_groups(rt: HostRuntime) -> Result<(), Fail> {
     let store = AgentStore::new(&rt, rt.alloc(), 4)?;
-    let mut objects = no_objects(rt.alloc(), &store, 5)?;
-    assert_eq!(rt; objects_of(rt.alloc(), &mut objects)?, (3, Some(1), None));
+    assert_eq!(rt; objects_of(rt.alloc(), &store)?, (3, Some(1), None));
     Ok(())
 }

@@ -29,7 +29,7 @@ fn past_the_end<T: Elem, S: FarRead>(
 }
 
 /// The same of five numbers, in row groups of four.
-fn out_of_range<S: FarRead>(
+fn out_of_range_in<S: FarRead>(
     alloc: Global,
     objects: &mut Objects<Option<i64>, S>,
 ) -> Result<[Option<Refusal>; 2], Refusal> {
@@ -42,8 +42,13 @@ fn out_of_range<S: FarRead>(
     Ok([crossing(&vector, objects), past_the_end(&vector, objects)])
 }
 
+fn out_of_range<S: FarRead>(alloc: Global, store: &S) -> Result<[Option<Refusal>; 2], Refusal> {
+    let mut objects = no_objects(alloc, store, 5)?;
+    out_of_range_in(alloc, &mut objects)
+}
+
 /// Why a number is not written a second time, and an empty part is not refused.
-fn used_up<S: FarRead>(
+fn used_up_in<S: FarRead>(
     alloc: Global,
     objects: &mut Objects<i64, S>,
 ) -> Result<[Option<Refusal>; 3], Refusal> {
@@ -57,11 +62,15 @@ fn used_up<S: FarRead>(
     ])
 }
 
+fn used_up<S: FarRead>(alloc: Global, store: &S) -> Result<[Option<Refusal>; 3], Refusal> {
+    let mut objects = no_objects(alloc, store, 1)?;
+    used_up_in(alloc, &mut objects)
+}
+
 #[test]
 fn what_is_past_the_end_or_crosses_row_groups_is_refused(rt: HostRuntime) -> Result<(), Fail> {
     let store = AgentStore::new(&rt, rt.alloc(), 4)?;
-    let mut objects = no_objects(rt.alloc(), &store, 5)?;
-    let refused = out_of_range(rt.alloc(), &mut objects)?;
+    let refused = out_of_range(rt.alloc(), &store)?;
     assert_eq!(rt; refused, [Some(Refusal::OutOfRange); 2]);
     Ok(())
 }
@@ -71,8 +80,7 @@ fn a_row_group_that_was_written_as_often_as_it_may_be_is_not_written(
     rt: HostRuntime,
 ) -> Result<(), Fail> {
     let store = AgentStore::new(&rt, rt.alloc(), 4)?;
-    let mut objects = no_objects(rt.alloc(), &store, 1)?;
-    let refused = used_up(rt.alloc(), &mut objects)?;
+    let refused = used_up(rt.alloc(), &store)?;
     let used_up = Some(Refusal::EditsUsedUp);
     assert_eq!(rt; refused, [used_up, used_up, None]);
     Ok(())
