@@ -1,4 +1,5 @@
 // What no clause says: that calls are served, and that worked examples come out as they should.
+mod away;
 mod pushing;
 mod reading;
 mod refusing;

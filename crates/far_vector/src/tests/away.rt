@@ -1,0 +1,141 @@
+// Elements of which the object is away: worked examples.
+ghost use Rattle.std.specs.Prelude.{◌≡◌, ◌<◌, ◌^◌, ℕ, List, length, OnOk};
+ghost use Rattle.far_scopes.specs.Movement.{list_of};
+ghost use Rattle.far_vector.specs.Vector.{Vector, IsVector};
+
+use super::{filled, no_objects};
+use crate::FarVector;
+use far_codec::Elem;
+use far_scopes::Objects;
+use far_store::{AgentStore, FarRead, FarStore, Meter};
+use far_types::Refusal;
+use std::alloc::Global;
+use std::test::Fail;
+
+/// Sends an object away, where it may leave: every object keeps its list.
+fn send_away<T: Elem, S: FarStore>(
+    alloc: Global,
+    objects: &mut Objects<T, S>,
+    store: &S,
+    o: u32,
+) -> Result<(), Refusal>
+    requires within { o < length objects.old.entries }
+    requires short { (list : List T) → length list < 2 ^ 32 → T.has_spelling list }
+    ensures { OnOk result ((p : ℕ) → list_of T.meaning S.content objects.new p ≡ list_of T.meaning S.content objects.old p) }
+{
+    let list = objects.lend(o)?;
+    if list.len() >= 1 << 32 || objects.pins(o) > 0 || !objects.may_leave(o) {
+        return Err(Refusal::Pinned);
+    }
+    let bytes = T::spell(alloc, list)?;
+    let ticket = store.put(alloc, &mut Meter::new(), &bytes)?;
+    objects.leave(store, o, &ticket);
+    Ok(())
+}
+
+/// Sends the last object away, and leaves vectors what they are.
+fn send_last_away<T: Elem, S: FarStore>(
+    alloc: Global,
+    objects: &mut Objects<T, S>,
+    store: &S,
+) -> Result<(), Refusal>
+    requires short { (list : List T) → length list < 2 ^ 32 → T.has_spelling list }
+    ensures { OnOk result ((v : Vector T) → IsVector (list_of T.meaning S.content objects.old) v → IsVector (list_of T.meaning S.content objects.new) v) }
+{
+    let count = objects.count();
+    if count == 0 {
+        return Err(Refusal::NoRow);
+    }
+    send_away(alloc, objects, store, count - 1)
+}
+
+/// Why a part is not lent.
+fn part_refused<T: Elem, S: FarRead>(
+    vector: &FarVector<T>,
+    objects: &Objects<T, S>,
+) -> Option<Refusal>
+    requires { IsVector (list_of T.meaning S.content objects.now) vector.now }
+{
+    vector.part(objects, 4, 5).err()
+}
+
+/// Why all elements are not lent piece by piece.
+fn pieces_refused<T: Elem, S: FarRead>(
+    vector: &FarVector<T>,
+    objects: &Objects<T, S>,
+) -> Option<Refusal>
+    requires { IsVector (list_of T.meaning S.content objects.now) vector.now }
+{
+    vector.pieces(objects, 0, 5).err()
+}
+
+/// Why the last of five elements is neither read nor written, and none is added behind it.
+fn all_refused<T: Elem, S: FarRead>(
+    vector: &mut FarVector<T>,
+    objects: &mut Objects<T, S>,
+    x: T,
+) -> Result<[Option<Refusal>; 6], Refusal>
+    requires { IsVector (list_of T.meaning S.content objects.old) vector.old }
+{
+    if objects.count() >= 1 << 28 {
+        return Err(Refusal::RegionFull);
+    }
+    let get = vector.get(objects, 4).err();
+    let part = part_refused(vector, objects);
+    let pieces = pieces_refused(vector, objects);
+    let may_write_part = vector.may_write_part(objects, 4, 5).err();
+    let set = vector.set(objects, 4, x).err();
+    let push = vector.push(objects, x).err();
+    Ok([get, part, pieces, may_write_part, set, push])
+}
+
+/// The same, of five numbers in row groups of four, of which the last is away.
+fn refused_in<S: FarStore>(
+    alloc: Global,
+    objects: &mut Objects<i64, S>,
+    store: &S,
+) -> Result<[Option<Refusal>; 6], Refusal> {
+    let mut vector = filled(alloc, objects, 0, &[1, 2, 3, 4, 5])?;
+    send_last_away(alloc, objects, store)?;
+    all_refused(&mut vector, objects, 6)
+}
+
+fn refused_away<S: FarStore>(alloc: Global, store: &S) -> Result<[Option<Refusal>; 6], Refusal> {
+    let mut objects = no_objects(alloc, store, 5)?;
+    refused_in(alloc, &mut objects, store)
+}
+
+/// The fourth of five numbers, of which the last is away.
+fn read_in<S: FarStore>(
+    alloc: Global,
+    objects: &mut Objects<i64, S>,
+    store: &S,
+) -> Result<i64, Refusal> {
+    let vector = filled(alloc, objects, 0, &[1, 2, 3, 4, 5])?;
+    send_last_away(alloc, objects, store)?;
+    vector.get(objects, 3)
+}
+
+fn read_beside<S: FarStore>(alloc: Global, store: &S) -> Result<i64, Refusal> {
+    let mut objects = no_objects(alloc, store, 5)?;
+    read_in(alloc, &mut objects, store)
+}
+
+#[test]
+fn calls_on_elements_of_which_the_object_is_away_are_refused(rt: HostRuntime) -> Result<(), Fail> {
+    let store = AgentStore::new(&rt, rt.alloc(), 4)?;
+    let refused = refused_away(rt.alloc(), &store)?;
+    let absent = Refusal::Absent {
+        column: 0,
+        group: 1,
+    };
+    assert_eq!(rt; refused, [Some(absent); 6]);
+    Ok(())
+}
+
+#[test]
+fn an_element_of_another_object_is_read(rt: HostRuntime) -> Result<(), Fail> {
+    let store = AgentStore::new(&rt, rt.alloc(), 4)?;
+    assert_eq!(rt; read_beside(rt.alloc(), &store)?, 4);
+    Ok(())
+}
