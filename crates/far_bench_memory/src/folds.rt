@@ -21,7 +21,7 @@ pub struct FoldTimes {
 
 /// The count and the sum of the values of the live places.
 #[inline(never)]
-pub fn fold(numbers: &[Option<i64>], alive: &[bool]) -> (u64, i128) {
+fn fold(numbers: &[Option<i64>], alive: &[bool]) -> (u64, i128) {
     let mut count = 0u64;
     let mut sum = 0i128;
     for (number, alive) in numbers.iter().zip(alive) {

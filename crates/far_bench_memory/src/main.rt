@@ -4,7 +4,6 @@
 //! With the argument `times` the times are printed on standard error, and the work is done many times; without it the
 //! program only shows that it ends.
 
-mod columns;
 mod copies;
 mod folds;
 mod forms;
@@ -25,8 +24,6 @@ fn main(rt: HostRuntime) -> io::Result<()> {
     let folds = folds::measure(&rt, &store, rounds)?;
     println!(rt; "forms: ended")?;
     println!(rt; "folds: ended")?;
-    let lent = columns::measure(&rt, &store, rounds)?;
-    println!(rt; "columns: ended")?;
     let moves = moves::measure(&rt, &store, if with_times { 1_000 } else { 8 })?;
     println!(rt; "moves: ended")?;
     if with_times {
@@ -35,11 +32,9 @@ fn main(rt: HostRuntime) -> io::Result<()> {
         eprintln!(rt; "decoding it: {} ns", forms.decode)?;
         eprintln!(rt; "fold of a list: {} ns", folds.plain)?;
         eprintln!(rt; "fold of its form: {} ns", folds.offloaded)?;
-        eprintln!(rt; "fold of 65,536 numbers in a list: {} ns", lent.plain)?;
-        eprintln!(rt; "fold of a column of them, lent: {} ns", lent.lent)?;
         eprintln!(rt; "1,000 lists copied away and back: {} ns", moves.copies)?;
         eprintln!(rt; "1,000 objects away and back: {} ns", moves.moves)?;
-        eprintln!(rt; "seen: {}, {}, {} and {}", forms.seen, folds.seen, lent.seen, moves.seen)?;
+        eprintln!(rt; "seen: {}, {} and {}", forms.seen, folds.seen, moves.seen)?;
     }
     Ok(())
 }
