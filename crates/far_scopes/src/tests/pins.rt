@@ -17,11 +17,7 @@ fn pins_given_back<S: FarRead>(alloc: Global, store: &S) -> Result<u32, Refusal>
 }
 
 /// Pins an object so many times, where there is such an object.
-fn pin_often<S: FarRead>(
-    objects: &mut Objects<i64, S>,
-    o: u32,
-    times: u32,
-) -> Result<(), Refusal> {
+fn pin_often<S: FarRead>(objects: &mut Objects<i64, S>, o: u32, times: u32) -> Result<(), Refusal> {
     for _ in 0..times {
         if o >= objects.count() {
             return Err(Refusal::NoRow);
