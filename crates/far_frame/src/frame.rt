@@ -80,9 +80,14 @@ impl Frame {
         ensures ok { IfOk result (λ place. Accepts self.old (step.Edit (edit.Insert row)) (reply.Place place) self.new) }
         ensures err { IfErr result (λ e. Refuses self.old (step.Edit (edit.Insert row)) e self.new) }
     {
-        match insert_refusal(&self.schema, &self.limits, &self.rows, self.edits, &row) {
-            Some(refusal) => return Err(refusal),
-            None => {}
+        if let Some(refusal) = insert_refusal(
+            &self.schema,
+            &self.limits,
+            &self.rows,
+            self.edits,
+            &row,
+        ) {
+            return Err(refusal);
         }
         let place = self.rows.len();
         insert_row(
@@ -103,7 +108,7 @@ impl Frame {
         ensures ok { OnOk result (Accepts self.old (step.Edit (edit.Set place column cell)) reply.Done self.new) }
         ensures err { IfErr result (λ e. Refuses self.old (step.Edit (edit.Set place column cell)) e self.new) }
     {
-        match set_refusal(
+        if let Some(refusal) = set_refusal(
             &self.schema,
             &self.limits,
             &self.rows,
@@ -112,8 +117,7 @@ impl Frame {
             column,
             &cell,
         ) {
-            Some(refusal) => return Err(refusal),
-            None => {}
+            return Err(refusal);
         }
         set_cell(
             self.alloc,
@@ -134,9 +138,8 @@ impl Frame {
         ensures ok { OnOk result (Accepts self.old (step.Edit (edit.Remove place)) reply.Done self.new) }
         ensures err { IfErr result (λ e. Refuses self.old (step.Edit (edit.Remove place)) e self.new) }
     {
-        match remove_refusal(&self.limits, &self.rows, self.edits, place) {
-            Some(refusal) => return Err(refusal),
-            None => {}
+        if let Some(refusal) = remove_refusal(&self.limits, &self.rows, self.edits, place) {
+            return Err(refusal);
         }
         remove_row(
             self.alloc,
@@ -156,33 +159,24 @@ impl Frame {
         ensures ok { IfOk result (λ a. Accepts self.old (step.Watch spec) (reply.Aggregate a) self.new) }
         ensures err { IfErr result (λ e. Refuses self.old (step.Watch spec) e self.new) }
     {
-        match spec.check(&self.schema) {
-            Err(refusal) => return Err(refusal),
-            Ok(()) => {}
+        spec.check(&self.schema)?;
+        let Some(a) = free_number(self.aggregates.as_slice()) else {
+            return Err(Refusal::TooManyAggregates);
+        };
+        if self.registrations == 4_294_967_296 {
+            return Err(Refusal::TooManyAggregates);
         }
-        match free_number(self.aggregates.as_slice()) {
-            None => Err(Refusal::TooManyAggregates),
-            Some(a) => {
-                if self.registrations == 4_294_967_296 {
-                    return Err(Refusal::TooManyAggregates);
-                }
-                match register(
-                    self.alloc,
-                    &mut self.aggregates,
-                    a,
-                    spec,
-                    self.registrations,
-                    &self.rows,
-                    self.limits.group,
-                ) {
-                    Err(refusal) => Err(refusal),
-                    Ok(()) => {
-                        self.registrations += 1;
-                        Ok(a)
-                    }
-                }
-            }
-        }
+        register(
+            self.alloc,
+            &mut self.aggregates,
+            a,
+            spec,
+            self.registrations,
+            &self.rows,
+            self.limits.group,
+        )?;
+        self.registrations += 1;
+        Ok(a)
     }
 
     /// Forgets the aggregate of a number. Refused with `NoAggregate` (12) exactly where there is none. Takes no memory.
@@ -190,10 +184,9 @@ impl Frame {
         ensures ok { OnOk result (Accepts self.old (step.Unwatch a) reply.Done self.new) }
         ensures err { IfErr result (λ e. Refuses self.old (step.Unwatch a) e self.new) }
     {
-        match aggregate_at(self.aggregates.as_slice(), a) {
-            None => return Err(Refusal::NoAggregate),
-            Some(_) => {}
-        }
+        let Some(_) = aggregate_at(self.aggregates.as_slice(), a) else {
+            return Err(Refusal::NoAggregate);
+        };
         forget(&mut self.aggregates, a);
         Ok(())
     }
@@ -204,27 +197,24 @@ impl Frame {
         ensures ok { OnOk result (Accepts self.old (step.ScanGroup a group) reply.Done self.new) }
         ensures err { IfErr result (λ e. Refuses self.old (step.ScanGroup a group) e self.new) }
     {
-        let unbuilt = match aggregate_at(self.aggregates.as_slice(), a) {
-            None => return Err(Refusal::NoAggregate),
-            Some(aggregate) => aggregate.unbuilt.has(group as usize),
+        let Some(aggregate) = aggregate_at(self.aggregates.as_slice(), a) else {
+            return Err(Refusal::NoAggregate);
         };
+        let unbuilt = aggregate.unbuilt.has(group as usize);
         if group as usize >= group_count(self.limits.group, self.rows.len()) {
             return Err(Refusal::OutOfRange);
         }
         if !unbuilt {
             return Err(Refusal::StaleJob);
         }
-        match build_at(
+        build_at(
             self.alloc,
             &mut self.aggregates,
             a,
             &self.rows,
             self.limits.group,
             group,
-        ) {
-            Ok(()) => Ok(()),
-            Err(refusal) => Err(refusal),
-        }
+        )
     }
 
     /// What the aggregate of a number answers over the rows as they are. Refused with `NoAggregate` (12), `Building` (15)
@@ -233,13 +223,10 @@ impl Frame {
         ensures ok { IfOk result (λ answer. Accepts self.now (step.Ask a) (reply.Answer answer) self.now) }
         ensures err { IfErr result (λ e. Refuses self.now (step.Ask a) e self.now) }
     {
-        match aggregate_at(self.aggregates.as_slice(), a) {
-            None => Err(Refusal::NoAggregate),
-            Some(aggregate) => match answer(self.alloc, aggregate) {
-                Err(refusal) => Err(refusal),
-                Ok(answer) => Ok(answer),
-            },
-        }
+        let Some(aggregate) = aggregate_at(self.aggregates.as_slice(), a) else {
+            return Err(Refusal::NoAggregate);
+        };
+        answer(self.alloc, aggregate)
     }
 
     /// The kinds of the columns.
@@ -274,10 +261,8 @@ impl Frame {
     pub fn spec(&self, a: u32) -> Option<&Spec>
         ensures { option_copied result ≡ option_map (λ aggregate. aggregate.spec) (aggregate_at self.now.table a) }
     {
-        match aggregate_at(self.aggregates.as_slice(), a) {
-            None => None,
-            Some(aggregate) => Some(&aggregate.spec),
-        }
+        let aggregate = aggregate_at(self.aggregates.as_slice(), a)?;
+        Some(&aggregate.spec)
     }
 
     /// An aggregate and a row group that is still to be built into it, or `None` where there is none.
@@ -293,9 +278,7 @@ impl Frame {
     pub fn plain(&self, a: u32) -> Option<(u64, i128)>
         ensures { result ≡ plain_in self.now.table.places (aggregate_at self.now.table a) }
     {
-        match aggregate_at(self.aggregates.as_slice(), a) {
-            None => None,
-            Some(aggregate) => plain(aggregate),
-        }
+        let aggregate = aggregate_at(self.aggregates.as_slice(), a)?;
+        plain(aggregate)
     }
 }
