@@ -32,16 +32,10 @@ pub fn answer(alloc: Global, aggregate: &Aggregate) -> Result<Answer, Refusal>
     ensures err { IfErr result (λ e. (size : ℕ) → (places : List Place) → KeepsSlot size places (Some aggregate.now) → MayRefuse (ask_refusal (registered_in (Some aggregate.now))) true e) }
 {
     match &aggregate.kept {
-        Kept::Totals(live) => match lines_of(alloc, live) {
-            Err(refusal) => Err(refusal),
-            Ok(lines) => match lines.or_zero(aggregate.spec.key) {
-                Err(refusal) => Err(refusal),
-                Ok(lines) => Ok(Answer::Totals(lines)),
-            },
-        },
-        Kept::Extrema(live) => match live.answer(alloc) {
-            Err(refusal) => Err(refusal),
-            Ok(answer) => Ok(answer),
-        },
+        Kept::Totals(live) => {
+            let lines = lines_of(alloc, live)?.or_zero(aggregate.spec.key)?;
+            Ok(Answer::Totals(lines))
+        }
+        Kept::Extrema(live) => Ok(live.answer(alloc)?),
     }
 }

@@ -94,8 +94,6 @@ pub fn build_at(
     ensures unchanged { OnErr result (slots.new.items ≡ slots.old.items) }
     ensures memory { IfErr result (λ e. e ≡ Refusal.NoMemory) }
 {
-    match build_in(alloc, &mut slots[a as usize], rows, size, group) {
-        Ok(()) => Ok(()),
-        Err(refusal) => Err(refusal),
-    }
+    build_in(alloc, &mut slots[a as usize], rows, size, group)?;
+    Ok(())
 }

@@ -7,10 +7,10 @@ use Rattle.far_frame.proofs.RegisterLaws.{registered-set}
 use Rattle.far_frame.proofs.ScanLaws.{has-below}
 use Rattle.far_frame.proofs.scans.build_at.Goals as goal
 
-pub returns-in-Ok-clause-registered : goal.returns-in-Ok-clause-registered
-returns-in-Ok-clause-registered c =
+pub returns-clause-registered : goal.returns-clause-registered
+returns-clause-registered c =
     let slots = c.args.slots.now.items in
     let l : c.args.a < length slots = has-below slots c.args.group c.args.a c.requires.unbuilt in
     let here = slice_get_read slots _ c.args.a c.index_mut.result.now refl l c.index_mut.ensures.value in
     registered-set slots c.args.a c.build_in.new.slot l
-    ∙ ap (slice_set (registered_of slots) c.args.a) (c.in-Ok.ensures.registered ∙ ap (λ s. built_slot c.args.group (registered_in s)) (ap joined (sym here)))
+    ∙ ap (slice_set (registered_of slots) c.args.a) (c.in_ok-build_in.ensures.registered ∙ ap (λ s. built_slot c.args.group (registered_in s)) (ap joined (sym here)))
