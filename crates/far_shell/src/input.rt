@@ -1,5 +1,5 @@
 // Lines and loads of a script, as they come.
-ghost use Rattle.std.specs.Prelude.{◌≡◌, ◌≤◌, ◌<◌, ◌+◌, length, false, true, IfNone, IfOk, IfSome, OnOk, option_map, vec_len};
+ghost use Rattle.std.specs.Prelude.{◌≡◌, ◌≢◌, ◌≤◌, ◌<◌, ◌+◌, length, false, true, IfNone, IfErr, IfOk, IfSome, OnOk, option_map, vec_len};
 ghost use Rattle.far_shell.specs.Bounds.{IsSameScript, script_length};
 
 use super::bounded::{Bounded, MAX_READS};
@@ -67,6 +67,7 @@ impl<R: Read + Drop> Input<R> {
     fn make_room(&mut self) -> Result<(), ShellFault>
         ensures room { OnOk result (self.new.filled < vec_len self.new.buffer) }
         ensures source { self.new.source ≡ self.old.source }
+        ensures fault { IfErr result (λ fault. fault ≢ ShellFault.BadStart) }
     {
         self.move_to_front();
         if self.buffer.len() - self.filled < CHUNK / 2 {
@@ -83,6 +84,7 @@ impl<R: Read + Drop> Input<R> {
     fn fill(&mut self) -> Result<bool, ShellFault>
         ensures same { OnOk result (IsSameScript R.Read self.old.source self.new.source) }
         ensures ended { IfOk result (λ more. more ≡ false → self.new.source.ended ≡ true) }
+        ensures fault { IfErr result (λ fault. fault ≢ ShellFault.BadStart) }
     {
         self.make_room()?;
         let count = self.source.read(&mut self.buffer[self.filled..])?;
@@ -116,6 +118,7 @@ impl<R: Read + Drop> Input<R> {
         ensures end { IfOk result (λ found. IfSome found (λ end. (self.new.start ≤ end) × (end < self.new.filled))) }
         ensures same { OnOk result (IsSameScript R.Read self.old.source self.new.source) }
         ensures ended { IfOk result (λ found. IfNone found (self.new.source.ended ≡ true)) }
+        ensures fault { IfErr result (λ fault. fault ≢ ShellFault.BadStart) }
     {
         for _ in 0..=MAX_READS {
             if let Some(end) = self.line_end() {
@@ -149,6 +152,7 @@ impl<R: Read + Drop> Input<R> {
         ensures span { IfOk result (λ found. IfSome found (λ span. (span.from ≤ span.to) × (span.to ≤ vec_len self.new.buffer))) }
         ensures same { OnOk result (IsSameScript R.Read self.old.source self.new.source) }
         ensures ended { IfOk result (λ found. IfNone found (self.new.source.ended ≡ true)) }
+        ensures fault { IfErr result (λ fault. fault ≢ ShellFault.BadStart) }
     {
         let Some(end) = self.seek_line(output)? else {
             if self.start == self.filled {
@@ -173,6 +177,7 @@ impl<R: Read + Drop> Input<R> {
     ) -> Result<Span, ShellFault>
         ensures span { IfOk result (λ span. (span.from ≤ span.to) × (span.to ≤ vec_len self.new.buffer)) }
         ensures same { OnOk result (IsSameScript R.Read self.old.source self.new.source) }
+        ensures fault { IfErr result (λ fault. fault ≢ ShellFault.BadStart) }
     {
         for _ in 0..=MAX_READS {
             if self.filled - self.start >= count {
@@ -193,6 +198,7 @@ impl<R: Read + Drop> Input<R> {
     /// The text of a line or of a load that was just found. Where it is no UTF-8, the fault is `Input`.
     pub fn text(&self, span: Span) -> Result<&str, ShellFault>
         requires { (span.from ≤ span.to) × (span.to ≤ vec_len self.now.buffer) }
+        ensures fault { IfErr result (λ fault. fault ≡ ShellFault.Input) }
     {
         match str::from_utf8(&self.buffer[span.from..span.to]) {
             Ok(text) => Ok(text),

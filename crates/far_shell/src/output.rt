@@ -1,4 +1,6 @@
 // Replies on their way out.
+ghost use Rattle.std.specs.Prelude.{◌≢◌, IfErr};
+
 use super::fault::ShellFault;
 use super::page::Page;
 use std::alloc::Global;
@@ -25,7 +27,9 @@ impl<'a, W: Write> Output<'a, W> {
     }
 
     /// Writes what was gathered, and flushes the writer. Where that fails the fault is `Output`.
-    pub fn flush(&mut self) -> Result<(), ShellFault> {
+    pub fn flush(&mut self) -> Result<(), ShellFault>
+        ensures fault { IfErr result (λ fault. fault ≢ ShellFault.BadStart) }
+    {
         if self.page.is_empty() {
             return Ok(());
         }
@@ -40,7 +44,9 @@ impl<'a, W: Write> Output<'a, W> {
     }
 
     /// The same where much was gathered.
-    pub fn flush_if_full(&mut self) -> Result<(), ShellFault> {
+    pub fn flush_if_full(&mut self) -> Result<(), ShellFault>
+        ensures fault { IfErr result (λ fault. fault ≢ ShellFault.BadStart) }
+    {
         if self.page.len() < FULL {
             return Ok(());
         }

@@ -1,5 +1,5 @@
 // What is read, and how much may still be.
-ghost use Rattle.std.specs.Prelude.{◌≡◌, ◌≤◌, ◌<◌, ◌+◌, IfOk, OnOk, length, ◌⊎◌, true, false};
+ghost use Rattle.std.specs.Prelude.{◌≡◌, ◌≢◌, ◌≤◌, ◌<◌, ◌+◌, IfOk, IfErr, OnOk, length, ◌⊎◌, true, false};
 ghost use Rattle.far_shell.specs.Bounds.{IsSameScript, IsShorter};
 
 use super::{Bounded, MAX_BYTES, MAX_READS};
@@ -31,6 +31,7 @@ impl<R: Read + Drop> Bounded<R> {
         ensures reads { self.new.reads + 1 ≡ self.old.reads }
         ensures bytes { self.new.bytes ≡ self.old.bytes }
         ensures within { IfOk result (λ count. count ≤ length buffer.old) }
+        ensures fault { IfErr result (λ fault. fault ≢ ShellFault.BadStart) }
     {
         self.reads -= 1;
         match self.reader.read(buffer) {
@@ -51,6 +52,7 @@ impl<R: Read + Drop> Bounded<R> {
         ensures reads { OnOk result ((self.old.ended ≡ true) ⊎ (self.new.reads + 1 ≡ self.old.reads)) }
         ensures bytes { IfOk result (λ count. self.new.bytes + count ≡ self.old.bytes) }
         ensures within { IfOk result (λ count. count ≤ length buffer.old) }
+        ensures fault { IfErr result (λ fault. fault ≢ ShellFault.BadStart) }
     {
         if self.ended {
             return Ok(0);
