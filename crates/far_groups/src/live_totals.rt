@@ -1,7 +1,8 @@
 // Totals that are kept up to date.
 ghost use Rattle.std.specs.Prelude.{◌≡◌, ◌≢◌, ◌+◌, ◌-◌, ◌^◌, ◌<◌, ◌≤◌, pos, None, Some, Err, unwrap_or, OnOk, OnErr, IfOk, IfErr};
 
-use super::tallies::{Tallies, add, add_under, join, lines, take, tally_of};
+use super::joins::join_all;
+use super::tallies::{Tallies, add, add_under, lines, take, tally_of};
 use far_types::{Answer, Key, Refusal, TotalLines};
 use std::alloc::Global;
 use std::collections::BTreeMap;
@@ -17,6 +18,7 @@ use std::marker::Model;
 pub struct LiveTotals {
     left: u32,
     tallies: Tallies,
+    alloc: Global,
 }
 
 impl Model for LiveTotals {
@@ -47,6 +49,7 @@ impl LiveTotals {
         LiveTotals {
             left,
             tallies: BTreeMap::new(alloc),
+            alloc,
         }
     }
 
@@ -110,7 +113,7 @@ impl LiveTotals {
         ensures err { OnErr result (self.new ≡ self.old) }
         ensures memory { IfErr result (λ e. e ≡ Refusal.NoMemory) }
     {
-        join(&mut self.tallies, &other.tallies)?;
+        join_all(self.alloc, &mut self.tallies, &other.tallies)?;
         self.left -= 1;
         Ok(())
     }
