@@ -1,8 +1,7 @@
 -- What the lines of new keys have under a key.
-use Rattle.std.proofs.Common.{◌≡◌, ap, ◌∙◌, sym, refl, subst, Bool, true, false, cond, Option, None, Some, List, [], ◌∷◌}
+use Rattle.std.proofs.Common.{◌≡◌, ap, ◌∙◌, sym, refl, subst, Bool, true, false, cond, Option, None, Some, [], ◌∷◌}
 use Rattle.std.specs.Prelude.{ℕ, ℤ, pos}
 use Rattle.std.specs.BTreeMap.{is_at}
-use Rattle.std.specs.FinMap as fin
 use Rattle.far_types.specs.declared.key.Key.{Key}
 use Rattle.far_types.specs.Keys.{line_cmp}
 use Rattle.far_types.proofs.Grouping.{same_key}
@@ -40,6 +39,7 @@ new_at es (e ∷ others) q = let later = new_at es others q in at_first es e.0 _
     at_test : (b : Bool) → is_at (line_cmp q) e.0 ≡ b → cond b (Some (0, pos 0)) (tally_at (new_lines es others) q) ≡ new_tally (tally_at es q) (cond b (Some e.1) (tally_at others q))
     at_test true is = sym (ap (λ o. new_tally o (Some e.1)) (ap (tally_at es) (same_key q e.0 is) ∙ none))
     at_test false is = later
+
   known : (t : ℕ × ℤ) → tally_at es e.0 ≡ Some t → tally_at (new_lines es others) q ≡ new_tally (tally_at es q) (tally_at others q) → tally_at (new_lines es (e ∷ others)) q ≡ new_tally (tally_at es q) (tally_at (e ∷ others) q)
   known t some later = ap (λ ls. tally_at ls q) (known_here es others e (not_none _ t some)) ∙ later ∙ at_test (is_at (line_cmp q) e.0) refl where
     at_test : (b : Bool) → is_at (line_cmp q) e.0 ≡ b → new_tally (tally_at es q) (tally_at others q) ≡ new_tally (tally_at es q) (cond b (Some e.1) (tally_at others q))

@@ -1,14 +1,12 @@
 -- What is added under each key of a map while a walk goes along another.
-use Rattle.std.proofs.Common.{◌≡◌, ap, ◌∙◌, sym, refl, subst, Bool, true, false, cond, Option, None, Some, List, [], ◌∷◌}
+use Rattle.std.proofs.Common.{◌≡◌, ap, ◌∙◌, sym, refl, subst, Bool, true, false, cond, Option, None, Some, [], ◌∷◌}
 use Rattle.std.specs.Prelude.{ℕ, ℤ, IfSome}
-use Rattle.std.specs.List.Sorted.{IsStrictlySortedBy}
-use Rattle.std.specs.Map.{keys_of}
 use Rattle.std.specs.Map.Calls.{RetainsPairs}
 use Rattle.std.specs.BTreeMap.{is_at}
 use Rattle.std.specs.declared.cmp.Ordering.TheVariants.{Less}
 use Rattle.far_types.specs.declared.key.Key.{Key}
 use Rattle.far_types.specs.Keys.{line_cmp}
-use Rattle.far_types.specs.Changes.{add_tallies, together}
+use Rattle.far_types.specs.Changes.{add_tallies}
 use Rattle.far_types.proofs.Grouping.{same_key, own_key}
 use Rattle.far_types.proofs.ByKeyMaps.{sorted_apart}
 use Rattle.far_groups.specs.Tallies.{IsAddend}

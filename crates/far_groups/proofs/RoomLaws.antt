@@ -1,6 +1,6 @@
 -- Keys that are put in with a count of 0, and taken out again by it.
-use Rattle.std.proofs.Common.{◌≡◌, ◌+◌, ◌==◌, not, ap, ◌∙◌, sym, refl, subst, Bool, true, false, cond, Option, None, Some, List, [], ◌∷◌, ◌++◌, map, filter, arith}
-use Rattle.std.specs.Prelude.{ℕ, ℤ, pos, ◌+ℤ◌, IfSome, is_some}
+use Rattle.std.proofs.Common.{◌≡◌, ◌==◌, not, ap, ◌∙◌, sym, refl, Bool, true, false, cond, Option, None, Some, [], ◌∷◌, filter, arith}
+use Rattle.std.specs.Prelude.{ℕ, ℤ, pos, IfSome}
 use Rattle.std.specs.List.{AllByRecursion}
 use Rattle.std.specs.Map.{keys_of}
 use Rattle.std.specs.BTreeMap.{is_at}
@@ -67,6 +67,7 @@ keeps_more m now e none zero keeps q =
     ∙ at_test (eq_by_cmp line_cmp q e.0) refl where
       put : with_more add_tallies e.1 (fin.get now e.0) ≡ (0, pos 0)
       put = ap (with_more add_tallies e.1) none ∙ zero
+
       at_test : (b : Bool) → eq_by_cmp line_cmp q e.0 ≡ b → option_filter is_used (cond b (Some (with_more add_tallies e.1 (fin.get now e.0))) (fin.get now q)) ≡ fin.get m q
       at_test true is = ap (λ t. option_filter is_used (Some t)) put ∙ sym (ap (option_filter is_used) none) ∙ keeps e.0 ∙ ap (fin.get m) (sym (same_key q e.0 is))
       at_test false is = keeps q

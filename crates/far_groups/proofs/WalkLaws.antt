@@ -1,13 +1,12 @@
 -- What a walk finds, and what it has before it then.
-use Rattle.std.proofs.Common.{◌≡◌, ap, ◌∙◌, sym, refl, subst, length, Option, None, Some, [], ◌∷◌, ◌++◌}
+use Rattle.std.proofs.Common.{◌≡◌, ap, ◌∙◌, sym, refl, subst, Option, None, Some, [], ◌∷◌, ◌++◌}
 use Rattle.std.proofs.lemmas.List.{append_assoc}
 use Rattle.std.specs.Prelude.{ℕ, ℤ, pos}
-use Rattle.std.specs.Option.{MatchOption}
 use Rattle.std.specs.List.{AllByRecursion}
 use Rattle.std.specs.List.Sorted.{IsStrictlySortedBy}
 use Rattle.std.specs.Map.{keys_of}
 use Rattle.std.specs.Map.Iter.{TakesFirst, deref_pair}
-use Rattle.std.specs.Ordering.{ordering_reverse, is_eq}
+use Rattle.std.specs.Ordering.{ordering_reverse}
 use Rattle.std.specs.declared.cmp.Ordering.{Ordering}
 use Rattle.std.specs.declared.cmp.Ordering.TheVariants.{Less, Equal, Greater}
 use Rattle.std.proofs.lemmas.Map.{lookup-none}

@@ -2,11 +2,9 @@
 use Rattle.std.specs.Prelude.{ℕ, ℤ, pos, List, [], ◌∷◌, map, filter, not, is_some, Option, None, Some}
 use Rattle.std.specs.Map.{lookup}
 use Rattle.std.specs.BTreeMap.{is_at}
-use Rattle.std.specs.FinMap as fin
 use denote.Ref.{Bor}
 use Rattle.far_types.specs.declared.key.Key.{Key}
 use Rattle.far_types.specs.Keys.{line_cmp}
-use Rattle.far_types.specs.Answers.{Totals}
 use Rattle.far_types.specs.Changes.{add_tallies, together}
 
 -- keys, each with a count and a sum, as a map has them

@@ -112,10 +112,7 @@ fn make_room(alloc: Global, tallies: &mut Tallies, other: &Tallies) -> Result<()
 fn added(tally: Tally, more: Tally) -> Tally
     ensures { IsAddend tally → IsAddend more → result ≡ add_tallies tally more }
 {
-    (
-        tally.0.wrapping_add(more.0),
-        tally.1.wrapping_add(more.1),
-    )
+    (tally.0.wrapping_add(more.0), tally.1.wrapping_add(more.1))
 }
 
 /// Adds what the other has to what is here, under each key of both. Takes no memory.

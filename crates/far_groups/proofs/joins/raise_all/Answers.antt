@@ -1,4 +1,4 @@
-use Rattle.std.proofs.Common.{rules, ◌≡◌, subst, sym}
+use Rattle.std.proofs.Common.{rules, subst, sym}
 use Rattle.far_groups.proofs.WalkLaws.{Finds, finds_all}
 use Rattle.far_groups.proofs.RaiseLaws.{all_raised}
 use Rattle.far_groups.proofs.joins.raise_all.Goals as goal
