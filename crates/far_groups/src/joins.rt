@@ -1,6 +1,6 @@
 // One map of counts and sums joined to another by walks along both.
 ghost use Rattle.std.specs.Prelude.{◌≡◌, ◌+◌, ◌^◌, ◌≤◌, None, IfOk, IfErr, OnOk, OnErr, Option};
-ghost use Rattle.std.specs.BTreeMap.{IsOrdered};
+ghost use Rattle.std.specs.BTreeMap.{IsOrdered, IsFromIterResult};
 ghost use Rattle.std.specs.declared.cmp.Ordering.TheVariants.{Less};
 ghost use Rattle.far_types.specs.declared.key.Key.{Key};
 ghost use Rattle.far_types.specs.Keys.{line_cmp};
@@ -89,23 +89,31 @@ fn new_lines(
     Ok(lines)
 }
 
-/// Puts in the keys that are only in the other, each with a count of 0. Where one is refused, all of count 0 go again.
+/// A map of lines whose keys ascend.
+fn map_of(alloc: Global, lines: Vec<(Option<Key>, Tally)>) -> Result<Tallies, Refusal>
+    ensures ok { IfOk result (IsFromIterResult line_cmp lines.items) }
+    ensures memory { IfErr result (λ e. e ≡ Refusal.NoMemory) }
+{
+    let all = lines.into_iter();
+    Ok(all.collect(alloc)?)
+}
+
+/// Puts in the keys that are only in the other, each with a count of 0. Where memory runs out, all of count 0 go again.
 fn make_room(alloc: Global, tallies: &mut Tallies, other: &Tallies) -> Result<(), Refusal>
     requires tallied { AreTallies (totals_of tallies.old.entries) }
     ensures ok { OnOk result (totals_of tallies.new.entries ≡ joined_totals (totals_of tallies.old.entries) (totals_of (new_lines tallies.old.entries other.now.entries))) }
     ensures err { OnErr result (totals_of tallies.new.entries ≡ totals_of tallies.old.entries) }
     ensures memory { IfErr result (λ e. e ≡ Refusal.NoMemory) }
 {
-    for (key, none) in new_lines(alloc, tallies, other)? {
-        match tallies.insert(key, none) {
-            Ok(_) => {}
-            Err(_) => {
-                tallies.retain(|_, tally| tally.0 != 0);
-                return Err(Refusal::NoMemory);
-            }
+    let lines = new_lines(alloc, tallies, other)?;
+    let mut fresh = map_of(alloc, lines)?;
+    match tallies.append(&mut fresh) {
+        Ok(()) => Ok(()),
+        Err(_) => {
+            tallies.retain(|_, tally| tally.0 != 0);
+            Err(Refusal::NoMemory)
         }
     }
-    Ok(())
 }
 
 /// Two counts and sums together, exactly where they are so few that their sum fits.
