@@ -1,2 +1,3 @@
 pub mod Live
 pub mod Tallies
+pub mod Walks

@@ -47,3 +47,11 @@ CanTakeAll totals (entry ∷ entries) = LeavesTally entry.1 (fin.get totals entr
 abbrev pub without_all : Totals → List (Option Key × (ℕ × ℤ)) → Totals
 without_all totals [] = totals
 without_all totals (entry ∷ entries) = without_all (without_tally totals entry.0 entry.1) entries
+
+-- a count of at most 2^26, and a sum that so many numbers can have: two such together have a count and a sum that fit
+abbrev pub IsAddend : ℕ × ℤ → Type 0
+IsAddend tally = (tally.0 ≤ 2 ^ 26) × IsSumOf tally.0 tally.1
+
+-- what two maps have under a key, where they have something
+abbrev pub AreAddends : Option (ℕ × ℤ) → Option (ℕ × ℤ) → Type 0
+AreAddends one other = IfSome one IsAddend × IfSome other IsAddend

@@ -1,6 +1,7 @@
 #![tactic(auto)]
 //! Totals by key that are kept up to date: how many rows are folded under each key, and the sum of their values.
 
+mod joins;
 pub mod laws;
 pub mod live_totals;
 mod tallies;

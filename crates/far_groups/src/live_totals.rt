@@ -1,7 +1,8 @@
 // Totals that are kept up to date.
 ghost use Rattle.std.specs.Prelude.{◌≡◌, ◌≢◌, ◌+◌, ◌-◌, ◌^◌, ◌<◌, ◌≤◌, pos, None, Some, Err, unwrap_or, OnOk, OnErr, IfOk, IfErr};
 
-use super::tallies::{Tallies, add, add_under, join, lines, take, tally_of};
+use super::joins::join_all;
+use super::tallies::{Tallies, add, add_under, lines, take, tally_of};
 use far_types::{Answer, Key, Refusal, TotalLines};
 use std::alloc::Global;
 use std::collections::BTreeMap;
@@ -17,6 +18,7 @@ use std::marker::Model;
 pub struct LiveTotals {
     left: u32,
     tallies: Tallies,
+    alloc: Global,
 }
 
 impl Model for LiveTotals {
@@ -47,6 +49,7 @@ impl LiveTotals {
         LiveTotals {
             left,
             tallies: BTreeMap::new(alloc),
+            alloc,
         }
     }
 
@@ -102,7 +105,9 @@ impl LiveTotals {
     }
 
     /// Joins the rows of another to these, key by key; one row group less is left. Nothing else of the other is looked
-    /// at. Costs as many look-ups as the other has keys. Refused with `NoMemory` (1) alone, and then nothing is changed.
+    /// at. Costs two walks along the keys of both and a look-up for each key that is new here; where the other has less
+    /// than a quarter as many keys, a look-up for each of them. Takes no memory where no key is new. Refused with
+    /// `NoMemory` (1) alone, and then nothing is changed.
     pub fn merge(&mut self, other: &LiveTotals) -> Result<(), Refusal>
         requires left { self.old.left ≢ 0 }
         requires can_join { CanJoin self.old.totals other.now.totals }
@@ -110,7 +115,7 @@ impl LiveTotals {
         ensures err { OnErr result (self.new ≡ self.old) }
         ensures memory { IfErr result (λ e. e ≡ Refusal.NoMemory) }
     {
-        join(&mut self.tallies, &other.tallies)?;
+        join_all(self.alloc, &mut self.tallies, &other.tallies)?;
         self.left -= 1;
         Ok(())
     }

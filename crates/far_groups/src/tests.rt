@@ -50,6 +50,54 @@ fn answer(rt: &impl Abort, alloc: Global, live: &LiveTotals) -> Result<Answer, R
     }
 }
 
+/// Rows under so many keys, which are texts or numbers, each this far from the next.
+fn rows(
+    rt: &impl Abort,
+    alloc: Global,
+    texts: bool,
+    keys: (i64, i64),
+) -> Result<Vec<(Option<Key>, i64)>, Refusal>
+    ensures few { IfOk result (λ rows. vec_len rows ≤ 300) }
+{
+    let mut rows = Vec::new(alloc);
+    for i in 0..keys.0 {
+        let value = i.wrapping_mul(keys.1);
+        let key = if texts {
+            text(alloc, format!(in alloc; "{value}")?.as_str())?
+        } else {
+            number(value)
+        };
+        rows.push((key, value))?;
+    }
+    assert!(rt; rows.len() <= 300);
+    Ok(rows)
+}
+
+/// Merges some rows to others, a second time where the first call is refused, and sees that the answer is that of all.
+fn merges_as_row_by_row(
+    rt: &impl Abort,
+    alloc: Global,
+    texts: bool,
+    here: (i64, i64),
+    there: (i64, i64),
+) -> Result<(), Refusal> {
+    let mut live = live_of(alloc, 1, rows(rt, alloc, texts, here)?)?;
+    let partial = live_of(alloc, 0, rows(rt, alloc, texts, there)?)?;
+    let mut all = rows(rt, alloc, texts, here)?;
+    all.append(&mut rows(rt, alloc, texts, there)?)?;
+    let by_rows = live_of(alloc, 0, all)?;
+    if let Err(refusal) = live.merge(&partial) {
+        assert_eq!(rt; refusal, Refusal::NoMemory);
+        assert_eq!(rt; live.left(), 1);
+        live.merge(&partial)?;
+    }
+    match by_rows.answer(alloc)? {
+        Answer::Totals(totals) => assert!(rt; has_lines(&live.answer(alloc)?, totals.as_slice())),
+        Answer::Extrema(_) => assert!(rt; false),
+    }
+    Ok(())
+}
+
 #[test]
 fn a_partial_is_merged_and_a_row_taken(rt: HostRuntime) -> Result<(), Fail> {
     let alloc = rt.alloc();
@@ -152,5 +200,19 @@ fn rows_that_the_caller_folded_come_in_at_once(rt: HostRuntime) -> Result<(), Fa
     let mut live = live_of(alloc, 0, Vec::from_array(alloc, [(None, 5)])?)?;
     live.add_rows(None, 3, -6)?;
     assert_eq!(rt; live.plain(), (4, -1));
+    Ok(())
+}
+
+#[test]
+fn two_maps_of_many_keys_are_joined_as_row_by_row(rt: HostRuntime) -> Result<(), Fail> {
+    let alloc = rt.alloc();
+    for texts in [false, true] {
+        merges_as_row_by_row(&rt, alloc, texts, (60, 2), (40, 3))?;
+        merges_as_row_by_row(&rt, alloc, texts, (120, 1), (120, 1))?;
+        merges_as_row_by_row(&rt, alloc, texts, (17, 7), (120, 1))?;
+        merges_as_row_by_row(&rt, alloc, texts, (0, 1), (120, 1))?;
+        merges_as_row_by_row(&rt, alloc, texts, (120, 1), (2, 110))?;
+        merges_as_row_by_row(&rt, alloc, texts, (120, 1), (2, 130))?;
+    }
     Ok(())
 }
