@@ -5,4 +5,5 @@ pub mod Changed
 pub mod Setting
 pub mod Pushing
 pub mod LentCells
+pub mod Beside
 mod Flags
