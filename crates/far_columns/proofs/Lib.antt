@@ -6,4 +6,5 @@ pub mod Setting
 pub mod Pushing
 pub mod LentCells
 pub mod Beside
+mod Walking
 mod Flags
