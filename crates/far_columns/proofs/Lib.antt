@@ -5,4 +5,6 @@ pub mod Changed
 pub mod Setting
 pub mod Pushing
 pub mod LentCells
+pub mod Beside
+mod Walking
 mod Flags

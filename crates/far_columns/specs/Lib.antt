@@ -1,5 +1,6 @@
 pub mod Texts
 pub mod Changes
+pub mod Columns
 pub mod Refusing
 pub mod Lending
 pub mod Numbers

@@ -3,6 +3,7 @@
 
 mod alive;
 mod int_column;
+pub mod laws;
 mod lent;
 mod text_column;
 

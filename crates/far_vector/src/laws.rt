@@ -1,14 +1,16 @@
 // What calls on one vector leave of the others in the same objects.
-ghost use Rattle.std.specs.Prelude.{◌≡◌, ◌≢◌, ◌<◌, ℕ, List, length, Option, Some, slice_get, slice_set, slice_index_or};
-ghost use Rattle.far_vector.specs.Vector.{Vector, elements};
+ghost use Rattle.std.specs.Prelude.{◌≡◌, ◌≢◌, ◌<◌, ◌++◌, ℕ, List, [], ◌∷◌, length, Option, Some, slice_get, slice_set, slice_index_or};
+ghost use Rattle.far_vector.specs.Vector.{Vector, IsVector, elements};
 ghost use Rattle.far_vector.specs.Vectors.{AreVectors, ChangesVector};
 
 use far_codec::Elem;
 
 /// Several vectors in the same objects, no two of which have an object in common, stay so when a call changes one of
 /// them, as its clauses `is` and `apart` say, and the others keep their elements. They stay so too, with all elements,
-/// where every object keeps its list, wherever it lies.
+/// where every object keeps its list, wherever it lies. They come to be so one after the other, each without an object.
 pub fn vectors_stay_together<T: Elem>()
+    ensures none { (lists : ℕ → Option (List T)) → AreVectors lists [] }
+    ensures more { (lists : ℕ → Option (List T)) → (vectors : List (Vector T)) → (v : Vector T) → AreVectors lists vectors → IsVector lists v → v.objects ≡ [] → AreVectors lists (vectors ++ v ∷ []) }
     ensures after { (old : ℕ → Option (List T)) → (new : ℕ → Option (List T)) → (vectors : List (Vector T)) → (k : ℕ) → (v : Vector T) → (changed : Vector T) → AreVectors old vectors → slice_get vectors k ≡ Some v → ChangesVector old new v changed → AreVectors new (slice_set vectors k changed) }
     ensures others { (old : ℕ → Option (List T)) → (new : ℕ → Option (List T)) → (vectors : List (Vector T)) → (k : ℕ) → (v : Vector T) → (changed : Vector T) → AreVectors old vectors → slice_get vectors k ≡ Some v → ChangesVector old new v changed → (j : ℕ) → (d : Vector T) → j ≢ k → j < length vectors → elements new (slice_index_or (slice_set vectors k changed) j d) ≡ elements old (slice_index_or vectors j d) }
     ensures moved { (old : ℕ → Option (List T)) → (new : ℕ → Option (List T)) → (vectors : List (Vector T)) → AreVectors old vectors → ((o : ℕ) → new o ≡ old o) → AreVectors new vectors }

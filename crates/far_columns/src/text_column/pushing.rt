@@ -7,7 +7,7 @@ ghost use Rattle.far_scopes.specs.Memory.{ChangesList};
 ghost use Rattle.far_scopes.specs.Movement.{AreClean, AreHere};
 ghost use Rattle.far_scopes.specs.Effects.{created, replaced};
 ghost use Rattle.far_scopes.specs.Refusing.{refusal_in, replace_refusal};
-ghost use Rattle.far_columns.specs.Texts.{lists_of, texts_in, HasGroups, IsTextColumn, KeepsOthers};
+ghost use Rattle.far_columns.specs.Texts.{Texts, lists_of, texts_in, HasGroups, IsTextColumn, AreApart, KeepsOthers};
 ghost use Rattle.far_columns.specs.Changes.{begins_group, last_object, next_object, group_with_next, pushed, pushed_in};
 ghost use Rattle.far_columns.specs.Refusing.{next_length_refusal, push_refusal};
 
@@ -157,6 +157,7 @@ impl TextColumn {
         ensures is { IsTextColumn (lists_of S.content objects.new) self.new }
         ensures texts { OnOk result (texts_in (lists_of S.content objects.new) self.new ≡ texts_in (lists_of S.content objects.old) self.old ++ text.now ∷ []) }
         ensures others { KeepsOthers (lists_of S.content objects.old) (lists_of S.content objects.new) self.old }
+        ensures apart { (d : Texts) → IsTextColumn (lists_of S.content objects.old) d → AreApart self.old d → AreApart self.new d }
         ensures clean { AreClean (λ bytes. bytes) S.content objects.old → AreClean (λ bytes. bytes) S.content objects.new }
         ensures store { (name : List ℕ) → AreHere S.is_of name objects.old → AreHere S.is_of name objects.new }
         ensures free { OnOk result (push_refusal S.content objects.old self.old text.now ≡ None) }

@@ -1,9 +1,10 @@
 use Rattle.std.proofs.Common.{◌≤◌, length, Some, sym, ap, subst, ◌∙◌}
 use Rattle.far_scopes.specs.Memory.{ChangesList}
-use Rattle.far_columns.specs.Texts.{Lists, lists_of, texts_in, IsTextColumn, KeepsOthers}
+use Rattle.far_columns.specs.Texts.{Lists, lists_of, texts_in, IsTextColumn, AreApart, KeepsOthers}
 use Rattle.far_columns.specs.Changes.{last_object}
 use Rattle.far_columns.proofs.Changed.{keeps-others-new, keeps-same}
 use Rattle.far_columns.proofs.Setting.{by-outcome, on-ok, by-outcomes, on-both}
+use Rattle.far_columns.proofs.Beside.{pushed-apart}
 use Rattle.far_columns.proofs.Pushing.{form-is, pushed-begun, pushed-longer, next-alone, next-behind, begun-is, begun-texts, longer-is, longer-texts, longer-others, push-short, moved-begun, moved-longer}
 use Rattle.far_columns.proofs.text_column.TextColumn.push.Goals as goal
 
@@ -73,6 +74,12 @@ returns-then-begins_group-clause-others g c =
     (λ changes. keeps-others-new old new o (Some bytes) (subst (λ b. ChangesList old new o (Some b)) c.deref.ensures.value changes) column fresh)
     (λ err. subst (λ w. KeepsOthers old (lists_of content w) column) (sym err) (keeps-same old column))
 
+pub returns-then-begins_group-clause-apart : goal.returns-then-begins_group-clause-apart
+returns-then-begins_group-clause-apart g c =
+    by-outcome c.begin_group.result c.begin_group.ensures.pushed c.begin_group.ensures.kept
+    (λ now. λ d is apart. subst (λ w. AreApart w d) (sym now) (pushed-apart (lists_of g.S.FarRead.content c.args.objects.now) c.args.self.now d (length c.args.objects.now.entries) c.known_before_push.ensures.fresh is apart))
+    (λ kept. λ d is apart. subst (λ w. AreApart w d) (sym kept) apart)
+
 pub returns-clause-moved : goal.returns-clause-moved
 returns-clause-moved g c =
     let content = g.S.FarRead.content in
@@ -132,3 +139,9 @@ returns-clause-others g c =
     by-outcome c.extend_group.result c.extend_group.ensures.list c.extend_group.ensures.err
     (λ changes. longer-others old new column c.requires.is has begins bytes (subst (λ b. ChangesList old new (last_object column) (Some b)) c.deref-else-begins_group.ensures.value changes))
     (λ err. subst (λ w. KeepsOthers old (lists_of content w) column) (sym err) (keeps-same old column))
+
+pub returns-clause-apart : goal.returns-clause-apart
+returns-clause-apart g c =
+    by-outcome c.extend_group.result c.extend_group.ensures.pushed c.extend_group.ensures.kept
+    (λ now. λ d is apart. subst (λ w. AreApart w d) (sym now) (pushed-apart (lists_of g.S.FarRead.content c.args.objects.now) c.args.self.now d (length c.args.objects.now.entries) c.known_before_push.ensures.fresh is apart))
+    (λ kept. λ d is apart. subst (λ w. AreApart w d) (sym kept) apart)

@@ -1,0 +1,183 @@
+// Calls on columns of texts that share their objects.
+ghost use Rattle.std.specs.Prelude.{◌<◌, ◌^◌, ℕ, length, IfOk, List, [], ◌∷◌};
+ghost use Rattle.far_scopes.specs.Movement.{AreHere};
+ghost use Rattle.far_columns.specs.Texts.{Lists, lists_of, IsTextColumn};
+ghost use Rattle.far_columns.specs.Columns.{AreTextColumns, ChangesColumn};
+
+use super::super::moving::{bring_back, send_away};
+use super::{CHANGES, LEAVINGS};
+use crate::laws::columns_stay_together;
+use crate::{Alive, TextColumn};
+use far_scopes::Objects;
+use far_store::{FarRead, FarStore};
+use far_types::{Refusal, Text};
+use std::alloc::Global;
+
+/// The bytes of a text and the flag of its place.
+pub type LentText = (Option<Vec<u8>>, bool);
+
+/// A call on a column that may change it, or its objects.
+#[derive(Clone, Copy)]
+pub enum TextCall<'a> {
+    Push(&'a Option<Text>),
+    Set(usize, &'a Option<Text>),
+    SendAway(usize),
+    BringBack(usize),
+}
+
+/// No object, and room for 512 bytes.
+pub fn no_objects<S: FarStore>(alloc: Global, _store: &S) -> Result<Objects<u8, S>, Refusal>
+    ensures { IfOk result (λ m. (name : List ℕ) → AreHere S.is_of name m) }
+{
+    Objects::new(alloc, 1, 4, 128, u64::from(CHANGES), u64::from(LEAVINGS))
+}
+
+fn push<S: FarStore>(
+    alloc: Global,
+    objects: &mut Objects<u8, S>,
+    column: &mut TextColumn,
+    text: &Option<Text>,
+) -> Result<(), Refusal>
+    requires is { IsTextColumn (lists_of S.content objects.old) column.old }
+    ensures changes { ChangesColumn (lists_of S.content objects.old) (lists_of S.content objects.new) column.old column.new }
+    ensures here { (name : List ℕ) → AreHere S.is_of name objects.old → AreHere S.is_of name objects.new }
+{
+    if objects.count() >= 1 << 28 {
+        return Err(Refusal::TableFull);
+    }
+    column.push(alloc, objects, text)
+}
+
+fn set<S: FarStore>(
+    alloc: Global,
+    objects: &mut Objects<u8, S>,
+    column: &TextColumn,
+    place: usize,
+    text: &Option<Text>,
+) -> Result<(), Refusal>
+    requires is { IsTextColumn (lists_of S.content objects.old) column.now }
+    ensures changes { ChangesColumn (lists_of S.content objects.old) (lists_of S.content objects.new) column.now column.now }
+    ensures here { (name : List ℕ) → AreHere S.is_of name objects.old → AreHere S.is_of name objects.new }
+{
+    column.set(alloc, objects, place, text)
+}
+
+// The object of a row group goes away.
+fn away<S: FarStore>(
+    alloc: Global,
+    objects: &mut Objects<u8, S>,
+    store: &S,
+    column: &TextColumn,
+    group: usize,
+) -> Result<(), Refusal>
+    requires is { IsTextColumn (lists_of S.content objects.old) column.now }
+    ensures changes { ChangesColumn (lists_of S.content objects.old) (lists_of S.content objects.new) column.now column.now }
+    ensures here { AreHere S.is_of (S.name store.now) objects.old → AreHere S.is_of (S.name store.now) objects.new }
+{
+    let Some(o) = column.object(group) else {
+        return Err(Refusal::NoRow);
+    };
+    let _number = objects.number();
+    send_away(alloc, objects, store, o)
+}
+
+// The object of a row group comes back.
+fn back<S: FarStore>(
+    alloc: Global,
+    objects: &mut Objects<u8, S>,
+    store: &S,
+    column: &TextColumn,
+    group: usize,
+) -> Result<(), Refusal>
+    requires is { IsTextColumn (lists_of S.content objects.old) column.now }
+    requires here { AreHere S.is_of (S.name store.now) objects.old }
+    ensures changes { ChangesColumn (lists_of S.content objects.old) (lists_of S.content objects.new) column.now column.now }
+    ensures here { AreHere S.is_of (S.name store.now) objects.new }
+{
+    let Some(o) = column.object(group) else {
+        return Err(Refusal::NoRow);
+    };
+    let _number = objects.number();
+    bring_back(alloc, objects, store, o)
+}
+
+// A call on one column.
+fn change<S: FarStore>(
+    alloc: Global,
+    objects: &mut Objects<u8, S>,
+    store: &S,
+    column: &mut TextColumn,
+    call: TextCall<'_>,
+) -> Result<(), Refusal>
+    requires is { IsTextColumn (lists_of S.content objects.old) column.old }
+    requires here { AreHere S.is_of (S.name store.now) objects.old }
+    ensures changes { ChangesColumn (lists_of S.content objects.old) (lists_of S.content objects.new) column.old column.new }
+    ensures here { AreHere S.is_of (S.name store.now) objects.new }
+{
+    match call {
+        TextCall::Push(text) => push(alloc, objects, column, text),
+        TextCall::Set(place, text) => set(alloc, objects, column, place, text),
+        TextCall::SendAway(group) => away(alloc, objects, store, column, group),
+        TextCall::BringBack(group) => back(alloc, objects, store, column, group),
+    }
+}
+
+/// A call on one of two columns.
+pub fn change_one<S: FarStore>(
+    alloc: Global,
+    objects: &mut Objects<u8, S>,
+    store: &S,
+    d: &mut TextColumn,
+    e: &mut TextColumn,
+    k: usize,
+    call: TextCall<'_>,
+) -> Result<(), Refusal>
+    requires are { AreTextColumns (lists_of S.content objects.old) (d.old ∷ e.old ∷ []) }
+    requires here { AreHere S.is_of (S.name store.now) objects.old }
+    ensures are { AreTextColumns (lists_of S.content objects.new) (d.new ∷ e.new ∷ []) }
+    ensures here { AreHere S.is_of (S.name store.now) objects.new }
+{
+    columns_stay_together();
+    match k {
+        0 => change(alloc, objects, store, d, call),
+        _ => change(alloc, objects, store, e, call),
+    }
+}
+
+/// What is lent of a part of a column with these flags.
+pub fn lent_of<S: FarRead>(
+    alloc: Global,
+    objects: &Objects<u8, S>,
+    column: &TextColumn,
+    alive: &Alive,
+    part: (usize, usize),
+) -> Result<Vec<LentText>, Refusal>
+    requires { IsTextColumn (lists_of S.content objects.now) column.now }
+{
+    if alive.len() != column.len() {
+        return Err(Refusal::RowWidth);
+    }
+    let mut cells = column.texts(objects, alive, part.0, part.1)?;
+    let mut lent = Vec::new(alloc);
+    for _ in 0..alive.len() {
+        let Some(cell) = cells.next() else {
+            break;
+        };
+        let text = match cell.text {
+            Some(text) => Some(Vec::from_slice(alloc, text.as_bytes())?),
+            None => None,
+        };
+        lent.push((text, cell.alive))?;
+    }
+    Ok(lent)
+}
+
+/// A column to be read of two.
+pub fn one_of<'a>(d: &'a TextColumn, e: &'a TextColumn, k: usize) -> &'a TextColumn
+    ensures { (lists : Lists) → AreTextColumns lists (d.now ∷ e.now ∷ []) → IsTextColumn lists result.now }
+{
+    match k {
+        0 => d,
+        _ => e,
+    }
+}
