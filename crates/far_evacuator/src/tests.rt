@@ -3,4 +3,5 @@
 mod desk;
 mod jobs;
 mod plain;
+mod sample;
 mod walk;

@@ -1,42 +1,22 @@
 // Objects with their store, and the last job of each kind.
-ghost use Rattle.std.specs.Prelude.{◌≡◌, ◌<◌, ◌^◌, ℕ, List, length, All, IsTrue, IsOk, IfOk, OnOk};
+ghost use Rattle.std.specs.Prelude.{◌≡◌, ◌<◌, ◌^◌, ℕ, List, length, All, IsOk, IfOk, OnOk};
 ghost use Rattle.far_scopes.specs.Movement.{AreClean, AreHere};
 ghost use Rattle.far_scopes.specs.Replacing.{AreListedOnce};
 ghost use Rattle.far_evacuator.specs.Jobs.{IsFormOf};
 ghost use Rattle.far_evacuator.specs.Beginning.{IsWanted};
 
+mod digest;
+mod renewing;
+
+use super::sample::Sample;
 use crate::{Carried, EvacJob, FetchJob, Fetched, Want, begin_evac, begin_fetch, commit, install};
-use far_codec::{Elem, kind_of};
+use digest::digest;
 use far_pointer::Pointer;
 use far_scopes::{Objects, Replacement, Scope};
 use far_store::{FarStore, Meter};
-use far_types::{Kind, Name, Refusal};
+use far_types::{Name, Refusal};
 use std::alloc::Global;
 use std::marker::Model;
-
-/// Elements of which a list tells whether it has a spelling.
-pub trait Sample: Elem + PartialEq {
-    fn is_spelled(list: &[Self]) -> bool
-        ensures { IsTrue result → Self.has_spelling list.now };
-}
-
-impl Sample for i64 {
-    fn is_spelled(list: &[i64]) -> bool {
-        list.len() < 1 << 32
-    }
-}
-
-impl Sample for Option<i64> {
-    fn is_spelled(list: &[Option<i64>]) -> bool {
-        list.len() < 1 << 32
-    }
-}
-
-impl Sample for u8 {
-    fn is_spelled(list: &[u8]) -> bool {
-        kind_of(list) == Some(Kind::Text)
-    }
-}
 
 /// The room of the objects, and how often each may be written and away.
 #[derive(Clone, Copy)]
@@ -60,7 +40,7 @@ pub struct Record {
 }
 
 /// Objects with their store, and the last job of each kind that was begun and that was carried. A call that is refused for
-/// want of memory is made once more; an object number that is not in use is refused.
+/// want of memory is made once more where it left the objects as they were; an object number that is not in use is refused.
 #[derive(Drop)]
 pub struct Desk<'a, T: Sample, S: FarStore> {
     store: &'a S,
@@ -116,8 +96,11 @@ impl<'a, T: Sample, S: FarStore> Desk<'a, T, S> {
             column: 0,
             group: count,
         };
+        let before = digest(&self.objects);
         match self.objects.create(name, list) {
-            Err(Refusal::NoMemory) => self.objects.create(name, list),
+            Err(Refusal::NoMemory) if digest(&self.objects) == before => {
+                self.objects.create(name, list)
+            }
             reply => reply,
         }
     }
@@ -133,8 +116,11 @@ impl<'a, T: Sample, S: FarStore> Desk<'a, T, S> {
         if list.is_empty() {
             return Err(Refusal::RowWidth);
         }
+        let before = digest(&self.objects);
         match self.objects.replace(o, list) {
-            Err(Refusal::NoMemory) => self.objects.replace(o, list),
+            Err(Refusal::NoMemory) if digest(&self.objects) == before => {
+                self.objects.replace(o, list)
+            }
             reply => reply,
         }
     }
@@ -205,8 +191,11 @@ impl<'a, T: Sample, S: FarStore> Desk<'a, T, S> {
     }
 
     pub fn compact(&mut self, alloc: Global, segment: u32) -> Result<(), Refusal> {
+        let before = digest(&self.objects);
         match self.objects.compact(alloc, segment) {
-            Err(Refusal::NoMemory) => self.objects.compact(alloc, segment),
+            Err(Refusal::NoMemory) if digest(&self.objects) == before => {
+                self.objects.compact(alloc, segment)
+            }
             reply => reply,
         }
     }
@@ -282,8 +271,11 @@ impl<'a, T: Sample, S: FarStore> Desk<'a, T, S> {
         let Some(fetched) = &self.fetched else {
             return Err(Refusal::StaleJob);
         };
+        let before = digest(&self.objects);
         match install(alloc, &mut self.objects, self.store, fetched) {
-            Err(Refusal::NoMemory) => install(alloc, &mut self.objects, self.store, fetched),
+            Err(Refusal::NoMemory) if digest(&self.objects) == before => {
+                install(alloc, &mut self.objects, self.store, fetched)
+            }
             reply => reply,
         }
     }
@@ -390,7 +382,7 @@ fn write_over<T: Sample, S: FarStore>(
     Ok(())
 }
 
-// Gives listed objects other lists, and tries again where that is refused.
+// Gives listed objects other lists.
 fn replace_both<T: Sample, S: FarStore>(
     objects: &mut Objects<T, S>,
     lists: &[Replacement<T>],
@@ -401,13 +393,14 @@ fn replace_both<T: Sample, S: FarStore>(
     ensures clean { AreClean T.meaning S.content objects.old → AreClean T.meaning S.content objects.new }
     ensures store { (name : List ℕ) → AreHere S.is_of name objects.old → AreHere S.is_of name objects.new }
 {
+    let before = digest(objects);
     match objects.replace_all(lists) {
-        Ok(()) => Ok(()),
-        Err(_) => objects.replace_all(lists),
+        Err(Refusal::NoMemory) if digest(objects) == before => objects.replace_all(lists),
+        reply => reply,
     }
 }
 
-// Pins listed objects, and tries again where that is refused.
+// Pins listed objects, and tries again where that is refused and left the objects as they were.
 fn enter_again<T: Sample, S: FarStore>(
     objects: &mut Objects<T, S>,
     alloc: Global,
@@ -420,9 +413,11 @@ fn enter_again<T: Sample, S: FarStore>(
     ensures clean { AreClean T.meaning S.content objects.old → AreClean T.meaning S.content objects.new }
     ensures store { (name : List ℕ) → AreHere S.is_of name objects.old → AreHere S.is_of name objects.new }
 {
+    let before = digest(objects);
     match objects.enter(alloc, listed) {
         Ok(scope) => Ok(scope),
-        Err(_) => Ok(objects.enter(alloc, listed)?),
+        Err(_) if digest(objects) == before => Ok(objects.enter(alloc, listed)?),
+        Err(refusal) => Err(refusal),
     }
 }
 

@@ -1,4 +1,5 @@
 // Plain objects: what each call should answer, and what each object should be then.
+mod renewing;
 mod several;
 
 use super::desk::{Limits, Record};
@@ -22,7 +23,7 @@ struct Plain<T> {
 }
 
 /// A store that numbers what is put, and fails in one put and in one get.
-#[derive(Drop)]
+#[derive(Clone, Copy, Drop)]
 pub struct Numbers {
     capacity: u64,
     failing_put: u64,

@@ -1,8 +1,9 @@
 // Random calls against plain objects, call by call.
 ghost use Rattle.std.specs.Prelude.{◌<◌};
 
-use super::desk::{Desk, Limits, Sample};
+use super::desk::{Desk, Limits};
 use super::plain::{Numbers, Plains};
+use super::sample::Sample;
 use crate::Want;
 use far_store::{AgentStore, FarStore, FaultyStore};
 use far_types::Refusal;
@@ -10,10 +11,12 @@ use std::alloc::Global;
 use std::process::Abort;
 use std::test::Fail;
 
-// How many walks of how many calls, and over how many objects at most.
+// How many walks, over how many stores in turn, of how many calls over each, and with how many objects at most.
 const WALKS: u64 = 40;
 
-const STEPS: u32 = 500;
+const STORES: u64 = 5;
+
+const STEPS: u32 = 100;
 
 const OBJECTS: u32 = 6;
 
@@ -161,28 +164,62 @@ impl Step {
     }
 }
 
-/// A walk of random calls that begins with no object.
+/// A store, and the numbers that it should give out.
+#[derive(Drop)]
+struct Numbered<S> {
+    store: S,
+    numbers: Numbers,
+}
+
+/// The stores of a walk, each of which holds so much and fails in its own put and its own get.
+fn stores_of(
+    rt: &HostRuntime,
+    seed: u64,
+) -> Result<Vec<Numbered<FaultyStore<AgentStore<&HostRuntime>>>>, Refusal> {
+    let mut stores = Vec::new(rt.alloc());
+    for turn in 0..STORES {
+        let put = seed.wrapping_add(turn) % 7;
+        let get = seed.wrapping_add(2 * turn) % 5;
+        let capacity = 2 + seed.wrapping_add(5 * turn) % 11;
+        let agent = AgentStore::new(rt, rt.alloc(), capacity)?;
+        stores.push(Numbered {
+            store: FaultyStore::new(agent, put, get),
+            numbers: Numbers::new(capacity, put, get),
+        })?;
+    }
+    Ok(stores)
+}
+
+/// A walk of random calls that begins with no object, over stores in turn.
 fn run_randomly<T: Drawn, S: FarStore>(
     rt: &impl Abort,
     alloc: Global,
-    store: &S,
-    numbers: Numbers,
+    stores: &[Numbered<S>],
     seed: u64,
 ) -> Result<(), Fail> {
+    let Some((first, others)) = stores.split_first() else {
+        return Ok(());
+    };
     let limits = Limits {
         segments: 3,
         size: 40,
         changes: 12,
         leavings: 6,
     };
+    let mut draws = Draws(seed);
     let mut walk: Walk<'_, T, S> = Walk {
-        desk: Desk::new(alloc, store, 0, limits)?,
-        plains: Plains::new(alloc, 0, limits, numbers),
+        desk: Desk::new(alloc, &first.store, 0, limits)?,
+        plains: Plains::new(alloc, 0, limits, first.numbers),
     };
-    take_steps(rt, alloc, &mut walk, &mut Draws(seed))
+    take_steps(rt, alloc, &mut walk, &mut draws)?;
+    for next in others {
+        walk = renew(rt, alloc, walk, next)?;
+        take_steps(rt, alloc, &mut walk, &mut draws)?;
+    }
+    Ok(())
 }
 
-/// Takes the steps of a walk, and looks at each reply and at each object after it.
+/// Takes the steps of a walk over one store, and looks at each reply and at each object after it.
 fn take_steps<T: Drawn, S: FarStore>(
     rt: &impl Abort,
     alloc: Global,
@@ -197,13 +234,26 @@ fn take_steps<T: Drawn, S: FarStore>(
     Ok(())
 }
 
+/// Gives the objects of a walk over to another store, and looks at the reply and at each object after it.
+fn renew<'a, T: Drawn, S: FarStore>(
+    rt: &impl Abort,
+    alloc: Global,
+    walk: Walk<'a, T, S>,
+    next: &'a Numbered<S>,
+) -> Result<Walk<'a, T, S>, Fail> {
+    let Walk { desk, mut plains } = walk;
+    let (found, desk) = desk.renew(alloc, &next.store);
+    assert_eq!(rt; found, plains.renew(alloc, next.numbers));
+    let walk = Walk { desk, plains };
+    assert!(rt; walk.agrees());
+    Ok(walk)
+}
+
 #[test]
 fn random_calls_on_numbers_agree_with_plain_objects(rt: HostRuntime) -> Result<(), Fail> {
     for seed in 0..WALKS {
-        let (put, get) = (seed % 7, seed % 5);
-        let agent = AgentStore::new(&rt, rt.alloc(), 16)?;
-        let store = FaultyStore::new(agent, put, get);
-        run_randomly::<Option<i64>, _>(&rt, rt.alloc(), &store, Numbers::new(16, put, get), seed)?;
+        let stores = stores_of(&rt, seed)?;
+        run_randomly::<Option<i64>, _>(&rt, rt.alloc(), &stores, seed)?;
     }
     Ok(())
 }
@@ -211,10 +261,8 @@ fn random_calls_on_numbers_agree_with_plain_objects(rt: HostRuntime) -> Result<(
 #[test]
 fn random_calls_on_texts_agree_with_plain_objects(rt: HostRuntime) -> Result<(), Fail> {
     for seed in 0..WALKS {
-        let (put, get) = (seed % 7, seed % 5);
-        let agent = AgentStore::new(&rt, rt.alloc(), 16)?;
-        let store = FaultyStore::new(agent, put, get);
-        run_randomly::<u8, _>(&rt, rt.alloc(), &store, Numbers::new(16, put, get), seed)?;
+        let stores = stores_of(&rt, seed)?;
+        run_randomly::<u8, _>(&rt, rt.alloc(), &stores, seed)?;
     }
     Ok(())
 }

@@ -1,8 +1,8 @@
 // Objects that are pinned, alone and together, and written as often as they may be: worked examples.
-use super::coming::{empty, name_of};
+use super::again::{agent, copy_of, create, enter, put};
+use super::coming::empty;
 use crate::Objects;
-use far_codec::Elem;
-use far_store::{AgentStore, FarRead, FarStore, Meter};
+use far_store::{FarRead, FarStore};
 use far_types::Refusal;
 use std::alloc::Global;
 use std::test::Fail;
@@ -10,9 +10,9 @@ use std::test::Fail;
 /// How many pins two objects give back that were pinned together, the first of them twice.
 fn pins_given_back<S: FarRead>(alloc: Global, store: &S) -> Result<u32, Refusal> {
     let mut objects: Objects<i64, S> = empty(alloc, store)?;
-    objects.create(name_of(0), &[1])?;
-    objects.create(name_of(1), &[2])?;
-    let scope = objects.enter(alloc, &[0, 1, 0])?;
+    create(&mut objects, 0, &[1])?;
+    create(&mut objects, 1, &[2])?;
+    let scope = enter(alloc, &mut objects, &[0, 1, 0])?;
     Ok(objects.close(scope))
 }
 
@@ -30,7 +30,7 @@ fn pin_often<S: FarRead>(objects: &mut Objects<i64, S>, o: u32, times: u32) -> R
 /// How many pins an object has that was pinned 65,535 times, and why it gets no more.
 fn pinned_out<S: FarRead>(alloc: Global, store: &S) -> Result<(u32, Option<Refusal>), Refusal> {
     let mut objects: Objects<i64, S> = empty(alloc, store)?;
-    objects.create(name_of(0), &[1])?;
+    create(&mut objects, 0, &[1])?;
     pin_often(&mut objects, 0, 65_535)?;
     if objects.count() == 0 {
         return Err(Refusal::NoRow);
@@ -44,12 +44,12 @@ fn written_out<S: FarRead>(
     store: &S,
 ) -> Result<(Vec<i64>, Option<Refusal>), Refusal> {
     let mut objects: Objects<i64, S> = empty(alloc, store)?;
-    objects.create(name_of(0), &[1, 2])?;
+    create(&mut objects, 0, &[1, 2])?;
     objects.may_write(0)?;
     objects.lend_mut(0).fill(9);
     objects.may_write(0)?;
     objects.lend_mut(0).fill(8);
-    let list = objects.lend(0)?.to_vec(alloc)?;
+    let list = copy_of(alloc, &objects, 0)?;
     Ok((list, objects.may_write(0).err()))
 }
 
@@ -59,13 +59,11 @@ fn entered_with_one_away<S: FarStore>(
     store: &S,
 ) -> Result<(Option<Refusal>, u32), Refusal> {
     let mut objects: Objects<i64, S> = empty(alloc, store)?;
-    objects.create(name_of(0), &[1])?;
-    objects.create(name_of(1), &[2])?;
-    let mut meter = Meter::new();
-    let bytes = i64::spell(alloc, &[2])?;
-    let ticket = store.put(alloc, &mut meter, &bytes)?;
+    create(&mut objects, 0, &[1])?;
+    create(&mut objects, 1, &[2])?;
+    let ticket = put::<i64, _>(alloc, store, &[2])?;
     objects.leave(store, 1, &ticket);
-    match objects.enter(alloc, &[0, 1]) {
+    match enter(alloc, &mut objects, &[0, 1]) {
         Ok(scope) => {
             objects.close(scope);
             Ok((None, objects.pins(0)))
@@ -76,14 +74,14 @@ fn entered_with_one_away<S: FarStore>(
 
 #[test]
 fn a_scope_gives_back_a_pin_for_each_listing(rt: HostRuntime) -> Result<(), Fail> {
-    let store = AgentStore::new(&rt, rt.alloc(), 4)?;
+    let store = agent(&rt, 4)?;
     assert_eq!(rt; pins_given_back(rt.alloc(), &store)?, 3);
     Ok(())
 }
 
 #[test]
 fn an_object_takes_65535_pins(rt: HostRuntime) -> Result<(), Fail> {
-    let store = AgentStore::new(&rt, rt.alloc(), 4)?;
+    let store = agent(&rt, 4)?;
     let (pins, refused) = pinned_out(rt.alloc(), &store)?;
     assert_eq!(rt; pins, 65_535);
     assert_eq!(rt; refused, Some(Refusal::EditsUsedUp));
@@ -92,7 +90,7 @@ fn an_object_takes_65535_pins(rt: HostRuntime) -> Result<(), Fail> {
 
 #[test]
 fn an_object_is_written_as_often_as_it_may_be(rt: HostRuntime) -> Result<(), Fail> {
-    let store = AgentStore::new(&rt, rt.alloc(), 4)?;
+    let store = agent(&rt, 4)?;
     let (list, refused) = written_out(rt.alloc(), &store)?;
     assert_eq!(rt; list.as_slice(), [8, 8].as_slice());
     assert_eq!(rt; refused, Some(Refusal::EditsUsedUp));
@@ -101,7 +99,7 @@ fn an_object_is_written_as_often_as_it_may_be(rt: HostRuntime) -> Result<(), Fai
 
 #[test]
 fn a_scope_over_an_object_that_is_away_leaves_no_pin(rt: HostRuntime) -> Result<(), Fail> {
-    let store = AgentStore::new(&rt, rt.alloc(), 4)?;
+    let store = agent(&rt, 4)?;
     let (refused, pins) = entered_with_one_away(rt.alloc(), &store)?;
     let absent = Refusal::Absent {
         column: 0,

@@ -1,9 +1,10 @@
 // Several objects that get other lists together: worked examples.
 ghost use Rattle.std.specs.Prelude.{◌≡◌, ◌<◌, length, IfOk};
 
-use super::coming::{empty, name_of};
+use super::again::{agent, create, replace_all};
+use super::coming::empty;
 use crate::{Objects, Replacement};
-use far_store::{AgentStore, FarRead};
+use far_store::FarRead;
 use far_types::Refusal;
 use std::alloc::Global;
 use std::test::Fail;
@@ -13,8 +14,8 @@ fn two_objects<S: FarRead>(alloc: Global, store: &S) -> Result<Objects<i64, S>, 
     ensures { IfOk result (λ m. length m.entries ≡ 2) }
 {
     let mut objects = empty(alloc, store)?;
-    objects.create(name_of(3), &[1, 2])?;
-    objects.create(name_of(4), &[3, 4])?;
+    create(&mut objects, 3, &[1, 2])?;
+    create(&mut objects, 4, &[3, 4])?;
     Ok(objects)
 }
 
@@ -23,7 +24,10 @@ fn given(alloc: Global, object: u32, list: &[i64]) -> Result<Replacement<i64>, R
     ensures object { IfOk result (λ r. r.object ≡ object) }
     ensures list { IfOk result (λ r. r.list.items ≡ list.now) }
 {
-    let list = list.to_vec(alloc)?;
+    let list = match list.to_vec(alloc) {
+        Ok(list) => list,
+        Err(_) => list.to_vec(alloc)?,
+    };
     Ok(Replacement { object, list })
 }
 
@@ -51,7 +55,7 @@ fn give_both<S: FarRead>(
     ensures two { length objects.new.entries ≡ 2 }
 {
     let lists = [given(alloc, 1, second)?, given(alloc, 0, first)?];
-    objects.replace_all(&lists)
+    replace_all(objects, &lists)
 }
 
 /// Gives one of two objects a list.
@@ -67,7 +71,7 @@ fn give<S: FarRead>(
     ensures two { length objects.new.entries ≡ 2 }
 {
     let lists = [given(alloc, o, list)?];
-    objects.replace_all(&lists)
+    replace_all(objects, &lists)
 }
 
 /// Whether two objects have the lists that they were given, and how often each was written then.
@@ -108,39 +112,9 @@ fn refused_written_out<S: FarRead>(
     Ok((full, used_up, kept))
 }
 
-// A call that finds no memory is made once more, so these answer if one allocation is refused.
-fn agent_at_last<R: Copy>(rt: R, alloc: Global) -> Result<AgentStore<R>, Refusal> {
-    match AgentStore::new(rt, alloc, 4) {
-        Err(Refusal::NoMemory) => AgentStore::new(rt, alloc, 4),
-        answer => answer,
-    }
-}
-
-fn objects_at_last<S: FarRead>(alloc: Global, store: &S) -> Result<Objects<i64, S>, Refusal>
-    ensures { IfOk result (λ m. length m.entries ≡ 2) }
-{
-    match two_objects(alloc, store) {
-        Err(Refusal::NoMemory) => two_objects(alloc, store),
-        answer => answer,
-    }
-}
-
-/// Whether two objects are as they were where they are refused other lists for want of memory, and whether they have
-/// them in the end.
-fn lists_at_last<S: FarRead>(alloc: Global, store: &S) -> Result<(bool, bool), Refusal> {
-    let mut objects = objects_at_last(alloc, store)?;
-    let refused = give_both(alloc, &mut objects, &[5], &[6, 7]).is_err();
-    let kept = have(&objects, &[1, 2], &[3, 4])?;
-    if refused {
-        give_both(alloc, &mut objects, &[5], &[6, 7])?;
-    }
-    let changed = have(&objects, &[6, 7], &[5])?;
-    Ok((kept == refused, changed))
-}
-
 #[test]
 fn several_objects_get_other_lists_together(rt: HostRuntime) -> Result<(), Fail> {
-    let store = AgentStore::new(&rt, rt.alloc(), 4)?;
+    let store = agent(&rt, 4)?;
     let (changed, first, second) = given_lists(rt.alloc(), &store)?;
     assert!(rt; changed);
     assert_eq!(rt; first, 1);
@@ -152,7 +126,7 @@ fn several_objects_get_other_lists_together(rt: HostRuntime) -> Result<(), Fail>
 fn lists_that_do_not_fit_beside_the_old_ones_are_refused_together(
     rt: HostRuntime,
 ) -> Result<(), Fail> {
-    let store = AgentStore::new(&rt, rt.alloc(), 4)?;
+    let store = agent(&rt, 4)?;
     let (refused, kept, changed) = refused_together(rt.alloc(), &store)?;
     assert_eq!(rt; refused, Some(Refusal::RegionFull));
     assert!(rt; kept);
@@ -162,19 +136,10 @@ fn lists_that_do_not_fit_beside_the_old_ones_are_refused_together(
 
 #[test]
 fn want_of_room_is_told_before_used_up_writes(rt: HostRuntime) -> Result<(), Fail> {
-    let store = AgentStore::new(&rt, rt.alloc(), 4)?;
+    let store = agent(&rt, 4)?;
     let (full, used_up, kept) = refused_written_out(rt.alloc(), &store)?;
     assert_eq!(rt; full, Some(Refusal::RegionFull));
     assert_eq!(rt; used_up, Some(Refusal::EditsUsedUp));
     assert!(rt; kept);
-    Ok(())
-}
-
-#[test]
-fn lists_refused_for_want_of_memory_can_be_given_again(rt: HostRuntime) -> Result<(), Fail> {
-    let store = agent_at_last(&rt, rt.alloc())?;
-    let (kept, changed) = lists_at_last(rt.alloc(), &store)?;
-    assert!(rt; kept);
-    assert!(rt; changed);
     Ok(())
 }

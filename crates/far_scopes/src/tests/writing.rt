@@ -1,7 +1,8 @@
 // Objects that are written: worked examples.
-use super::coming::{empty, name_of};
+use super::again::{agent, copy_of, create, no_objects, replace};
+use super::coming::empty;
 use crate::Objects;
-use far_store::{AgentStore, FarRead};
+use far_store::FarRead;
 use far_types::Refusal;
 use std::alloc::Global;
 use std::test::Fail;
@@ -9,12 +10,12 @@ use std::test::Fail;
 /// The number of an object of 1, 2, its list once 9 is written over its first element, and how often it was written.
 fn written_once<S: FarRead>(alloc: Global, store: &S) -> Result<(u32, Vec<i64>, u64), Refusal> {
     let mut objects = empty(alloc, store)?;
-    let number = objects.create(name_of(0), &[1, 2])?;
+    let number = create(&mut objects, 0, &[1, 2])?;
     objects.may_write(0)?;
     if let Some(first) = objects.lend_mut(0).first_mut() {
         *first = 9;
     }
-    let list = objects.lend(0)?.to_vec(alloc)?;
+    let list = copy_of(alloc, &objects, 0)?;
     Ok((number, list, objects.version(0)))
 }
 
@@ -22,10 +23,10 @@ fn written_once<S: FarRead>(alloc: Global, store: &S) -> Result<(u32, Vec<i64>, 
 /// it is not written again.
 fn written_out<S: FarRead>(
     alloc: Global,
-    _store: &S,
+    store: &S,
 ) -> Result<(bool, u64, Option<Refusal>), Refusal> {
-    let mut objects: Objects<i64, S> = Objects::new(alloc, 7, 2, 4, 1, 1)?;
-    objects.create(name_of(0), &[1, 2])?;
+    let mut objects: Objects<i64, S> = no_objects(alloc, store, 2, 4, 1)?;
+    create(&mut objects, 0, &[1, 2])?;
     objects.may_write(0)?;
     objects.lend_mut(0).fill(9);
     let dirty = objects.word(0).dirty();
@@ -35,16 +36,16 @@ fn written_out<S: FarRead>(
 /// The list of the first of two objects, once it got another.
 fn first_replaced<S: FarRead>(alloc: Global, store: &S) -> Result<Vec<i64>, Refusal> {
     let mut objects = empty(alloc, store)?;
-    objects.create(name_of(0), &[1, 2])?;
-    objects.create(name_of(1), &[3])?;
+    create(&mut objects, 0, &[1, 2])?;
+    create(&mut objects, 1, &[3])?;
     objects.touch(0);
-    objects.replace(0, &[5, 6])?;
-    Ok(objects.lend(0)?.to_vec(alloc)?)
+    replace(&mut objects, 0, &[5, 6])?;
+    copy_of(alloc, &objects, 0)
 }
 
 #[test]
 fn a_write_shows_in_the_list_and_in_the_version(rt: HostRuntime) -> Result<(), Fail> {
-    let store = AgentStore::new(&rt, rt.alloc(), 4)?;
+    let store = agent(&rt, 4)?;
     let (number, list, version) = written_once(rt.alloc(), &store)?;
     assert_eq!(rt; number, 0);
     assert_eq!(rt; list.as_slice(), [9, 2].as_slice());
@@ -54,7 +55,7 @@ fn a_write_shows_in_the_list_and_in_the_version(rt: HostRuntime) -> Result<(), F
 
 #[test]
 fn an_object_that_was_written_as_often_as_it_may_be_is_dirty(rt: HostRuntime) -> Result<(), Fail> {
-    let store = AgentStore::new(&rt, rt.alloc(), 4)?;
+    let store = agent(&rt, 4)?;
     let (dirty, version, refused) = written_out(rt.alloc(), &store)?;
     assert!(rt; dirty);
     assert_eq!(rt; version, 1);
@@ -64,7 +65,7 @@ fn an_object_that_was_written_as_often_as_it_may_be_is_dirty(rt: HostRuntime) ->
 
 #[test]
 fn another_list_of_the_first_object_is_its_own(rt: HostRuntime) -> Result<(), Fail> {
-    let store = AgentStore::new(&rt, rt.alloc(), 4)?;
+    let store = agent(&rt, 4)?;
     let list = first_replaced(rt.alloc(), &store)?;
     assert_eq!(rt; list.as_slice(), [5, 6].as_slice());
     Ok(())

@@ -1,4 +1,4 @@
-use Rattle.std.proofs.Common.{◌≡◌, length, ap, ◌∙◌}
+use Rattle.std.proofs.Common.{length, ap, ◌∙◌}
 use Rattle.far_scopes.proofs.Pins.{length-pinned_all}
 use Rattle.far_evacuator.proofs.tests.desk.enter_again.Goals as goal
 

@@ -1,0 +1,44 @@
+// What is known of objects, in one number: it takes no memory, so no refused allocation is met in its making.
+ghost use Rattle.std.specs.Prelude.{◌<◌, length};
+
+use crate::Objects;
+use far_store::FarRead;
+
+/// A number that all goes into that is known of objects: their lists, words and records, the room, and which goes away
+/// first. Takes no memory.
+pub fn digest<S: FarRead>(objects: &Objects<i64, S>) -> u64 {
+    let mut digest = match objects.coldest() {
+        Some(o) => with(1, u64::from(o)),
+        None => 0,
+    };
+    for len in 0..5 {
+        digest = with(digest, u64::from(objects.fits(len)));
+    }
+    for o in 0..objects.count() {
+        digest = with_object(digest, objects, o);
+    }
+    digest
+}
+
+fn with_object<S: FarRead>(digest: u64, objects: &Objects<i64, S>, o: u32) -> u64
+    requires { o < length objects.now.entries }
+{
+    let mut digest = with(digest, objects.word(o).bits());
+    digest = with(digest, objects.version(o));
+    digest = with(digest, objects.leavings(o));
+    digest = with(digest, u64::from(objects.pins(o)));
+    digest = with(digest, u64::from(objects.ticket(o).is_some()));
+    digest = with(digest, objects.len(o) as u64);
+    if let Ok(list) = objects.lend(o) {
+        for number in list {
+            digest = with(digest, number.unsigned_abs());
+        }
+    }
+    digest
+}
+
+fn with(digest: u64, number: u64) -> u64 {
+    digest
+        .wrapping_mul(1_099_511_628_211)
+        .wrapping_add(number ^ 0x5555)
+}
