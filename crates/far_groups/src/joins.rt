@@ -1,5 +1,5 @@
 // One map of counts and sums joined to another by walks along both.
-ghost use Rattle.std.specs.Prelude.{◌≡◌, ◌+◌, ◌^◌, ◌≤◌, None, IfOk, IfErr, OnOk, OnErr, Option};
+ghost use Rattle.std.specs.Prelude.{◌≡◌, IfOk, IfErr, OnOk, OnErr, Option};
 ghost use Rattle.std.specs.BTreeMap.{IsOrdered, IsFromIterResult};
 ghost use Rattle.std.specs.declared.cmp.Ordering.TheVariants.{Less};
 ghost use Rattle.far_types.specs.declared.key.Key.{Key};

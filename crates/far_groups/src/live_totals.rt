@@ -105,9 +105,9 @@ impl LiveTotals {
     }
 
     /// Joins the rows of another to these, key by key; one row group less is left. Nothing else of the other is looked
-    /// at. Costs two walks along the keys of both and a look-up for each key that is new here; where the other has less
-    /// than a quarter as many keys, a look-up for each of them. Takes no memory where no key is new. Refused with
-    /// `NoMemory` (1) alone, and then nothing is changed.
+    /// at. Costs two walks along the keys of both, and a look-up for each key that is new here unless these are more than
+    /// a quarter as many as the keys here; where the other has less than a quarter as many keys, a look-up for each of
+    /// them and no walk. Refused with `NoMemory` (1) alone, and then nothing is changed.
     pub fn merge(&mut self, other: &LiveTotals) -> Result<(), Refusal>
         requires left { self.old.left ≢ 0 }
         requires can_join { CanJoin self.old.totals other.now.totals }
