@@ -3,3 +3,5 @@ pub mod Changes
 pub mod Refusing
 pub mod Lending
 pub mod Numbers
+pub mod Together
+pub mod RefusingTogether
