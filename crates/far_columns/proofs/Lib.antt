@@ -7,4 +7,15 @@ pub mod Pushing
 pub mod LentCells
 pub mod Beside
 mod Walking
+pub mod Begun
+pub mod NextForms
+pub mod OnePushed
+pub mod AllPushed
+pub mod Growing
+pub mod Checking
+pub mod Fullness
+pub mod MadeForms
+pub mod GivenForms
+pub mod DueTogether
+pub mod StayColumns
 mod Flags

@@ -1,7 +1,7 @@
 -- A column of texts once it has a text more.
 use Rattle.std.proofs.Common.{◌≡◌, ◌≢◌, inl, inr, ℕ, suc, ◌+◌, ◌-◌, ◌*◌, ◌<◌, ◌≤◌, ◌^◌, eqb, Bool, true, false, cond, List, [], ◌∷◌, ◌++◌, length, get_or, Option, None, Some, refl, sym, ap, subst, ◌∙◌, arith, mul-le-mul_right}
 use Rattle.std.specs.Prelude.{IsSomeAnd, unwrap_or}
-use Rattle.std.proofs.lemmas.Bool.{eqb-true, eqb-false, ltb-false, cases_lt}
+use Rattle.std.proofs.lemmas.Bool.{eqb-true, ltb-false, cases_lt}
 use Rattle.std.proofs.lemmas.Bool.Decides.{Decides-eqb}
 use Rattle.std.proofs.lemmas.List.{length_push, get_or_default, get_or_push, get_or_append_left}
 use Rattle.std.proofs.lemmas.List.Concat.{flat_map-append}
@@ -23,6 +23,7 @@ use Rattle.far_columns.specs.Changes.{begins_group, last_object, group_with_next
 use Rattle.far_columns.specs.Refusing.{text_too_long, chunk_full, push_refusal}
 use Rattle.far_columns.proofs.Joined.{joined-push}
 use Rattle.far_columns.proofs.Groups.{group-form, group-list, group-last}
+use Rattle.far_columns.proofs.Begun.{not-full, some-group}
 use Rattle.far_columns.proofs.Changed.{some-and, column-changed, group-texts, group-others, keeps-others, texts-in-kept}
 use Rattle.far_columns.proofs.Setting.{none-due}
 
@@ -126,29 +127,20 @@ module _ (old new : Lists) (c : Texts) (is : IsTextColumn old c) (has : HasGroup
   abbrev last : ℕ
   last = length c.objects - 1
 
-  not-full : c.len ≢ length c.objects * c.size
-  not-full full = eqb-false c.len (length c.objects * c.size) begins full
-
-  some-group : 0 < length c.objects
-  some-group = elim (cases_lt 0 (length c.objects)) [
-    | inl some ↦ some
-    | inr none ↦ absurd (not-full (let zero_groups : length c.objects ≡ 0 = omega (arith, none) in let held : c.len ≤ 0 * c.size = subst (λ n. c.len ≤ n * c.size) zero_groups has.held in let empty : c.len ≡ 0 * c.size = omega (arith, held) in empty ∙ ap (λ n. n * c.size) (sym zero_groups)))
-  ]
-
   is-last : suc last ≡ length c.objects
-  is-last = omega (arith, some-group)
+  is-last = omega (arith, some-group c has begins)
 
   pub longer-others : KeepsOthers old new c
-  longer-others = keeps-others old new (last_object c) (Some bytes) changes c last (slice_get-get_or c.objects last 0 (omega (arith, some-group)))
+  longer-others = keeps-others old new (last_object c) (Some bytes) changes c last (slice_get-get_or c.objects last 0 (omega (arith, some-group c has begins)))
 
   module _ (text : Option (List ℕ)) (means : texts_meaning bytes ≡ texts_at old (last_object c) ++ text ∷ []) where
     longer-form : IsTextsForm bytes → length bytes ≤ c.limit → IsGroupForm (column-longer c) last bytes
     longer-form form short =
         let one : length (texts_meaning bytes) ≡ length (texts_at old (last_object c)) + 1 = ap (λ l. length l) means ∙ length_push (texts_at old (last_object c)) text in
         let before = group-last old c is has last is-last in
-        let count = (group-form old c is last (omega (arith, some-group))).count in
+        let count = (group-form old c is last (omega (arith, some-group c has begins))).count in
         let below : c.len ≤ suc last * c.size = subst (λ n. c.len ≤ n * c.size) (sym is-last) has.held in
-        let unlike : c.len ≢ suc last * c.size = subst (λ n. c.len ≢ n * c.size) (sym is-last) not-full in
+        let unlike : c.len ≢ suc last * c.size = subst (λ n. c.len ≢ n * c.size) (sym is-last) (not-full c has begins) in
         record { form = form; count = omega (arith, one, before, count, below, unlike); short = short }
 
     stays-longer : (k : ℕ) (form : List ℕ) → k < length c.objects → k ≢ last → IsGroupForm c k form → IsGroupForm (column-longer c) k form
@@ -157,11 +149,11 @@ module _ (old new : Lists) (c : Texts) (is : IsTextColumn old c) (has : HasGroup
         record { form = was.form; count = omega (arith, was.count, long, has.begun); short = was.short }
 
     pub longer-is : IsTextsForm bytes → length bytes ≤ c.limit → IsTextColumn new (column-longer c)
-    longer-is form short = column-changed old new c is last (omega (arith, some-group)) bytes changes (column-longer c) refl stays-longer (longer-form form short)
+    longer-is form short = column-changed old new c is last (omega (arith, some-group c has begins)) bytes changes (column-longer c) refl stays-longer (longer-form form short)
 
     pub longer-texts : texts_in new (column-longer c) ≡ texts_in old c ++ text ∷ []
     longer-texts =
-        let begun : last < length c.objects = omega (arith, some-group) in
+        let begun : last < length c.objects = omega (arith, some-group c has begins) in
         joined-push (texts_at old) (texts_at new) c.objects last text is-last (group-others old new c is last begun bytes changes) (group-texts old new c is last begun bytes changes ∙ means)
 
 module _ {K : Type 0} (content : K → List ℕ) (m : Movement ℕ K) (c : Texts) (text : Option (List ℕ)) where

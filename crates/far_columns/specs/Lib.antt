@@ -4,3 +4,5 @@ pub mod Columns
 pub mod Refusing
 pub mod Lending
 pub mod Numbers
+pub mod Together
+pub mod RefusingTogether

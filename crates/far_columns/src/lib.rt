@@ -10,7 +10,7 @@ mod text_column;
 pub use alive::Alive;
 pub use int_column::IntColumn;
 pub use lent::{Lent, Lents};
-pub use text_column::{TextCell, TextCells, TextColumn};
+pub use text_column::{TextCell, TextCells, TextColumn, push_texts};
 
 #[cfg(test)]
 mod tests;

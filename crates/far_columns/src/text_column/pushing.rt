@@ -70,7 +70,7 @@ impl TextColumn {
     }
 
     // What is known of the column and of the objects before a text is pushed: the next object's number has no list.
-    fn known_before_push<S: FarRead>(&self, objects: &Objects<u8, S>)
+    pub(super) fn known_before_push<S: FarRead>(&self, objects: &Objects<u8, S>)
         requires { IsTextColumn (lists_of S.content objects.now) self.now }
         ensures objects { length self.now.objects ≤ length objects.now.entries }
         ensures groups { HasGroups self.now }

@@ -1,8 +1,9 @@
 // Texts of a column, lent in place.
-ghost use Rattle.std.specs.Prelude.{◌≡◌, ◌<◌, length, Some, IfOk, slice_get, slice_index};
+ghost use Rattle.std.specs.Prelude.{◌≡◌, ◌<◌, length, false, Some, IfOk, slice_get, slice_index};
 ghost use Rattle.std.specs.Option.{option_copied};
 ghost use Rattle.far_scopes.specs.Refusing.{refusal_in, lend_refusal};
 ghost use Rattle.far_columns.specs.Texts.{lists_of, texts_in, IsTextColumn, IsGroupForm};
+ghost use Rattle.far_columns.specs.Changes.{begins_group, last_object};
 ghost use Rattle.far_columns.specs.Refusing.{text_refusal};
 
 use super::TextColumn;
@@ -38,6 +39,18 @@ impl TextColumn {
     {
         let o = self.object_in_use(objects, group);
         objects.lend(o)
+    }
+
+    // The far form of the last row group, in which the next place lies, lent in place.
+    pub(super) fn last_form<'a, S: FarRead>(
+        &self,
+        objects: &'a Objects<u8, S>,
+    ) -> Result<&'a [u8], Refusal>
+        requires begun { begins_group self.now ≡ false }
+        requires is { IsTextColumn (lists_of S.content objects.now) self.now }
+        ensures refused { refusal_in result ≡ lend_refusal objects.now (last_object self.now) }
+    {
+        self.form(objects, self.objects.len() - 1)
     }
 
     /// The text of a place, lent in place; `None` where it is missing. Takes no memory, and looks at the head of one form,

@@ -1,4 +1,4 @@
-use Rattle.std.proofs.Common.{◌+◌, get_or, rules, sym, ap, ◌∙◌, arith}
+use Rattle.std.proofs.Common.{◌+◌, get_or, rules, ap, ◌∙◌}
 use Rattle.std.specs.Prelude.{slice_range}
 use Rattle.far_scopes.specs.Refusing.{first_absent}
 use Rattle.far_columns.proofs.LentCells.{range-next, away-first, here-first}

@@ -1,4 +1,4 @@
-use Rattle.std.proofs.Common.{◌≡◌, ◌≤◌, length}
+use Rattle.std.proofs.Common.{◌≡◌}
 use Rattle.std.specs.Prelude.{slice_range}
 use Rattle.far_scopes.specs.Refusing.{first_absent}
 use Rattle.far_columns.proofs.text_column.TextColumn.all_here.Given as goal
