@@ -84,6 +84,14 @@ impl Draws {
 struct Step(Result<(), Refusal>, Result<(), Refusal>);
 
 impl Step {
+    /// The same, unless memory is wanting and nothing can be said.
+    fn with_memory(self) -> Result<Step, Refusal> {
+        if self.0 == Err(Refusal::NoMemory) || self.1 == Err(Refusal::NoMemory) {
+            return Err(Refusal::NoMemory);
+        }
+        Ok(self)
+    }
+
     /// The same of a call that answers more, which should be the same too.
     fn of<T: Drop + PartialEq>(found: Result<T, Refusal>, wanted: Result<T, Refusal>) -> Step {
         let differ = match (&found, &wanted) {

@@ -247,5 +247,5 @@ pub fn step<S: FarStore>(
     if found.is_ok() {
         steps.keep_up(alloc, k, call)?;
     }
-    Ok(Step(found, wanted))
+    Step(found, wanted).with_memory()
 }

@@ -152,7 +152,7 @@ fn back<S: FarStore>(
 }
 
 // A call on one column.
-fn change<S: FarStore>(
+fn change_once<S: FarStore>(
     alloc: Global,
     objects: &mut Objects<Option<i64>, S>,
     store: &S,
@@ -172,6 +172,31 @@ fn change<S: FarStore>(
         NumberCall::Unpush => unpush(objects, column),
         NumberCall::SendAway(group) => away(alloc, objects, store, column, group),
         NumberCall::BringBack(group) => back(alloc, objects, store, column, group),
+    }
+}
+
+// The same, made once more where it is refused for want of memory. That an object is brought back is not repeated: the
+// store may count it twice.
+fn change<S: FarStore>(
+    alloc: Global,
+    objects: &mut Objects<Option<i64>, S>,
+    store: &S,
+    column: &mut IntColumn,
+    call: NumberCall,
+) -> Result<(), Refusal>
+    requires is { IsVector (number_lists S.content objects.old) column.old }
+    requires four { column.old.size ≡ 4 }
+    requires here { AreHere S.is_of (S.name store.now) objects.old }
+    ensures changes { ChangesVector (number_lists S.content objects.old) (number_lists S.content objects.new) column.old column.new }
+    ensures size { column.new.size ≡ column.old.size }
+    ensures here { AreHere S.is_of (S.name store.now) objects.new }
+{
+    if let NumberCall::BringBack(_) = call {
+        return change_once(alloc, objects, store, column, call);
+    }
+    match change_once(alloc, objects, store, column, call) {
+        Err(Refusal::NoMemory) => change_once(alloc, objects, store, column, call),
+        reply => reply,
     }
 }
 

@@ -306,5 +306,5 @@ pub fn step<S: FarStore>(
     if found.is_ok() {
         steps.keep_up(k, call)?;
     }
-    Ok(Step(found, wanted))
+    Step(found, wanted).with_memory()
 }

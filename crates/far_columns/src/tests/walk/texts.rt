@@ -102,7 +102,7 @@ fn back<S: FarStore>(
 }
 
 // A call on one column.
-fn change<S: FarStore>(
+fn change_once<S: FarStore>(
     alloc: Global,
     objects: &mut Objects<u8, S>,
     store: &S,
@@ -119,6 +119,29 @@ fn change<S: FarStore>(
         TextCall::Set(place, text) => set(alloc, objects, column, place, text),
         TextCall::SendAway(group) => away(alloc, objects, store, column, group),
         TextCall::BringBack(group) => back(alloc, objects, store, column, group),
+    }
+}
+
+// The same, made once more where it is refused for want of memory. That an object is brought back is not repeated: the
+// store may count it twice.
+fn change<S: FarStore>(
+    alloc: Global,
+    objects: &mut Objects<u8, S>,
+    store: &S,
+    column: &mut TextColumn,
+    call: TextCall<'_>,
+) -> Result<(), Refusal>
+    requires is { IsTextColumn (lists_of S.content objects.old) column.old }
+    requires here { AreHere S.is_of (S.name store.now) objects.old }
+    ensures changes { ChangesColumn (lists_of S.content objects.old) (lists_of S.content objects.new) column.old column.new }
+    ensures here { AreHere S.is_of (S.name store.now) objects.new }
+{
+    if let TextCall::BringBack(_) = call {
+        return change_once(alloc, objects, store, column, call);
+    }
+    match change_once(alloc, objects, store, column, call) {
+        Err(Refusal::NoMemory) => change_once(alloc, objects, store, column, call),
+        reply => reply,
     }
 }
 
