@@ -18,4 +18,5 @@ pub mod MadeForms
 pub mod GivenForms
 pub mod DueTogether
 pub mod StayColumns
+pub mod KeptColumns
 mod Flags

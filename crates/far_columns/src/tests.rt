@@ -4,4 +4,5 @@ mod alive;
 mod int_column;
 mod moving;
 mod text_column;
+mod together;
 mod walk;

@@ -9,12 +9,12 @@ use std::alloc::Global;
 use std::test::Fail;
 
 /// A text.
-fn text(alloc: Global, text: &str) -> Result<Option<Text>, Refusal> {
+pub fn text(alloc: Global, text: &str) -> Result<Option<Text>, Refusal> {
     Ok(Some(Text::new(String::from_str(alloc, text)?)))
 }
 
 /// A text of so many letters `a`.
-fn letters(alloc: Global, count: usize) -> Result<Option<Text>, Refusal> {
+pub fn letters(alloc: Global, count: usize) -> Result<Option<Text>, Refusal> {
     let mut string = String::new(alloc);
     for _ in 0..count {
         string.push_str("a")?;
@@ -39,7 +39,7 @@ fn push<S: FarRead>(
 }
 
 /// Whether the text of a place is this one.
-fn is_at<S: FarRead>(
+pub fn is_at<S: FarRead>(
     objects: &Objects<u8, S>,
     column: &TextColumn,
     place: usize,
