@@ -1,8 +1,11 @@
 // What no clause says: that calls are served, that worked examples come out as they should, and that random calls agree
 // with plain lists.
+mod again;
 mod alive;
+mod digest;
 mod int_column;
 mod moving;
+mod refusals;
 mod text_column;
 mod together;
 mod walk;
