@@ -17,7 +17,7 @@ use Rattle.far_scopes.specs.Replacing.{no_room_for_all}
 use Rattle.far_columns.specs.Texts.{Texts, lists_of}
 use Rattle.far_columns.specs.Together.{all_begin, next_forms, given_forms}
 use Rattle.far_columns.specs.RefusingTogether.{no_room_for, some_written_out, first_tests, last_tests, push_texts_refusal}
-use Rattle.far_columns.proofs.Checking.{first-append}
+use Rattle.far_columns.proofs.FirstCases.{first-append}
 
 any-mapped : {A B : Type 0} (p : B → Bool) (f : A → B) (xs : List A) → list_any p (map f xs) ≡ list_any (λ x. p (f x)) xs
 any-mapped p f [] = refl

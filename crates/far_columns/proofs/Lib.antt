@@ -1,4 +1,5 @@
 pub mod Joined
+pub mod RowGroups
 pub mod Groups
 pub mod InUse
 pub mod Changed
@@ -12,6 +13,11 @@ pub mod NextForms
 pub mod OnePushed
 pub mod AllPushed
 pub mod Growing
+pub mod FirstCases
+pub mod Alike
+pub mod NumbersTogether
+pub mod NumbersPushed
+pub mod NumbersBegun
 pub mod Checking
 pub mod Fullness
 pub mod MadeForms

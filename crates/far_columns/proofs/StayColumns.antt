@@ -4,7 +4,7 @@ use Rattle.std.specs.Prelude.{All, slice_get, ◌⊎◌}
 use Rattle.std.proofs.lemmas.Bool.{cases_lt, cases_eq, cases_Bool}
 use Rattle.std.proofs.lemmas.Option.{same_Some, slice_get-get_or, slice_get_within, get_or_from_slice_get, none-some}
 use Rattle.far_scopes.proofs.WordPlaces.{slice_get-push_last, slice_get-push_other}
-use Rattle.far_columns.specs.Texts.{Texts, Lists, HasGroups, AreApart}
+use Rattle.far_columns.specs.Texts.{Texts, Lists, HasGroups, IsTextColumn, AreApart}
 use Rattle.far_columns.specs.Changes.{begins_group, pushed}
 use Rattle.far_columns.specs.Together.{AreColumns, next_forms, all_pushed, ChangesTo, AreNextForms}
 use Rattle.far_columns.proofs.Groups.{group-list}
@@ -44,6 +44,18 @@ module _ (old : Lists) (n : ℕ) (columns : List Texts) (are : AreColumns old co
         let list = group-list old c (column-is old n columns are groups fresh k c here) g (slice_get_within c.objects g q at) in
         absurd (none-some _ (sym (fresh q past) ∙ ap old (sym (get_or_from_slice_get c.objects g q 0 at)) ∙ list))
   ]
+
+  -- a column that has no object in common with one of these has none in common with what they become
+  pub stays-apart : (d : Texts) → IsTextColumn old d → All (λ c. AreApart c d) columns → All (λ c. AreApart c d) (all_pushed n columns)
+  stays-apart d is apart k e below =
+      let inside : k < length columns = subst (λ m. k < m) (length-pushed n columns) below in
+      let c = get_or columns k e in
+      subst (λ x. AreApart x d) (sym (pushed-at n columns k e inside)) (λ g h q here there. elim (object-of c (n + k) g q here) [
+        | inl mine ↦ apart k e inside g h q mine there
+        | inr new ↦
+            let list = group-list old d is h (slice_get_within d.objects h q there) in
+            absurd (none-some _ (sym (fresh q (omega (arith, new))) ∙ ap old (sym (get_or_from_slice_get d.objects h q 0 there)) ∙ list))
+      ])
 
   module _ (new : Lists) (texts : List (Option (List ℕ))) (even : length texts ≡ length columns) (valid : AreNextForms old columns texts) (changes : ChangesTo old new (next_forms old n columns texts)) where
     pub stay-columns : AreColumns new (all_pushed n columns)

@@ -5,7 +5,7 @@ use Rattle.std.specs.Option.{option_map, option_or}
 use Rattle.far_codec.specs.TextForm.{IsTextsForm}
 use Rattle.far_scopes.specs.Memory.{list_in}
 use Rattle.far_scopes.specs.Movement.{Movement, AreTracked, meant, ticket_of}
-use Rattle.far_vector.specs.Vector.{Vector, IsVector, AreApart, IsUntouched}
+use Rattle.far_vector.specs.Vector.{Vector}
 use Rattle.far_vector.specs.Vectors.{ChangesVector}
 use Rattle.far_columns.specs.Texts.{Texts, Lists, IsTextColumn, IsGroupForm, lists_of}
 use Rattle.far_columns.specs.Columns.{ChangesColumn}

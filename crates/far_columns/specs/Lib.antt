@@ -5,4 +5,5 @@ pub mod Refusing
 pub mod Lending
 pub mod Numbers
 pub mod Together
+pub mod NumbersTogether
 pub mod RefusingTogether

@@ -1,5 +1,5 @@
 // Which places of a table are alive.
-ghost use Rattle.std.specs.Prelude.{◌≡◌, ◌++◌, ◌∷◌, ◌<◌, ◌≤◌, [], length, slice_range, slice_set, true, false, OnOk, OnErr, IfErr};
+ghost use Rattle.std.specs.Prelude.{◌≡◌, ◌++◌, ◌∷◌, ◌<◌, ◌≤◌, ◌-◌, [], length, take, slice_range, slice_set, true, false, OnOk, OnErr, IfErr};
 
 use far_types::Refusal;
 use std::alloc::Global;
@@ -44,6 +44,14 @@ impl Alive {
     {
         self.flags.push(true)?;
         Ok(())
+    }
+
+    /// Takes back the last push: the last place goes. Takes no memory.
+    pub fn unpush(&mut self)
+        requires { 0 < length self.old }
+        ensures { self.new ≡ take (length self.old - 1) self.old }
+    {
+        self.flags.pop();
     }
 
     /// The place is not alive from now on. Takes no memory.

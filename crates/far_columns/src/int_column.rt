@@ -1,15 +1,18 @@
 // A column of numbers.
-ghost use Rattle.std.specs.Prelude.{◌≡◌, ◌++◌, ◌∷◌, ◌-◌, ◌+◌, ◌*◌, ◌<◌, ◌^◌, ◌⊎◌, ℕ, pos, List, [], Option, length, map, true, None, Some, take, All, IfOk, IfErr, OnOk, OnErr, slice_get, slice_set, slice_range};
+ghost use Rattle.std.specs.Prelude.{◌≡◌, ◌++◌, ◌∷◌, ◌-◌, ◌+◌, ◌*◌, ◌<◌, ◌^◌, ◌⊎◌, ℕ, pos, List, [], Option, length, map, true, false, None, Some, take, All, IfOk, IfErr, OnOk, OnErr, slice_get, slice_set, slice_range};
 ghost use Rattle.std.specs.List.{flat_map};
+ghost use Rattle.far_log.specs.Room.{spaces_of, fit_in_order};
 ghost use Rattle.far_scopes.specs.Movement.{AreClean, AreHere, ChangesObject, is_local, pins_of};
 ghost use Rattle.far_scopes.specs.Effects.{uncreated};
-ghost use Rattle.far_scopes.specs.Refusing.{refusal_in};
+ghost use Rattle.far_scopes.specs.Refusing.{refusal_in, lend_refusal, write_refusal};
 ghost use Rattle.far_codec.specs.Reading.{ints_meaning};
 ghost use Rattle.far_vector.specs.Vector.{Vector, IsShaped, IsVector, AreApart, IsUntouched, KeepsOthers, object_at};
 ghost use Rattle.far_vector.specs.Effects.{is_full, pushed, pushed_in, unpushed, range_written};
 ghost use Rattle.far_vector.specs.Pieces.{pieces_of};
 ghost use Rattle.far_vector.specs.Refusing.{get_refusal, set_refusal, push_refusal, pieces_refusal};
-ghost use Rattle.far_columns.specs.Numbers.{Numbers, number_lists, numbers_in};
+ghost use Rattle.far_columns.specs.Numbers.{Numbers, number_lists, numbers_in, with_flags};
+
+mod together;
 
 use crate::alive::Alive;
 use crate::lent::Lents;
@@ -19,11 +22,12 @@ use far_types::Refusal;
 use far_vector::FarVector;
 use std::alloc::Global;
 use std::marker::Model;
+pub use together::push_numbers;
 
 /// A column of numbers, each of which may be missing. The numbers of a row group are the list of one object of the
 /// `Objects<Option<i64>, S>` that each call names; in places that are not yet used stands 0.
 ///
-/// Contracts see the column as a vector, and its numbers by the lists of its objects.
+/// Contracts see the column as a vector, whose blank number is 0, and its numbers by the lists of its objects.
 #[derive(Drop)]
 pub struct IntColumn {
     vector: FarVector<Option<i64>>,
@@ -32,10 +36,13 @@ pub struct IntColumn {
 impl Model for IntColumn {
     ghost use Rattle.std.specs.Prelude.{Option, ℤ};
     ghost use Rattle.far_vector.specs.Vector.{Vector};
+    ghost use Rattle.std.specs.Prelude.{◌≡◌, Some, pos};
 
     ghost Value = { Vector (Option ℤ) };
 
     ghost view = { λ c. c.vector };
+
+    ghost invariant = { λ c. c.vector.blank ≡ Some (pos 0) };
 }
 
 impl IntColumn {
@@ -58,6 +65,7 @@ impl IntColumn {
     pub fn len(&self) -> usize
         ensures len { result ≡ self.now.len }
         ensures shaped { IsShaped self.now }
+        ensures blank { self.now.blank ≡ Some (pos 0) }
     {
         self.vector.len()
     }
@@ -98,10 +106,12 @@ impl IntColumn {
         number: Option<i64>,
     ) -> Result<(), Refusal>
         requires is { IsVector (number_lists S.content objects.old) self.old }
-        requires few { length objects.old.entries < 2 ^ 28 }
+        requires few { is_full self.old ≡ true → length objects.old.entries < 2 ^ 28 }
         ensures pushed { OnOk result (self.new ≡ pushed self.old (length objects.old.entries)) }
         ensures written { OnOk result (objects.new ≡ pushed_in objects.old self.old number) }
         ensures undone { OnOk result (is_full self.old ≡ true → (unpushed self.new ≡ self.old) × (uncreated objects.new ≡ objects.old)) }
+        ensures last { OnOk result (is_full self.old ≡ true → (is_local objects.new (length objects.old.entries) ≡ true) × (pins_of objects.new (length objects.old.entries) ≡ 0)) }
+        ensures next { OnOk result (is_full self.old ≡ true → (lens : List ℕ) → fit_in_order (spaces_of objects.old.memory.room) (self.old.size ∷ lens) ≡ fit_in_order (spaces_of objects.new.memory.room) lens) }
         ensures numbers { OnOk result (numbers_in S.content objects.new self.new ≡ numbers_in S.content objects.old self.old ++ number ∷ []) }
         ensures is { IsVector (number_lists S.content objects.new) self.new }
         ensures apart { (w : Vector (Option ℤ)) → IsVector (number_lists S.content objects.old) w → AreApart self.old w → IsUntouched (number_lists S.content objects.old) (number_lists S.content objects.new) self.new w }
@@ -177,6 +187,7 @@ impl IntColumn {
     ) -> Result<Lents<'a, S>, Refusal>
         requires is { IsVector (number_lists S.content objects.now) self.now }
         requires flags { length alive.now ≡ self.now.len }
+        ensures lent { IfOk result (λ lents. lents ≡ with_flags (pieces_of (numbers_in S.content objects.now self.now) self.now.size from to) (slice_range alive.now from to)) }
         ensures values { IfOk result (λ lents. map (λ lent. lent.0) lents ≡ pieces_of (numbers_in S.content objects.now self.now) self.now.size from to) }
         ensures joined { IfOk result (λ lents. flat_map (λ lent. lent.0) lents ≡ slice_range (numbers_in S.content objects.now self.now) from to) }
         ensures alive { IfOk result (λ lents. flat_map (λ lent. lent.1) lents ≡ slice_range alive.now from to) }
@@ -187,5 +198,30 @@ impl IntColumn {
         let _len = self.vector.len();
         let pieces = self.vector.pieces(objects, from, to)?;
         Ok(Lents::new(pieces, alive.flags(from, to)))
+    }
+
+    // Whether the next number begins a row group.
+    fn begins_group(&self) -> bool
+        ensures { result ≡ is_full self.now }
+    {
+        self.vector.begins_group()
+    }
+
+    // Whether the object of the next place is local, whose row group is begun.
+    fn next_is_here<S: FarRead>(&self, objects: &Objects<Option<i64>, S>) -> Result<(), Refusal>
+        requires is { IsVector (number_lists S.content objects.now) self.now }
+        requires begun { is_full self.now ≡ false }
+        ensures { refusal_in result ≡ lend_refusal objects.now (object_at self.now self.now.len) }
+    {
+        self.vector.next_is_here(objects)
+    }
+
+    // Whether it may be written.
+    fn next_is_writable<S: FarRead>(&self, objects: &Objects<Option<i64>, S>) -> Result<(), Refusal>
+        requires is { IsVector (number_lists S.content objects.now) self.now }
+        requires begun { is_full self.now ≡ false }
+        ensures { refusal_in result ≡ write_refusal objects.now (object_at self.now self.now.len) }
+    {
+        self.vector.next_is_writable(objects)
     }
 }

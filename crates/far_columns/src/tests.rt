@@ -2,9 +2,12 @@
 // with plain lists.
 mod again;
 mod alive;
+mod coming_back;
 mod digest;
 mod int_column;
+mod lending;
 mod moving;
+mod numbers_together;
 mod refusals;
 mod text_column;
 mod together;

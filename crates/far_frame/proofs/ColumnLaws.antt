@@ -1,8 +1,8 @@
 -- How the row at a place follows from the columns, and how it changes with them.
-use Rattle.std.proofs.Common.{◌≡◌, ℕ, zero, suc, ◌+◌, ◌-◌, ◌<◌, ◌≤◌, Bool, true, List, [], ◌∷◌, ◌++◌, map, length, take, get_or, set, refl, sym, ap, ◌∙◌, arith, ◌≢◌, Option, Some, None}
+use Rattle.std.proofs.Common.{◌≡◌, ℕ, zero, suc, ◌+◌, ◌<◌, ◌≤◌, Bool, true, List, [], ◌∷◌, ◌++◌, map, length, get_or, set, refl, sym, ap, ◌∙◌, arith, ◌≢◌, Option, Some, None}
 use Rattle.std.specs.Prelude.{ℤ, ◌&&◌, false, not, option_map, slice_get}
 use Rattle.std.specs.List.{All}
-use Rattle.std.proofs.lemmas.List.{map-set, set-get_or, get_or-set_same, get_or-set_other, get_or_append_left, get_or_push, get_or-take, length-map, length-set, length-take, length_push}
+use Rattle.std.proofs.lemmas.List.{map-set, set-get_or, get_or-set_same, get_or-set_other, get_or_append_left, get_or_push, length-map, length-set, length_push}
 use Rattle.std.proofs.lemmas.List.Elements.{All-nil, All-cons, All-head, All-tail, All-weaker, All-set}
 use Rattle.std.proofs.lemmas.Option.{slice_get-map, slice_get_read}
 use Rattle.std.proofs.Math.ListN.{get_or-map}
@@ -14,7 +14,7 @@ use Rattle.far_types.specs.Edits.{kinds_fit, is_of_other_kind}
 use Rattle.far_frame.specs.declared.column.Column.{Column}
 use Rattle.far_frame.specs.declared.column.Column.TheVariants.{Ints, Texts}
 use Rattle.far_frame.specs.Columns.{int_cell, text_cell, kind_in, cells_in}
-use Rattle.far_frame.specs.Rows.{row_at, pushed, shorter, IsFull, IsRow}
+use Rattle.far_frame.specs.Rows.{row_at, pushed, IsFull, IsRow}
 
 -- the cells of a column are as many as places
 abbrev pub AsLong : ℕ → List (List Cell) → Type 0
@@ -57,14 +57,6 @@ row_at-new (cells ∷ columns) (new ∷ row) n long width =
     let l : length cells ≡ n = All-head (λ (cs : List Cell). length cs ≡ n) cells columns long in
     let here = get_or_push cells new cell.Missing n l in
     let there = row_at-new columns row n (All-tail (λ (cs : List Cell). length cs ≡ n) cells columns long) (omega arith) in
-    λ k. here k ∷ there k
-
-pub row_at-shorter : (columns : List (List Cell)) (n i : ℕ) → AsLong n columns → i < n - 1 → row_at (map shorter columns) i ≡ row_at columns i
-row_at-shorter [] n i long within = refl
-row_at-shorter (cells ∷ columns) n i long within =
-    let l : length cells ≡ n = All-head (λ (cs : List Cell). length cs ≡ n) cells columns long in
-    let here = get_or-take (length cells - 1) cells i cell.Missing (omega arith) in
-    let there = row_at-shorter columns n i (All-tail (λ (cs : List Cell). length cs ≡ n) cells columns long) within in
     λ k. here k ∷ there k
 
 pub pushed-nothing : (columns : List (List Cell)) → pushed columns [] ≡ columns
@@ -150,11 +142,6 @@ fits-set [] i new fits here = tt
 fits-set (first ∷ row) zero new fits here = (here, fits.1)
 fits-set (first ∷ row) (suc i) new fits here = (fits.0, fits-set row i new fits.1 here)
 
-pub fits-take : (row : List Cell) (n : ℕ) → RowFits row → RowFits (take n row)
-fits-take row zero fits = tt
-fits-take [] (suc n) fits = tt
-fits-take (first ∷ row) (suc n) fits = (fits.0, fits-take row n fits.1)
-
 pub full-push : (columns : List (List Cell)) (row : List Cell) (n m : ℕ) → n + 1 ≡ m → length row ≡ length columns → RowFits row → All (IsFull n) columns → All (IsFull m) (pushed columns row)
 full-push [] row n m e width fits full = All-nil (IsFull m)
 full-push (cells ∷ columns) [] n m e width fits full = absurd (omega arith)
@@ -162,13 +149,6 @@ full-push (cells ∷ columns) (new ∷ row) n m e width fits full =
     let here : IsFull n cells = All-head (IsFull n) cells columns full in
     let first : IsFull m (cells ++ new ∷ []) = record { count = omega (arith, length_push cells new, here.count); fits = fits-push cells new here.fits fits.0 } in
     All-cons (IsFull m) (cells ++ new ∷ []) (pushed columns row) first (full-push columns row n m e (omega arith) fits.1 (All-tail (IsFull n) cells columns full))
-
-pub full-pop : (columns : List (List Cell)) (n m : ℕ) → n - 1 ≡ m → All (IsFull n) columns → All (IsFull m) (map shorter columns)
-full-pop [] n m e full = All-nil (IsFull m)
-full-pop (cells ∷ columns) n m e full =
-    let here : IsFull n cells = All-head (IsFull n) cells columns full in
-    let first : IsFull m (shorter cells) = record { count = omega (arith, length-take (length cells - 1) cells, here.count); fits = fits-take cells (length cells - 1) here.fits } in
-    All-cons (IsFull m) (shorter cells) (map shorter columns) first (full-pop columns n m e (All-tail (IsFull n) cells columns full))
 
 pub full-set : (columns : List (List Cell)) (n c p : ℕ) (new : Cell) → c < length columns → CellFits new → All (IsFull n) columns → All (IsFull n) (set columns c (set (get_or columns c []) p new))
 full-set columns n c p new within fits full =

@@ -21,10 +21,10 @@ use Rattle.far_frame.specs.Kept.{Slot, Change}
 use Rattle.far_frame.specs.Changes.{change_of, KeptFolds, Folds, EachFolds}
 use Rattle.far_frame.specs.Coming.{coming_of, come_of, kept_more, added, kept_back, back, KeptMayAdd, MayAdd, KeptMayBack, MayBack, EachMayBack, KeptFits, Fits, EachFits}
 use Rattle.far_frame.specs.Rooms.{KeptHasRoom, HasRoom, HaveRoom}
-use Rattle.far_frame.specs.Until.{zip_until}
+use Rattle.far_frame.specs.Until.{zip_until, zip_all}
 use Rattle.far_frame.proofs.CountLaws.{few_under, can_take}
-use Rattle.far_frame.proofs.ListLaws.{set-again, set-own, length-written}
-use Rattle.far_frame.proofs.UntilLaws.{zip_until-below}
+use Rattle.far_frame.proofs.ListLaws.{set-again, set-own, length-written, length-zip_all}
+use Rattle.far_frame.proofs.UntilLaws.{zip_until-below, zip_until-undo, zip_until-all}
 
 kept-may_add : (g : ℕ) (k : Kept) (c : Coming) → KeptFits g k c → KeptMayAdd g k c.pair
 kept-may_add g (kept.Totals live) c h =
@@ -101,6 +101,19 @@ until-may_back g n slots comes h k s c l here there =
     let is : s ≡ added g was.0 c = same_some _ _ (sym here ∙ zip_until-below (added g) n k slots comes was.0 c l was.1 there) in
     subst (λ t. MayBack g t c) (sym is) (fits-may_back g was.0 c (h k was.0 c was.1 there))
 
+-- and so may each that was added to all
+all-may_back : (g : ℕ) (slots : List Slot) (comes : List (Option Coming)) → EachFits g slots comes → EachMayBack g (length (zip_all (added g) slots comes)) (zip_all (added g) slots comes) comes
+all-may_back g slots comes fits =
+    let n = length (zip_all (added g) slots comes) in
+    subst (λ l. EachMayBack g n l comes) (zip_until-all (added g) n slots comes (omega (arith, length-zip_all (added g) slots comes))) (until-may_back g n slots comes fits)
+
+all-undo : (g : ℕ) (slots : List Slot) (comes : List (Option Coming)) → EachFits g slots comes → zip_all (back g) (zip_all (added g) slots comes) comes ≡ slots
+all-undo g slots comes fits =
+    let n = length slots in
+    sym (zip_until-all (back g) n (zip_all (added g) slots comes) comes (omega (arith, length-zip_all (added g) slots comes)))
+    ∙ ap (λ l. zip_until (back g) n l comes) (sym (zip_until-all (added g) n slots comes (omega arith)))
+    ∙ zip_until-undo (added g) (back g) n slots comes (λ k s d h i. fits-undo g s d (fits k s d h i))
+
 -- what comes of a place fits what is kept, where totals are few and extrema have room
 kept-fits : (g : ℕ) (a : Aggregate) (k : Kept) (o : Change) → KeptFolds k → KeptHasRoom g k → Fits g (Some (record a { kept = k })) (option_map (coming_of g k) o)
 kept-fits g a k None f r = tt
@@ -118,3 +131,14 @@ each-fits size i o (t ∷ slots) f r zero s c here there =
     let b : come_of size i o t ≡ c = cc in
     subst (λ u. Fits (i / size) u c) a (subst (Fits (i / size) t) b (slot-fits size i o t (f 0 t refl) r.0))
 each-fits size i o (t ∷ slots) f r (suc k) s c here there = each-fits size i o slots (λ j. f (suc j)) r.1 k s c here there
+
+-- what came of a place into all can be taken back, and then all are as they were
+module _ (size i : ℕ) (o : Option Place) (slots mid : List Slot) (comes : List (Option Coming)) (is : comes ≡ map (come_of size i o) slots) (came : mid ≡ zip_all (added (i / size)) slots comes) (folds : EachFolds slots) (room : HaveRoom (i / size) slots) where
+  comes-fit : EachFits (i / size) slots comes
+  comes-fit = subst (EachFits (i / size) slots) (sym is) (each-fits size i o slots folds room)
+
+  pub came-may_back : EachMayBack (i / size) (length mid) mid comes
+  came-may_back = subst (λ l. EachMayBack (i / size) (length l) l comes) (sym came) (all-may_back (i / size) slots comes comes-fit)
+
+  pub came-undone : zip_all (back (i / size)) mid comes ≡ slots
+  came-undone = ap (λ l. zip_all (back (i / size)) l comes) came ∙ all-undo (i / size) slots comes comes-fit

@@ -22,7 +22,6 @@ use Rattle.far_frame.proofs.BuiltLaws.{PlacesFit, built-fits, length-built}
 use Rattle.far_frame.proofs.GroupLaws.{get-changed}
 use Rattle.far_frame.proofs.KeepLaws.{slot, slot-insert, slot-set, slot-may_take}
 use Rattle.far_frame.proofs.ListLaws.{all-get, map-zip_all}
-use Rattle.far_frame.proofs.PairLaws.{find}
 
 -- totals are those of few pairs
 
@@ -102,51 +101,27 @@ module _ (size : ℕ) (f : Place → Place) (ps : List Place) (i : ℕ) (x y : P
       (subst (MayTake size (i / size) (changed_at f i ps) (added (i / size) t (come_of size i (Some y) t))) b (slot-may_take size f ps i x y positive here there fit row t h.0 room.0))
   each-may_take fit row (t ∷ slots) h room (suc k) s c p q = each-may_take fit row slots h.1 room.1 k s c p q
 
-get-last : (ps : List Place) (p : Place) → slice_get (ps ++ p ∷ []) (length ps) ≡ Some p
-get-last [] p = refl
-get-last (q ∷ ps) p = get-last ps p
-
 -- what is kept after an insert
 pub after_insert : (size place : ℕ) (ps new : List Place) (p : Place) (slots after : List Slot) → place ≡ length ps → new ≡ ps ++ p ∷ [] → 0 < size → Keeps size ps slots → HaveRoom (place / size) slots
-    → after ≡ zip_all (added (place / size)) slots (map (come_of size place (slice_get new place)) slots)
+    → after ≡ zip_all (added (place / size)) slots (map (come_of size place (Some p)) slots)
     → Keeps size new after
 after_insert size place ps new p slots after at is positive kept room h =
-    subst (Keeps size new) (sym (h
-    ∙ ap (λ n. zip_all (added (n / size)) slots (map (come_of size n (slice_get new n)) slots)) at
-    ∙ ap (λ l. zip_all (added (length ps / size)) slots (map (come_of size (length ps) (slice_get l (length ps))) slots)) is
-    ∙ ap (λ o. zip_all (added (length ps / size)) slots (map (come_of size (length ps) o) slots)) (get-last ps p)))
+    subst (Keeps size new) (sym (h ∙ ap (λ n. zip_all (added (n / size)) slots (map (come_of size n (Some p)) slots)) at))
     (subst (λ l. Keeps size l (zip_all (added (length ps / size)) slots (map (come_of size (length ps) (Some p)) slots))) (sym is)
     (Keeps-insert size ps p slots positive kept (subst (λ n. HaveRoom (n / size) slots) at room)))
 
--- a place that is changed, as it was and as it is
-changed_there : (f : Place → Place) (ps : List Place) (i : ℕ) → i < length ps → (x : Place) × (slice_get ps i ≡ Some x) × (slice_get (changed_at f i ps) i ≡ Some (f x))
-changed_there f ps i l =
-    let there : (x : Place) × (slice_get ps i ≡ Some x) = find ps i l in
-    (there.0, there.1, get-changed f i ps ∙ ap (option_map f) there.1)
-
--- the places of a set: what came, what goes, and what is kept then
-module _ (size : ℕ) (f : Place → Place) (ps new : List Place) (i : ℕ) (slots mid : List Slot) (gone : List Change) (positive : 0 < size) (is : new ≡ changed_at f i ps) (within : i < length ps)
-    (went : gone ≡ map (change_of size i (slice_get ps i)) slots) (came : mid ≡ zip_all (added (i / size)) slots (map (come_of size i (slice_get new i)) slots))
+-- a place x becomes y: what came, what goes, and what is kept then
+module _ (size : ℕ) (f : Place → Place) (ps new : List Place) (i : ℕ) (x y : Place) (slots mid : List Slot) (gone : List Change) (positive : 0 < size) (is : new ≡ changed_at f i ps)
+    (here : Some x ≡ slice_get ps i) (there : Some y ≡ option_map f (slice_get ps i))
+    (went : gone ≡ map (change_of size i (Some x)) slots) (came : mid ≡ zip_all (added (i / size)) slots (map (come_of size i (Some y)) slots))
     (kept : Keeps size ps slots) (room : HaveRoom (i / size) slots) where
-  came_is : (y : Place) → slice_get (changed_at f i ps) i ≡ Some y → mid ≡ zip_all (added (i / size)) slots (map (come_of size i (Some y)) slots)
-  came_is y there = came ∙ ap (λ o. zip_all (added (i / size)) slots (map (come_of size i o) slots)) (ap (λ l. slice_get l i) is ∙ there)
-
-  went_is : (x : Place) → slice_get ps i ≡ Some x → gone ≡ map (change_of size i (Some x)) slots
-  went_is x here = went ∙ ap (λ o. map (change_of size i o) slots) here
+  becomes : slice_get (changed_at f i ps) i ≡ Some y
+  becomes = get-changed f i ps ∙ sym there
 
   pub set_may_take : PlacesFit ps → PlacesFit new → EachMayTake size (i / size) new mid gone
   set_may_take fit new_fit =
-      let there = changed_there f ps i within in
-      let row = all-get (λ (p : Place). RowFits p.cells) new i (f there.0) new_fit (ap (λ l. slice_get l i) is ∙ there.2) in
-      rw (is, came_is (f there.0) there.2, went_is there.0 there.1) (each-may_take size f ps i there.0 (f there.0) positive there.1 there.2 fit row slots kept room)
+      let row = all-get (λ (p : Place). RowFits p.cells) new i y new_fit (ap (λ l. slice_get l i) is ∙ becomes) in
+      rw (is, came, went) (each-may_take size f ps i x y positive (sym here) becomes fit row slots kept room)
 
   pub after_set : (after : List Slot) → after ≡ zip_all (taken size (i / size) new) mid gone → Keeps size new after
-  after_set after h =
-      let there = changed_there f ps i within in
-      rw (h, came_is (f there.0) there.2, went_is there.0 there.1, is) (Keeps-set size f ps i there.0 (f there.0) positive there.1 there.2 slots kept room)
-
--- a removal is a set after which nothing comes
-pub nothing_comes : (size i : ℕ) (ps new : List Place) (slots : List Slot) → new ≡ changed_at removed i ps → i < length ps → slots ≡ zip_all (added (i / size)) slots (map (come_of size i (slice_get new i)) slots)
-nothing_comes size i ps new slots is within =
-    let there = changed_there removed ps i within in
-    sym (ap (λ o. zip_all (added (i / size)) slots (map (come_of size i o) slots)) (ap (λ l. slice_get l i) is ∙ there.2) ∙ removed-adds_all size i there.0 slots)
+  after_set after h = rw (h, came, went, is) (Keeps-set size f ps i x y positive (sym here) becomes slots kept room)

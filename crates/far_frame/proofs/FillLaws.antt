@@ -1,4 +1,4 @@
--- The sums that are kept of each row group's texts, under a push, a pop and a set, and the length that they tell.
+-- The sums that are kept of each row group's texts, under a push and a set, and the length that they tell.
 use Rattle.std.proofs.Common.{inl, inr, ◌≡◌, ℕ, zero, suc, ◌+◌, ◌-◌, ◌*◌, ◌/◌, ◌<◌, ◌≤◌, ◌^◌, true, cond, nat_lt, List, [], ◌∷◌, ◌++◌, map, length, take, drop, min, refl, sym, ap, ◌∙◌, arith, Option, None, Some, slice_set, slice_index_or, length-drop, length-append}
 use Rattle.std.specs.Prelude.{◌⊎◌, sum_by, is_none}
 use Rattle.std.specs.List.{AllByRecursion, list_any}
@@ -40,27 +40,6 @@ module _ (p : Fill → ℕ) (f : Option (List ℕ) → ℕ) where
         | inr n ↦
             ap p (get_or-set_other fills q g new empty_fill n)
             ∙ each g ∙ ap (sum_by f) (sym (in_group-appended size g texts t positive n))
-      ]
-
-  -- what the last row group had with the last text
-  pub last-sum : (size : ℕ) (texts : Texts) (fills : List Fill) (t : Option (List ℕ)) → 0 < size → Each size (texts ++ t ∷ []) fills → p (fill_at fills (length texts / size)) ≡ sum_by f (in_group size (length texts / size) texts) + f t
-  last-sum size texts fills t positive each =
-      let q = length texts / size in
-      each q ∙ ap (sum_by f) (in_group-last size texts t positive) ∙ sum_by_push f (in_group size q texts) t
-
-  pub each-pop : (size : ℕ) (texts : Texts) (fills : List Fill) (new : Fill) (t : Option (List ℕ)) → 0 < size → length texts / size < length fills → Each size (texts ++ t ∷ []) fills → p new + f t ≡ p (fill_at fills (length texts / size)) → Each size texts (slice_set fills (length texts / size) new)
-  each-pop size texts fills new t positive room each is g =
-      let q = length texts / size in
-      let last = last-sum size texts fills t positive each in
-      elim (same_or_not g q) as (λ o. p (fill_at (slice_set fills q new) g) ≡ sum_by f (in_group size g texts)) [
-        | inl e ↦
-            let rest : p new ≡ sum_by f (in_group size q texts) = omega arith in
-            ap (λ k. p (fill_at (slice_set fills q new) k)) e
-            ∙ ap p (get_or-set_same fills q new empty_fill room)
-            ∙ rest ∙ ap (λ k. sum_by f (in_group size k texts)) (sym e)
-        | inr n ↦
-            ap p (get_or-set_other fills q g new empty_fill n)
-            ∙ each g ∙ ap (sum_by f) (in_group-appended size g texts t positive n)
       ]
 
   -- the sum of a row group in which one text is set
@@ -110,10 +89,6 @@ all-drop (suc n) (t ∷ l) h = all-drop n l h.1
 pub all-push : (l : Texts) (t : Option (List ℕ)) → AllByRecursion TextFits l → TextFits t → AllByRecursion TextFits (l ++ t ∷ [])
 all-push [] t h k = (k, tt)
 all-push (x ∷ l) t h k = (h.0, all-push l t h.1 k)
-
-pub all-before : (l : Texts) (t : Option (List ℕ)) → AllByRecursion TextFits (l ++ t ∷ []) → AllByRecursion TextFits l
-all-before [] t h = tt
-all-before (x ∷ l) t h = (h.0, all-before l t h.1)
 
 one-bound : (t : Option (List ℕ)) → TextFits t → bytes_in t ≤ 2 ^ 64
 one-bound None h = omega arith
@@ -247,43 +222,6 @@ pushed size texts after fills q stood new t h fit room at was is then =
       bytes = each-push (λ (fill : Fill). fill.bytes) bytes_in size texts fills (fuller (fill_at fills (length texts / size)) t) t h.positive there h.bytes refl;
       missing = each-push (λ (fill : Fill). fill.missing) missing_in size texts fills (fuller (fill_at fills (length texts / size)) t) t h.positive there h.missing refl;
     })
-
--- what a text that goes leaves
-less : (a b : ℕ) → b ≤ a → a - b + b ≡ a
-less a b h = omega arith
-
-pub popped : (size : ℕ) (texts after : Texts) (fills : List Fill) (q : ℕ) (stood new : Fill) (t : Option (List ℕ)) → AreFills size texts fills → texts ≡ after ++ t ∷ [] → q ≡ length after / size → stood ≡ fill_at fills q → new ≡ emptier stood t
-    → AreFills size after (slice_set fills q new)
-popped size texts after fills q stood new t given then at was is =
-    let h : AreFills size (after ++ t ∷ []) fills = rw (← then) given in
-    let many = length-append after (t ∷ []) in
-    let enough = h.enough in
-    let room : length after < length fills * size = omega arith in
-    let there : length after / size < length fills = room-of size (length after) (length fills) room in
-    let same = length-set fills (length after / size) (emptier (fill_at fills (length after / size)) t) in
-    let b = last-sum (λ (fill : Fill). fill.bytes) bytes_in size after fills t h.positive h.bytes in
-    let m = last-sum (λ (fill : Fill). fill.missing) missing_in size after fills t h.positive h.missing in
-    rw (is, was, at) (record {
-      positive = h.positive;
-      small = h.small;
-      fit = all-before after t h.fit;
-      enough = rw same (omega arith);
-      bytes = each-pop (λ (fill : Fill). fill.bytes) bytes_in size after fills (emptier (fill_at fills (length after / size)) t) t h.positive there h.bytes (less _ _ (omega arith));
-      missing = each-pop (λ (fill : Fill). fill.missing) missing_in size after fills (emptier (fill_at fills (length after / size)) t) t h.positive there h.missing (less _ _ (omega arith));
-    })
-
--- the last text is in its row group
-pub last-bytes : (size : ℕ) (texts after : Texts) (fills : List Fill) (t : Option (List ℕ)) → AreFills size texts fills → texts ≡ after ++ t ∷ [] → bytes_in t ≤ (fill_at fills (length after / size)).bytes
-last-bytes size texts after fills t given then =
-    let h : AreFills size (after ++ t ∷ []) fills = rw (← then) given in
-    let b = last-sum (λ (fill : Fill). fill.bytes) bytes_in size after fills t h.positive h.bytes in
-    omega arith
-
-pub last-missing : (size : ℕ) (texts after : Texts) (fills : List Fill) (t : Option (List ℕ)) → AreFills size texts fills → texts ≡ after ++ t ∷ [] → missing_in t ≤ (fill_at fills (length after / size)).missing
-last-missing size texts after fills t given then =
-    let h : AreFills size (after ++ t ∷ []) fills = rw (← then) given in
-    let m = last-sum (λ (fill : Fill). fill.missing) missing_in size after fills t h.positive h.missing in
-    omega arith
 
 swapped : (a x t : ℕ) → x ≤ a → a - x + t + x ≡ a + t
 swapped a x t h = omega arith

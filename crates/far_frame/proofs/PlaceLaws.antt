@@ -1,20 +1,17 @@
 -- How the places change with the flags and with the row at each place.
-use Rattle.std.proofs.Common.{◌≡◌, ℕ, zero, suc, ◌+◌, ◌-◌, ◌<◌, ◌≤◌, Bool, true, false, List, [], ◌∷◌, ◌++◌, map, length, take, get_or, set, refl, sym, ap, ◌∙◌, arith, ◌≢◌, Option, Some, None}
+use Rattle.std.proofs.Common.{◌≡◌, ℕ, zero, suc, ◌+◌, ◌<◌, ◌≤◌, Bool, true, false, List, [], ◌∷◌, ◌++◌, map, length, get_or, set, refl, sym, ap, ◌∙◌, arith, ◌≢◌, Option, Some, None}
 use Rattle.std.specs.Prelude.{option_map, slice_get}
 use Rattle.std.specs.List.{enumerate_from, All}
-use Rattle.std.proofs.lemmas.List.{set-get_or, set-set, get_or_default, length-map, length-append, length-take}
-use Rattle.std.proofs.Math.Seq.{take-append_seam}
+use Rattle.std.proofs.lemmas.List.{get_or_default, length-map}
 use Rattle.std.proofs.lemmas.List.FromFn.{length-enumerate_from}
 use Rattle.std.proofs.lemmas.List.Elements.{All-nil, All-cons}
-use Rattle.std.proofs.lemmas.Option.{unwrap_or-slice_get, slice_get_read}
+use Rattle.std.proofs.lemmas.Option.{slice_get_read}
 use Rattle.std.specs.Option.{option_and_then}
 use Rattle.far_types.specs.declared.cell.Cell.{Cell}
-use Rattle.far_types.specs.declared.cell.Cell.TheVariants.{Missing}
-use Rattle.far_types.specs.Cells.{cell_at}
 use Rattle.far_types.specs.Edits.{with_cell, removed, changed_at}
 use Rattle.far_types.specs.Table.{Place}
-use Rattle.far_frame.specs.Rows.{row_at, places_of, pushed, shorter}
-use Rattle.far_frame.proofs.ColumnLaws.{AsLong, row_at-cell, row_at-new, row_at-pushed, row_at-shorter, row_at-set, row_at-set_other}
+use Rattle.far_frame.specs.Rows.{row_at, places_of, pushed}
+use Rattle.far_frame.proofs.ColumnLaws.{AsLong, row_at-new, row_at-pushed, row_at-set, row_at-set_other}
 
 -- the places from one on, of a row for each place
 abbrev pub placed : (ℕ → List Cell) → ℕ → List Bool → List Place
@@ -33,11 +30,6 @@ placed-push f n (first ∷ flags) flag =
     let e : n + 1 + length flags ≡ n + suc (length flags) = omega arith in
     ap (λ (places : List Place). record { cells = f n; alive = first } ∷ places) (placed-push f (n + 1) flags flag)
     ∙ (λ i. record { cells = f n; alive = first } ∷ (placed f (n + 1) flags ++ record { cells = f (e i); alive = flag } ∷ []))
-
-placed-take : (f : ℕ → List Cell) (n count : ℕ) (flags : List Bool) → placed f n (take count flags) ≡ take count (placed f n flags)
-placed-take f n zero flags = refl
-placed-take f n (suc count) [] = refl
-placed-take f n (suc count) (flag ∷ flags) = ap (λ (places : List Place). record { cells = f n; alive = flag } ∷ places) (placed-take f (n + 1) count flags)
 
 placed-get : (f : ℕ → List Cell) (n p : ℕ) (flags : List Bool) → slice_get (placed f n flags) p ≡ option_map (λ flag. record { cells = f (n + p); alive = flag }) (slice_get flags p)
 placed-get f n p [] = refl
@@ -75,15 +67,6 @@ places-push columns row flags flag long width =
     let rest : placed (row_at (pushed columns row)) 0 flags ≡ placed (row_at columns) 0 flags = placed-same (row_at (pushed columns row)) (row_at columns) 0 flags (λ i low high. row_at-pushed columns row (length flags) i long (omega arith)) in
     placed-push (row_at (pushed columns row)) 0 flags flag ∙ (λ i. rest i ++ record { cells = new i; alive = flag } ∷ [])
 
-pub places-pop : (columns : List (List Cell)) (flags : List Bool) (before : List Place) (last : Place) → AsLong (length flags) columns → places_of columns flags ≡ before ++ last ∷ [] → places_of (map shorter columns) (take (length flags - 1) flags) ≡ before
-places-pop columns flags before last long was =
-    let count : length flags - 1 ≡ length before = omega (arith, length-places columns flags, ap length was, length-append before (last ∷ [])) in
-    placed-same (row_at (map shorter columns)) (row_at columns) 0 (take (length flags - 1) flags) (λ i low high. row_at-shorter columns (length flags) i long (omega (arith, length-take (length flags - 1) flags)))
-    ∙ placed-take (row_at columns) 0 (length flags - 1) flags
-    ∙ ap (take (length flags - 1)) was
-    ∙ ap (λ n. take n (before ++ last ∷ [])) count
-    ∙ take-append_seam before (last ∷ [])
-
 pub places-clear : (columns : List (List Cell)) (flags : List Bool) (p : ℕ) → places_of columns (set flags p false) ≡ changed_at removed p (places_of columns flags)
 places-clear columns flags p = placed-clear (row_at columns) 0 p flags
 
@@ -98,15 +81,6 @@ places-rows P columns flags rows = go 0 flags where
   go n [] = All-nil (λ (place : Place). P place.cells)
   go n (flag ∷ some) = All-cons (λ (place : Place). P place.cells) (record { cells = row_at columns n; alive = flag }) (placed (row_at columns) (n + 1) some) (rows n) (go (n + 1) some)
 
--- two changes of one cell: the second stands, and the old cell set back gives the old places
-pub set-back : (c p : ℕ) (new old : Cell) (places : List Place) → Some old ≡ option_map (λ (place : Place). cell_at c place.cells) (slice_get places p) → changed_at (with_cell c old) p (changed_at (with_cell c new) p places) ≡ places
-set-back c p new old [] stood = refl
-set-back c zero new old (place ∷ places) stood =
-    let e : old ≡ get_or place.cells c Missing = cc (unwrap_or-slice_get place.cells c Missing) in
-    let cells : set (set place.cells c new) c old ≡ place.cells = set-set place.cells c new old ∙ ap (set place.cells c) e ∙ set-get_or place.cells c Missing in
-    λ i. record { cells = cells i; alive = place.alive } ∷ places
-set-back c (suc p) new old (place ∷ places) stood = ap (λ (rest : List Place). place ∷ rest) (set-back c p new old places stood)
-
 pub alive-get : (columns : List (List Cell)) (flags : List Bool) (p : ℕ) → option_map (λ (place : Place). place.alive) (slice_get (places_of columns flags) p) ≡ slice_get flags p
 alive-get columns flags p = ap (option_map (λ (place : Place). place.alive)) (places-get columns flags p) ∙ back (slice_get flags p) where
   back : (flag : Option Bool) → option_map (λ (place : Place). place.alive) (option_map (λ b. record { cells = row_at columns p; alive = b }) flag) ≡ flag
@@ -119,9 +93,3 @@ place-at columns flags p flag within at = places-get columns flags p ∙ ap (opt
 
 pub cells-get : (columns : List (List Cell)) (flags : List Bool) (p c : ℕ) → p < length flags → option_and_then (λ (place : Place). slice_get place.cells c) (slice_get (places_of columns flags) p) ≡ slice_get (row_at columns p) c
 cells-get columns flags p c within = ap (option_and_then (λ (place : Place). slice_get place.cells c)) (place-at columns flags p (get_or flags p true) within (sym (get_or_default flags p (get_or flags p true) true within)))
-
--- the cell of a place is that of its column
-pub cell-stands : (columns : List (List Cell)) (flags : List Bool) (c p : ℕ) → p < length flags → option_map (λ (place : Place). cell_at c place.cells) (slice_get (places_of columns flags) p) ≡ Some (get_or (get_or columns c []) p Missing)
-cell-stands columns flags c p within =
-    ap (option_map (λ (place : Place). cell_at c place.cells)) (place-at columns flags p (get_or flags p true) within (sym (get_or_default flags p (get_or flags p true) true within)))
-    ∙ ap Some (unwrap_or-slice_get (row_at columns p) c Missing ∙ row_at-cell columns c p)

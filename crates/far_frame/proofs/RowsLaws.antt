@@ -1,13 +1,9 @@
 -- What columns and flags have to do with the rows that they keep.
-use Rattle.std.proofs.Common.{◌≡◌, ℕ, ◌<◌, Bool, cond, Some, None, option_map, slice_get, List, [], length, map, get_or, set, ap, sym, ◌∙◌, arith}
+use Rattle.std.proofs.Common.{◌≡◌, ℕ, ◌<◌, Bool, Some, slice_get, List, [], length, map, get_or, set, ap, sym, ◌∙◌, arith}
 use Rattle.std.specs.List.{All}
 use Rattle.std.proofs.lemmas.List.{length-map, get_or_default}
 use Rattle.std.proofs.Math.ListN.{get_or-map}
 use Rattle.far_types.specs.declared.cell.Cell.{Cell}
-use Rattle.far_types.specs.declared.spec.Spec.{Spec}
-use Rattle.far_types.specs.Cells.{cells_of}
-use Rattle.far_types.specs.Pairs.{pair_of}
-use Rattle.far_types.specs.Table.{place_pair}
 use Rattle.far_frame.specs.declared.column.Column.{Column}
 use Rattle.far_frame.specs.Columns.{kind_in, cells_in}
 use Rattle.far_frame.specs.Rows.{TableRows, row_at, rows_in, IsFull}
@@ -35,11 +31,11 @@ cells-written columns c p column new cell within at is =
     map-write cells_in columns c new (set (cells_in column) p cell) is
     ∙ ap (λ (cells : List Cell). set (map cells_in columns) c (set cells p cell)) (cells-at columns c column within at)
 
--- what a place gives to an aggregate, by its flag and its row
-pub pair-at : (spec : Spec) (columns : List Column) (flags : List Bool) (rows : TableRows) → rows_in columns flags ≡ rows → (p : ℕ) (flag : Bool) → p < length flags → flag ≡ get_or flags p flag → option_map (place_pair spec) (slice_get rows.places p) ≡ Some (cond flag (pair_of spec (cells_of (row_at (map cells_in columns) p))) None)
-pair-at spec columns flags rows is p flag within at =
-    sym (ap (λ (r : TableRows). option_map (place_pair spec) (slice_get r.places p)) is)
-    ∙ ap (option_map (place_pair spec)) (place-at (map cells_in columns) flags p flag within at)
+-- a place has the row that stands there, and its flag
+pub place-in : (columns : List Column) (flags : List Bool) (rows : TableRows) → rows_in columns flags ≡ rows → (p : ℕ) (flag : Bool) → p < length flags → flag ≡ get_or flags p flag → slice_get rows.places p ≡ Some (record { cells = row_at (map cells_in columns) p; alive = flag })
+place-in columns flags rows is p flag within at =
+    sym (ap (λ (r : TableRows). slice_get r.places p) is)
+    ∙ place-at (map cells_in columns) flags p flag within at
 
 pub each-count : (columns : List Column) (n : ℕ) → All (IsFull n) (map cells_in columns) → All (λ (column : Column). length (cells_in column) ≡ n) columns
 each-count columns n full k d within =

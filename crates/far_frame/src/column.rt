@@ -1,6 +1,6 @@
 // The cells of one column.
-ghost use Rattle.std.specs.Prelude.{◌≡◌, ◌<◌, ◌≤◌, ◌-◌, take, ◌++◌, [], ◌∷◌, true, OnOk, OnErr, IfErr, slice_index_or, slice_set, length};
-ghost use Rattle.far_types.specs.Cells.{is_of_kind, CellFits, RowFits};
+ghost use Rattle.std.specs.Prelude.{◌≡◌, ◌<◌, ◌≤◌, ◌++◌, [], ◌∷◌, true, OnOk, IfErr, slice_index_or, slice_set, length};
+ghost use Rattle.far_types.specs.Cells.{is_of_kind, CellFits};
 ghost use Rattle.far_types.specs.declared.cell.Cell.TheVariants.{Missing};
 ghost use Rattle.far_frame.specs.Columns.{lent_cell, int_cell, text_cell, kind_in, cells_in, HasRoom, overfilled};
 
@@ -8,7 +8,6 @@ use super::cell_ref::CellRef;
 use super::text_column::TextColumn;
 use far_types::{Cell, Kind, Limits, Refusal, Text};
 use std::alloc::Global;
-use std::mem;
 
 /// The cells of one column, by place. A cell without a value is a `None`.
 #[derive(Drop, Debug)]
@@ -75,36 +74,17 @@ impl Column {
         }
     }
 
-    /// Takes back the last cell. Takes no memory.
-    pub fn pop(&mut self)
-        ensures kind { kind_in self.new ≡ kind_in self.old }
-        ensures cells { cells_in self.new ≡ take (length (cells_in self.old) - 1) (cells_in self.old) }
-    {
-        match self {
-            Column::Ints(numbers) => {
-                numbers.pop();
-            }
-            Column::Texts(texts) => texts.pop(),
-        }
-    }
-
-    /// Puts a cell in the place of another, which is handed back and could be put there again. Takes no memory.
-    pub fn replace(&mut self, place: usize, cell: Cell) -> Cell
+    /// Puts a cell in the place of another. Takes no memory.
+    pub fn set(&mut self, place: usize, cell: Cell)
         requires within { place < length (cells_in self.old) }
         requires of_kind { is_of_kind (kind_in self.old) cell ≡ true }
         ensures kind { kind_in self.new ≡ kind_in self.old }
         ensures cells { cells_in self.new ≡ slice_set (cells_in self.old) place cell }
-        ensures old { result ≡ slice_index_or (cells_in self.old) place Missing }
-        ensures old_kind { is_of_kind (kind_in self.old) result ≡ true }
-        ensures old_fits { CellFits result }
         ensures fits { CellFits cell }
     {
         match self {
-            Column::Ints(numbers) => cell_of_number(mem::replace(
-                &mut numbers[place],
-                number_of(cell),
-            )),
-            Column::Texts(texts) => cell_of_text(texts.replace(place, text_of(cell))),
+            Column::Ints(numbers) => numbers[place] = number_of(cell),
+            Column::Texts(texts) => texts.set(place, text_of(cell)),
         }
     }
 
@@ -145,25 +125,5 @@ fn text_of(cell: Cell) -> Option<Text>
         Cell::Int(_) => unreachable!(),
         Cell::Text(text) => Some(text),
         Cell::Missing => None,
-    }
-}
-
-fn cell_of_number(number: Option<i64>) -> Cell
-    ensures cell { result ≡ int_cell number }
-    ensures fits { CellFits result }
-{
-    match number {
-        Some(number) => Cell::Int(number),
-        None => Cell::Missing,
-    }
-}
-
-fn cell_of_text(text: Option<Text>) -> Cell
-    ensures cell { result ≡ text_cell text }
-    ensures fits { CellFits result }
-{
-    match text {
-        Some(text) => Cell::Text(text),
-        None => Cell::Missing,
     }
 }

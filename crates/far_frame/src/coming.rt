@@ -1,5 +1,5 @@
-// Pairs that come into what is kept, and how they are taken back where a growth is refused.
-ghost use Rattle.std.specs.Prelude.{◌≡◌, ◌/◌, ◌^◌, ◌<◌, ◌≤◌, OnOk, OnErr, IfErr, IfOk, length, slice_get, map};
+// Pairs that come into what is kept, and how they are taken back where a later growth is refused.
+ghost use Rattle.std.specs.Prelude.{◌≡◌, ◌/◌, ◌^◌, ◌<◌, ◌≤◌, Some, OnOk, OnErr, IfErr, IfOk, length, map};
 ghost use Rattle.far_frame.specs.Changes.{EachFolds};
 ghost use Rattle.far_frame.specs.Coming.{stood_in, come_of, added, back, MayAdd, MayBack, EachFits, EachMayBack};
 ghost use Rattle.far_frame.specs.Rooms.{HaveRoom};
@@ -7,7 +7,7 @@ ghost use Rattle.far_frame.specs.Until.{zip_until, zip_all};
 
 use super::aggregate::{Aggregate, Kept};
 use super::changes::{Pair, change};
-use super::rows::Rows;
+use super::place_ref::PlaceRef;
 use far_extrema::Span;
 use far_types::Refusal;
 use std::alloc::Global;
@@ -31,22 +31,22 @@ fn with_stood(kept: &Kept, group: u32, pair: Pair) -> Coming
     Coming { pair, stood }
 }
 
-/// What comes of a place into an aggregate.
+/// What comes of a place of this number into an aggregate.
 fn come(
+    alloc: Global,
     slot: &Option<Aggregate>,
-    rows: &Rows,
+    at: &PlaceRef<'_>,
     size: u32,
     place: usize,
 ) -> Result<Option<Coming>, Refusal>
     requires size { 0 < size }
-    requires few { length rows.now.places ≤ 2 ^ 24 }
-    requires within { place < length rows.now.places }
-    ensures ok { IfOk result (λ come. come ≡ come_of size place (slice_get rows.now.places place) slot.now) }
+    requires few { place ≤ 2 ^ 24 }
+    ensures ok { IfOk result (λ come. come ≡ come_of size place (Some at.now) slot.now) }
     ensures memory { IfErr result (λ e. e ≡ Refusal.NoMemory) }
 {
     match slot {
         None => Ok(None),
-        Some(aggregate) => match change(slot, rows, size, place)? {
+        Some(aggregate) => match change(alloc, slot, at, size, place)? {
             None => Ok(None),
             Some(pair) => Ok(Some(with_stood(
                 &aggregate.kept,
@@ -57,23 +57,22 @@ fn come(
     }
 }
 
-/// What comes of a place into each aggregate.
+/// What comes of a place of this number into each aggregate.
 fn comings(
     alloc: Global,
     slots: &[Option<Aggregate>],
-    rows: &Rows,
+    at: &PlaceRef<'_>,
     size: u32,
     place: usize,
 ) -> Result<Vec<Option<Coming>>, Refusal>
     requires size { 0 < size }
-    requires few { length rows.now.places ≤ 2 ^ 24 }
-    requires within { place < length rows.now.places }
-    ensures ok { IfOk result (λ comes. comes.items ≡ map (come_of size place (slice_get rows.now.places place)) slots.now) }
+    requires few { place ≤ 2 ^ 24 }
+    ensures ok { IfOk result (λ comes. comes.items ≡ map (come_of size place (Some at.now)) slots.now) }
     ensures memory { IfErr result (λ e. e ≡ Refusal.NoMemory) }
 {
     let mut comes = Vec::with_capacity(alloc, slots.len())?;
     for slot in slots {
-        comes.push(come(slot, rows, size, place)?)?;
+        comes.push(come(alloc, slot, at, size, place)?)?;
     }
     Ok(comes)
 }
@@ -148,23 +147,36 @@ fn add_all(
     Ok(())
 }
 
-/// The pairs of a place come into what is kept for each aggregate, or none where memory is refused.
+/// The pairs of a place of this number come into what is kept for each aggregate, or none where memory is refused. What
+/// came is handed back: `back_all` of it undoes this.
 pub fn come_in(
     alloc: Global,
     slots: &mut [Option<Aggregate>],
-    rows: &Rows,
+    at: &PlaceRef<'_>,
     size: u32,
     place: usize,
-) -> Result<(), Refusal>
+) -> Result<Vec<Option<Coming>>, Refusal>
     requires size { 0 < size }
-    requires few { length rows.now.places ≤ 2 ^ 24 }
-    requires within { place < length rows.now.places }
+    requires few { place ≤ 2 ^ 24 }
     requires folds { EachFolds slots.old }
     requires room { HaveRoom (place / size) slots.old }
-    ensures ok { OnOk result (slots.new ≡ zip_all (added (place / size)) slots.old (map (come_of size place (slice_get rows.now.places place)) slots.old)) }
+    ensures ok { OnOk result (slots.new ≡ zip_all (added (place / size)) slots.old (map (come_of size place (Some at.now)) slots.old)) }
+    ensures len { IfOk result (λ comes. length comes.items ≡ length slots.new) }
+    ensures may_back { IfOk result (λ comes. EachMayBack (place / size) (length slots.new) slots.new comes.items) }
+    ensures back { IfOk result (λ comes. zip_all (back (place / size)) slots.new comes.items ≡ slots.old) }
     ensures err { OnErr result (slots.new ≡ slots.old) }
     ensures memory { IfErr result (λ e. e ≡ Refusal.NoMemory) }
 {
-    let comes = comings(alloc, slots, rows, size, place)?;
-    add_all(slots, (place / size as usize) as u32, comes.as_slice())
+    let comes = comings(alloc, slots, at, size, place)?;
+    add_all(slots, (place / size as usize) as u32, comes.as_slice())?;
+    Ok(comes)
+}
+
+/// What came into all is taken back. Takes no memory.
+pub fn back_all(slots: &mut [Option<Aggregate>], group: u32, comes: &[Option<Coming>])
+    requires len { length comes.now ≡ length slots.old }
+    requires may { EachMayBack group (length slots.old) slots.old comes.now }
+    ensures { slots.new ≡ zip_all (back group) slots.old comes.now }
+{
+    back_until(slots, group, comes, comes.len());
 }

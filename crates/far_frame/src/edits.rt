@@ -1,5 +1,6 @@
-// Edits of the rows, and what they change of what is kept for the aggregates. Each has three parts: growths, each with
-// its way back, and then changes that cannot fail.
+// Edits of the rows, and what they change of what is kept for the aggregates. Each has three parts: growths of what is
+// kept, which can be taken back without memory; the change of the rows, the last step that may be refused; and then what
+// cannot fail. What comes of the new row is read before the rows change.
 ghost use Rattle.std.specs.Prelude.{◌≡◌, ◌<◌, ◌≤◌, ◌^◌, length, map, true, false, slice_get, OnOk, OnErr, IfErr};
 ghost use Rattle.far_types.specs.declared.edit.Edit.TheVariants as edit;
 ghost use Rattle.far_types.specs.Edits.{kinds_fit, is_of_other_kind, places_after};
@@ -7,8 +8,9 @@ ghost use Rattle.far_frame.specs.Kept.{Keeps, registered_in};
 
 use super::aggregate::Aggregate;
 use super::changes::changes;
-use super::coming::come_in;
+use super::coming::{back_all, come_in};
 use super::going::take_all;
+use super::place_ref::PlaceRef;
 use super::rooms::make_rooms;
 use super::rows::Rows;
 use far_types::{Cell, Refusal, Row};
@@ -35,12 +37,14 @@ pub fn insert_row(
     ensures memory { IfErr result (λ e. e ≡ Refusal.NoMemory) }
 {
     let place = rows.len();
-    make_rooms(slots, (place / size as usize) as u32)?;
-    rows.push(row)?;
-    match come_in(alloc, slots, rows, size, place) {
+    let group = (place / size as usize) as u32;
+    make_rooms(slots, group)?;
+    let comes = come_in(alloc, slots, &PlaceRef::inserted(&row), size, place)?;
+    match rows.push(row) {
         Ok(()) => Ok(()),
         Err(refusal) => {
-            rows.pop();
+            // the rows are as they were, and so is again what is kept
+            back_all(slots, group, comes.as_slice());
             Err(refusal)
         }
     }
@@ -73,20 +77,14 @@ pub fn set_cell(
     let _fit = rows.len();
     let group = place / size as usize;
     make_rooms(slots, group as u32)?;
-    let gone = changes(alloc, slots, rows, size, place)?;
-    let old = rows.set(place, column, cell);
+    let gone = changes(alloc, slots, &rows.lend(place), size, place)?;
+    let set = rows.lend_with(place, column, &cell);
+    come_in(alloc, slots, &set, size, place)?;
+    // nothing from here on can fail
+    rows.set(place, column, cell);
     let _still_fit = rows.len();
-    match come_in(alloc, slots, rows, size, place) {
-        Ok(()) => {
-            // nothing from here on can fail
-            take_all(slots, rows, size, group as u32, gone.as_slice());
-            Ok(())
-        }
-        Err(refusal) => {
-            let _cell = rows.set(place, column, old);
-            Err(refusal)
-        }
-    }
+    take_all(slots, rows, size, group as u32, gone.as_slice());
+    Ok(())
 }
 
 /// Marks a place dead. Refused with `NoMemory` (1) alone, and then rows and answers are as before.
@@ -112,7 +110,7 @@ pub fn remove_row(
     let _fit = rows.len();
     let group = place / size as usize;
     make_rooms(slots, group as u32)?;
-    let gone = changes(alloc, slots, rows, size, place)?;
+    let gone = changes(alloc, slots, &rows.lend(place), size, place)?;
     // nothing from here on can fail
     rows.clear(place);
     let _still_fit = rows.len();

@@ -1,11 +1,10 @@
 // The rows of a table.
-ghost use Rattle.std.specs.Prelude.{◌≡◌, ◌<◌, ◌≤◌, List, [], ◌∷◌, ◌++◌, true, false, length, Some, option_map, slice_get, IfOk, IfErr, OnOk, OnErr, IfSome, FitsSigned};
+ghost use Rattle.std.specs.Prelude.{◌≡◌, ◌<◌, ◌≤◌, [], ◌∷◌, ◌++◌, true, false, length, Some, option_map, slice_get, IfOk, IfErr, OnOk, OnErr, IfSome, FitsSigned};
 ghost use Rattle.std.specs.Int.{w64};
 ghost use Rattle.std.specs.Option.{option_and_then};
 ghost use Rattle.far_types.specs.declared.edit.Edit.TheVariants.{Insert, Set};
-ghost use Rattle.far_types.specs.Cells.{cell_at};
 ghost use Rattle.far_types.specs.Edits.{kinds_fit, is_of_other_kind, with_cell, removed, changed_at, overfills};
-ghost use Rattle.far_types.specs.Table.{Place, place_pair};
+ghost use Rattle.far_types.specs.Table.{place_pair};
 ghost use Rattle.far_frame.specs.Changes.{value_if};
 ghost use Rattle.far_frame.specs.Columns.{lent_cell};
 ghost use Rattle.far_frame.specs.Kept.{pair_if};
@@ -13,9 +12,9 @@ ghost use Rattle.far_frame.specs.Rows.{AreRows};
 
 use super::cell_ref::CellRef;
 use super::column::Column;
-use super::columns::{
-    cell_of, overfills_any, pair_of, pop_all, push_all, reserve_all, value_under,
-};
+use super::columns::{cell_of, overfills_any, push_all, reserve_all};
+use super::place_ref::PlaceRef;
+use super::row_ref::RowRef;
 use far_types::{Cell, Key, Limits, Refusal, Row, Schema, Spec};
 use std::alloc::Global;
 use std::marker::Model;
@@ -101,30 +100,16 @@ impl Rows {
         Ok(())
     }
 
-    /// Takes back the last push: the last place goes, and the others stay. Without places nothing happens. Takes no
-    /// memory.
-    pub fn pop(&mut self)
-        ensures kinds { self.new.kinds ≡ self.old.kinds }
-        ensures places { (before : List Place) → (last : Place) → self.old.places ≡ before ++ last ∷ [] → self.new.places ≡ before }
-    {
-        self.alive.pop();
-        pop_all(&mut self.columns);
-    }
-
-    /// Puts a cell in a place's column and hands back the one that stood there, which can be set back the same way.
-    /// Takes no memory.
-    pub fn set(&mut self, place: usize, column: usize, cell: Cell) -> Cell
+    /// Puts a cell in a place's column. Takes no memory.
+    pub fn set(&mut self, place: usize, column: usize, cell: Cell)
         requires place { place < length self.old.places }
         requires column { column < length self.old.kinds }
         requires of_kind { is_of_other_kind (slice_get self.old.kinds column) cell ≡ false }
         ensures kinds { self.new.kinds ≡ self.old.kinds }
         ensures places { self.new.places ≡ changed_at (with_cell column cell) place self.old.places }
         ensures len { length self.new.places ≡ length self.old.places }
-        ensures stood { Some result ≡ option_map (λ p. cell_at column p.cells) (slice_get self.old.places place) }
-        ensures back { changed_at (with_cell column result) place self.new.places ≡ self.old.places }
-        ensures back_kind { is_of_other_kind (slice_get self.new.kinds column) result ≡ false }
     {
-        self.columns[column].replace(place, cell)
+        self.columns[column].set(place, cell);
     }
 
     /// Marks a place dead; its cells stay. Takes no memory.
@@ -137,6 +122,36 @@ impl Rows {
         self.alive[place] = false;
     }
 
+    /// A place, lent where it lies. Takes no memory.
+    pub(crate) fn lend(&self, place: usize) -> PlaceRef<'_>
+        requires { place < length self.now.places }
+        ensures { Some result ≡ slice_get self.now.places place }
+    {
+        let columns = self.columns.as_slice();
+        PlaceRef::new(RowRef::Standing { columns, place }, self.alive[place])
+    }
+
+    /// A place as a set of a cell in one of its columns is to leave it: the columns are read where they lie, and nothing
+    /// is changed. Takes no memory.
+    pub(crate) fn lend_with<'a>(
+        &'a self,
+        place: usize,
+        column: usize,
+        cell: &'a Cell,
+    ) -> PlaceRef<'a>
+        requires { place < length self.now.places }
+        ensures { Some result ≡ option_map (with_cell column cell.now) (slice_get self.now.places place) }
+    {
+        let columns = self.columns.as_slice();
+        let row = RowRef::Changed {
+            columns,
+            place,
+            column,
+            cell,
+        };
+        PlaceRef::new(row, self.alive[place])
+    }
+
     /// What a place gives to an aggregate: its key and its value where it is alive, kept and folded. The columns are
     /// read where they lie, and only the key is cloned. Refused with `NoMemory` (1) alone.
     pub fn pair(&self, spec: &Spec, place: usize) -> Result<Option<(Option<Key>, i64)>, Refusal>
@@ -145,15 +160,7 @@ impl Rows {
         ensures fits { IfOk result (λ pair. IfSome pair (λ p. FitsSigned w64 p.1)) }
         ensures memory { IfErr result (λ e. e ≡ Refusal.NoMemory) }
     {
-        if !self.alive[place] {
-            return Ok(None);
-        }
-        pair_of(
-            *self.alive.allocator(),
-            self.columns.as_slice(),
-            spec,
-            place,
-        )
+        self.lend(place).pair(*self.alive.allocator(), spec)
     }
 
     /// The value that a place gives to an aggregate, where it gives one under this key. Takes no memory.
@@ -161,11 +168,7 @@ impl Rows {
         requires { place < length self.now.places }
         ensures { result ≡ value_if key.now (pair_if spec.now (slice_get self.now.places place)) }
     {
-        if self.alive[place] {
-            value_under(self.columns.as_slice(), spec, key, place)
-        } else {
-            None
-        }
+        self.lend(place).value_under(spec, key)
     }
 
     /// Whether the row's insert would make a text object longer than a text segment. Each text column is looked at,

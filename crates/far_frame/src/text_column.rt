@@ -1,5 +1,5 @@
 // The texts of one column, and how full each row group is.
-ghost use Rattle.std.specs.Prelude.{◌≡◌, ◌<◌, ◌≤◌, ◌-◌, ◌/◌, ◌++◌, [], ◌∷◌, None, take, OnOk, IfErr, length, nat_lt, map, slice_index_or, slice_set};
+ghost use Rattle.std.specs.Prelude.{◌≡◌, ◌<◌, ◌≤◌, ◌/◌, ◌++◌, [], ◌∷◌, None, OnOk, IfErr, length, nat_lt, map, slice_set};
 ghost use Rattle.far_types.specs.Cells.{text_in};
 ghost use Rattle.far_types.specs.FormLengths.{texts_length};
 ghost use Rattle.far_types.specs.Table.{in_group};
@@ -11,7 +11,6 @@ use super::text_form::texts_length;
 use far_types::{Cell, Limits, Refusal, Text};
 use std::alloc::Global;
 use std::marker::Model;
-use std::mem;
 
 /// The texts of one column, by place; a cell without a value is a `None`. For each row group stands how many bytes its
 /// texts have and how many are missing, so that the length of its text object needs no look at the texts.
@@ -78,29 +77,15 @@ impl TextColumn {
         self.texts.push(text).unwrap();
     }
 
-    /// Takes back the last text, if there is one. Takes no memory.
-    pub fn pop(&mut self)
-        ensures { self.new.texts ≡ take (length self.old.texts - 1) self.old.texts }
-    {
-        match self.texts.pop() {
-            None => {}
-            Some(text) => {
-                let group = self.texts.len() / self.size as usize;
-                self.fills[group] = emptier(self.fills[group], &text);
-            }
-        }
-    }
-
-    /// Puts a text in the place of another, which is handed back. Takes no memory.
-    pub fn replace(&mut self, place: usize, text: Option<Text>) -> Option<Text>
+    /// Puts a text in the place of another. Takes no memory.
+    pub fn set(&mut self, place: usize, text: Option<Text>)
         requires { place < length self.old.texts }
-        ensures texts { self.new.texts ≡ slice_set self.old.texts place text }
-        ensures old { result ≡ slice_index_or self.old.texts place None }
+        ensures { self.new.texts ≡ slice_set self.old.texts place text }
     {
         let group = place / self.size as usize;
         let rest = emptier(self.fills[group], &self.texts[place]);
         self.fills[group] = fuller(rest, &text);
-        mem::replace(&mut self.texts[place], text)
+        self.texts[place] = text;
     }
 
     /// Whether a cell's text put at a place, or appended, would make the text object of its row group longer than a text

@@ -11,3 +11,4 @@ pub mod PieceLaws
 pub mod Lendable
 pub mod Several
 pub mod Together
+pub mod RowGroups

@@ -1,6 +1,7 @@
 -- A list of elements that lies in objects, one object a row group.
 use Rattle.std.specs.Prelude.{◌≡◌, ◌≢◌, ℕ, ◌+◌, ◌-◌, ◌*◌, ◌/◌, ◌<◌, ◌≤◌, ◌^◌, ◌++◌, List, length, drop, take, replicate, Option, [], unwrap_or, IsSomeAnd, All, AllPairs, slice_index}
 use Rattle.std.specs.List.{flat_map}
+use Rattle.far_types.specs.Table.{in_group}
 
 -- the column that names the objects, how many elements a row group has, the numbers of the objects of row groups 0, 1, 2
 -- and so on, how many elements there are, and what stands in a place that is not yet used
@@ -30,6 +31,12 @@ module _ {X : Type 0} where
   -- the number of the object with the element at a place
   abbrev pub object_at : Vector X → ℕ → ℕ
   object_at v i = slice_index v.objects (i / v.size)
+
+  -- the list of row group g's object: the elements of its places, and behind them what stands in places not yet used
+  abbrev pub group_list : Vector X → List X → ℕ → List X
+  group_list v elements g =
+      let used : List X = in_group v.size g elements
+      in used ++ replicate (v.size - length used) v.blank
 
   -- no object is in both
   abbrev pub AreApart : Vector X → Vector X → Type 0

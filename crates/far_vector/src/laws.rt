@@ -1,6 +1,6 @@
 // What calls on one vector leave of the others in the same objects.
 ghost use Rattle.std.specs.Prelude.{◌≡◌, ◌≢◌, ◌<◌, ◌++◌, ℕ, List, [], ◌∷◌, length, Option, Some, slice_get, slice_set, slice_index_or};
-ghost use Rattle.far_vector.specs.Vector.{Vector, IsVector, elements};
+ghost use Rattle.far_vector.specs.Vector.{Vector, IsShaped, IsVector, elements, group_list};
 ghost use Rattle.far_vector.specs.Vectors.{AreVectors, ChangesVector};
 
 use far_codec::Elem;
@@ -15,4 +15,10 @@ pub fn vectors_stay_together<T: Elem>()
     ensures others { (old : ℕ → Option (List T)) → (new : ℕ → Option (List T)) → (vectors : List (Vector T)) → (k : ℕ) → (v : Vector T) → (changed : Vector T) → AreVectors old vectors → slice_get vectors k ≡ Some v → ChangesVector old new v changed → (j : ℕ) → (d : Vector T) → j ≢ k → j < length vectors → elements new (slice_index_or (slice_set vectors k changed) j d) ≡ elements old (slice_index_or vectors j d) }
     ensures moved { (old : ℕ → Option (List T)) → (new : ℕ → Option (List T)) → (vectors : List (Vector T)) → AreVectors old vectors → ((o : ℕ) → new o ≡ old o) → AreVectors new vectors }
     ensures kept { (old : ℕ → Option (List T)) → (new : ℕ → Option (List T)) → (w : Vector T) → ((o : ℕ) → new o ≡ old o) → elements new w ≡ elements old w }
+{}
+
+/// The object of a row group holds the elements of the row group's places, in order, and behind them, up to the length of a
+/// row group, what stands in places that are not yet used.
+pub fn objects_hold_row_groups<T: Elem>()
+    ensures { (lists : ℕ → Option (List T)) → (v : Vector T) → (g : ℕ) → (o : ℕ) → IsShaped v → IsVector lists v → slice_get v.objects g ≡ Some o → lists o ≡ Some (group_list v (elements lists v) g) }
 {}

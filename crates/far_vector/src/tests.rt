@@ -1,5 +1,7 @@
 // What no clause says: that calls are served, and that worked examples come out as they should.
+mod again;
 mod away;
+mod digest;
 mod pushing;
 mod reading;
 mod refusing;
@@ -10,23 +12,16 @@ ghost use Rattle.far_scopes.specs.Movement.{list_of};
 ghost use Rattle.far_vector.specs.Vector.{IsVector};
 
 use crate::FarVector;
+use again::{no_elements, push};
+use digest::Digested;
 use far_codec::Elem;
 use far_scopes::Objects;
 use far_store::FarRead;
 use far_types::Refusal;
 use std::alloc::Global;
 
-/// No object, in four segments of four elements; `changes` writes and one leaving each.
-fn no_objects<T: Elem, S: FarRead>(
-    alloc: Global,
-    _store: &S,
-    changes: u64,
-) -> Result<Objects<T, S>, Refusal> {
-    Objects::new(alloc, 7, 4, 4, changes, 1)
-}
-
-/// Pushes elements, and refuses where no more objects can be made.
-fn push_all<T: Elem, S: FarRead>(
+/// Pushes elements; there are few objects.
+fn push_all<T: Elem + Digested, S: FarRead>(
     vector: &mut FarVector<T>,
     objects: &mut Objects<T, S>,
     elements: &[T],
@@ -35,16 +30,13 @@ fn push_all<T: Elem, S: FarRead>(
     ensures { IsVector (list_of T.meaning S.content objects.new) vector.new }
 {
     for x in elements {
-        if objects.count() >= 1 << 28 {
-            return Err(Refusal::RegionFull);
-        }
-        vector.push(objects, *x)?;
+        push(vector, objects, *x)?;
     }
     Ok(())
 }
 
 /// A vector of these elements, in row groups of four.
-fn filled<T: Elem, S: FarRead>(
+fn filled<T: Elem + Digested, S: FarRead>(
     alloc: Global,
     objects: &mut Objects<T, S>,
     blank: T,
@@ -52,7 +44,7 @@ fn filled<T: Elem, S: FarRead>(
 ) -> Result<FarVector<T>, Refusal>
     ensures { IfOk result (λ v. IsVector (list_of T.meaning S.content objects.new) v) }
 {
-    let mut vector = FarVector::new(alloc, 0, 4, blank)?;
+    let mut vector = no_elements(alloc, 4, blank)?;
     push_all(&mut vector, objects, elements)?;
     Ok(vector)
 }

@@ -1,8 +1,8 @@
 // Calls that take memory, made a second time where the first finds none. The first must leave the column and its objects as
 // they were: where it does not, the second is not made, and the refusal stands.
-ghost use Rattle.std.specs.Prelude.{◌≡◌, ◌<◌, ◌≤◌, ◌^◌, ℕ, List, Option, IfOk};
+ghost use Rattle.std.specs.Prelude.{◌≡◌, ◌<◌, ◌≤◌, ◌^◌, ℕ, ℤ, List, [], Option, IfOk};
 ghost use Rattle.far_scopes.specs.Movement.{AreHere};
-ghost use Rattle.far_vector.specs.Vector.{IsVector};
+ghost use Rattle.far_vector.specs.Vector.{Vector, IsVector, AreApart, IsUntouched};
 ghost use Rattle.far_columns.specs.Numbers.{Numbers, number_lists};
 ghost use Rattle.far_columns.specs.Texts.{Lists, lists_of, IsTextColumn};
 
@@ -43,7 +43,8 @@ pub fn no_objects<T: Elem, S: FarRead>(
 /// A column without a number.
 pub fn no_numbers(alloc: Global, column: u32, size: u32) -> Result<IntColumn, Refusal>
     requires { 0 < size }
-    ensures { IfOk result (λ c. (lists : ℕ → Option Numbers) → IsVector lists c) }
+    ensures empty { IfOk result (λ c. c.objects ≡ []) }
+    ensures is { IfOk result (λ c. (lists : ℕ → Option Numbers) → IsVector lists c) }
 {
     match IntColumn::new(alloc, column, size) {
         Err(Refusal::NoMemory) => IntColumn::new(alloc, column, size),
@@ -59,6 +60,7 @@ pub fn push_number<S: FarRead>(
 ) -> Result<(), Refusal>
     requires { IsVector (number_lists S.content objects.old) column.old }
     ensures is { IsVector (number_lists S.content objects.new) column.new }
+    ensures apart { (w : Vector (Option ℤ)) → IsVector (number_lists S.content objects.old) w → AreApart column.old w → IsUntouched (number_lists S.content objects.old) (number_lists S.content objects.new) column.new w }
     ensures here { (name : List ℕ) → AreHere S.is_of name objects.old → AreHere S.is_of name objects.new }
 {
     if objects.count() >= 8 {

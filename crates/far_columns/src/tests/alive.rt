@@ -16,6 +16,26 @@ fn second_cleared(alloc: Global) -> Result<(usize, [bool; 3]), Refusal> {
     Ok((alive.len(), [front[0], front[1], back[0]]))
 }
 
+/// Three places of which the second is cleared and the last taken back: how many there are, and their flags.
+fn last_taken_back(alloc: Global) -> Result<(usize, [bool; 2]), Refusal> {
+    let mut alive = Alive::new(alloc);
+    alive.push()?;
+    alive.push()?;
+    alive.push()?;
+    alive.clear(1);
+    alive.unpush();
+    let flags = alive.flags(0, 2);
+    Ok((alive.len(), [flags[0], flags[1]]))
+}
+
+#[test]
+fn a_push_of_a_flag_is_taken_back(rt: HostRuntime) -> Result<(), Fail> {
+    let (len, flags) = last_taken_back(rt.alloc())?;
+    assert_eq!(rt; len, 2);
+    assert_eq!(rt; flags, [true, false]);
+    Ok(())
+}
+
 #[test]
 fn a_cleared_place_alone_is_not_alive(rt: HostRuntime) -> Result<(), Fail> {
     let (len, flags) = second_cleared(rt.alloc())?;

@@ -1,5 +1,6 @@
 // Texts for several columns at once: worked examples.
-ghost use Rattle.std.specs.Prelude.{◌≡◌, ◌<◌, ◌≤◌, ◌^◌, ℕ, length, OnOk};
+ghost use Rattle.std.specs.Prelude.{◌≡◌, ◌<◌, ◌≤◌, ◌^◌, ℕ, List, length, OnOk};
+ghost use Rattle.far_scopes.specs.Movement.{AreHere};
 ghost use Rattle.far_columns.specs.Texts.{lists_of};
 ghost use Rattle.far_columns.specs.Together.{AreColumns};
 
@@ -15,7 +16,11 @@ use std::alloc::Global;
 use std::test::Fail;
 
 /// Two columns without a text, in row groups of so many places and forms of 64 bytes at most.
-fn two_columns<S: FarRead>(alloc: Global, _objects: &Objects<u8, S>, size: usize) -> [TextColumn; 2]
+pub fn two_columns<S: FarRead>(
+    alloc: Global,
+    _objects: &Objects<u8, S>,
+    size: usize,
+) -> [TextColumn; 2]
     requires some { 0 < size }
     requires small { size ≤ 2 ^ 16 }
     ensures { AreColumns (lists_of S.content _objects.now) result }
@@ -27,14 +32,15 @@ fn two_columns<S: FarRead>(alloc: Global, _objects: &Objects<u8, S>, size: usize
 }
 
 /// Pushes a text to each column; there are few objects.
-fn push<S: FarRead>(
+pub fn push<S: FarRead>(
     alloc: Global,
     objects: &mut Objects<u8, S>,
     columns: &mut [TextColumn],
     texts: &[Option<Text>],
 ) -> Result<(), Refusal>
     requires { AreColumns (lists_of S.content objects.old) columns.old }
-    ensures { AreColumns (lists_of S.content objects.new) columns.new }
+    ensures are { AreColumns (lists_of S.content objects.new) columns.new }
+    ensures here { (name : List ℕ) → AreHere S.is_of name objects.old → AreHere S.is_of name objects.new }
 {
     if objects.count() >= 8 || columns.len() > 8 || texts.len() != columns.len() {
         return Err(Refusal::TableFull);

@@ -111,19 +111,6 @@ fn plainly<T: Drop>(reply: Result<T, Refusal>) -> Result<(), Refusal> {
     Ok(())
 }
 
-/// Places with these flags.
-fn with_flags(alloc: Global, flags: &[bool]) -> Result<Alive, Refusal> {
-    let mut alive = Alive::new(alloc);
-    for flag in flags {
-        let place = alive.len();
-        alive.push()?;
-        if !*flag {
-            alive.clear(place);
-        }
-    }
-    Ok(alive)
-}
-
 /// Clears a place, if it is there.
 fn clear(alive: &mut Alive, place: usize) -> Result<(), Refusal> {
     if place >= alive.len() {

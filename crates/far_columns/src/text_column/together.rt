@@ -1,8 +1,8 @@
 // Several columns of texts get a text each, all or none.
-ghost use Rattle.std.specs.Prelude.{◌≡◌, ◌⊎◌, ◌<◌, ◌≤◌, ◌+◌, ◌^◌, ◌∷◌, ℕ, List, [], length, map, true, false, None, Some, OnOk, IfErr, OnErr};
+ghost use Rattle.std.specs.Prelude.{◌≡◌, ◌⊎◌, ◌<◌, ◌≤◌, ◌+◌, ◌^◌, ◌∷◌, ℕ, List, [], length, map, true, false, None, Some, All, OnOk, IfErr, OnErr};
 ghost use Rattle.far_types.specs.FirstOf.{first_of};
 ghost use Rattle.far_scopes.specs.Movement.{AreClean, AreHere};
-ghost use Rattle.far_columns.specs.Texts.{lists_of, texts_in};
+ghost use Rattle.far_columns.specs.Texts.{Texts, IsTextColumn, AreApart, lists_of, texts_in};
 ghost use Rattle.far_columns.specs.Together.{AreColumns, all_begin, next_forms, all_pushed, all_texts_with, ChangesTo, KeepsColumns, all_created, AreReplaced};
 ghost use Rattle.far_columns.specs.RefusingTogether.{first_tests, push_texts_refusal};
 
@@ -45,6 +45,7 @@ pub fn push_texts<S: FarRead>(
     ensures are { AreColumns (lists_of S.content objects.new) columns.new }
     ensures texts { OnOk result (map (texts_in (lists_of S.content objects.new)) columns.new ≡ all_texts_with (lists_of S.content objects.old) columns.old texts.now) }
     ensures others { KeepsColumns (lists_of S.content objects.old) (lists_of S.content objects.new) columns.old }
+    ensures apart { (d : Texts) → IsTextColumn (lists_of S.content objects.old) d → All (λ c. AreApart c d) columns.old → All (λ c. AreApart c d) columns.new }
     ensures clean { AreClean (λ bytes. bytes) S.content objects.old → AreClean (λ bytes. bytes) S.content objects.new }
     ensures store { (name : List ℕ) → AreHere S.is_of name objects.old → AreHere S.is_of name objects.new }
     ensures free { OnOk result (push_texts_refusal S.content objects.old columns.old texts.now ≡ None) }

@@ -85,7 +85,7 @@ fn limits(group: u32, text_size: u32) -> Limits
 }
 
 #[test]
-fn a_row_is_pushed_read_changed_removed_and_taken_back(rt: HostRuntime) -> Result<(), Fail> {
+fn a_row_is_pushed_read_changed_and_removed(rt: HostRuntime) -> Result<(), Fail> {
     let alloc = rt.alloc();
     let mut rows = no_rows(alloc)?;
     push(&rt, &mut rows, alloc, Some(5), Some("north"))?;
@@ -96,18 +96,36 @@ fn a_row_is_pushed_read_changed_removed_and_taken_back(rt: HostRuntime) -> Resul
     assert!(rt; matches!(rows.cell(1, 1), Some(CellRef::Missing)));
     assert!(rt; rows.cell(0, 2).is_none());
     assert!(rt; rows.cell(2, 0).is_none());
-    let stood = rows.set(0, 0, Cell::Int(-2));
-    assert!(rt; matches!(stood, Cell::Int(5)));
+    rows.set(0, 0, Cell::Int(-2));
     assert!(rt; matches!(rows.cell(0, 0), Some(CellRef::Int(-2))));
     assert!(rt; matches!(rows.cell(1, 0), Some(CellRef::Missing)));
     rows.clear(0);
     assert_eq!(rt; rows.is_alive(0), Some(false));
     assert_eq!(rt; rows.is_alive(1), Some(true));
     assert_eq!(rt; rows.is_alive(2), None);
-    rows.pop();
-    assert_eq!(rt; rows.len(), 1);
     assert!(rt; matches!(rows.cell(0, 1), Some(CellRef::Text("north"))));
     Ok(())
+}
+
+/// Totals of the numbers over two, by their texts.
+fn over_two(alloc: Global) -> Result<Spec, Refusal> {
+    let test = Test::Int {
+        column: 0,
+        op: Op::Gt,
+        value: 2,
+    };
+    Ok(Spec {
+        fold: Fold::Totals,
+        value: 0,
+        key: Some(1),
+        filter: Filter::new(Vec::from_array(alloc, [test])?),
+    })
+}
+
+/// The pair of a text and a number.
+fn pair(alloc: Global, text: &str, number: i64) -> Result<Option<(Option<Key>, i64)>, Refusal> {
+    let key = Key::Text(Text::new(String::from_str(alloc, text)?));
+    Ok(Some((Some(key), number)))
 }
 
 #[test]
@@ -120,19 +138,8 @@ fn a_place_gives_the_pair_of_a_row_that_is_alive_kept_and_folded(
     push(&rt, &mut rows, alloc, Some(1), Some("south"))?;
     push(&rt, &mut rows, alloc, None, Some("north"))?;
     push(&rt, &mut rows, alloc, Some(9), None)?;
-    let over_two = Test::Int {
-        column: 0,
-        op: Op::Gt,
-        value: 2,
-    };
-    let spec = Spec {
-        fold: Fold::Totals,
-        value: 0,
-        key: Some(1),
-        filter: Filter::new(Vec::from_array(alloc, [over_two])?),
-    };
-    let north = Key::Text(Text::new(String::from_str(alloc, "north")?));
-    assert!(rt; rows.pair(&spec, 0)? == Some((Some(north), 7)));
+    let spec = over_two(alloc)?;
+    assert!(rt; rows.pair(&spec, 0)? == pair(alloc, "north", 7)?);
     assert!(rt;
         rows.pair(&spec, 1)?.is_none(),
         "the filter does not keep it"
@@ -141,6 +148,52 @@ fn a_place_gives_the_pair_of_a_row_that_is_alive_kept_and_folded(
     assert!(rt; rows.pair(&spec, 3)?.is_none(), "its key is missing");
     rows.clear(0);
     assert!(rt; rows.pair(&spec, 0)?.is_none(), "it is dead");
+    Ok(())
+}
+
+#[test]
+fn a_place_is_read_as_a_set_would_leave_it(rt: HostRuntime) -> Result<(), Fail> {
+    let alloc = rt.alloc();
+    let mut rows = no_rows(alloc)?;
+    push(&rt, &mut rows, alloc, Some(7), Some("north"))?;
+    let spec = over_two(alloc)?;
+    let south = text_cell(alloc, Some("south"))?;
+    let set = |column: usize, cell: &Cell| rows.lend_with(0, column, cell).pair(alloc, &spec);
+    assert!(rt; set(0, &Cell::Int(9))? == pair(alloc, "north", 9)?);
+    assert!(rt; set(1, &south)? == pair(alloc, "south", 7)?);
+    assert!(rt;
+        set(0, &Cell::Int(1))?.is_none(),
+        "the filter does not keep it"
+    );
+    assert!(rt; set(1, &Cell::Missing)?.is_none(), "its key is missing");
+    assert!(rt;
+        set(2, &south)? == pair(alloc, "north", 7)?,
+        "there is no such column"
+    );
+    assert!(rt;
+        rows.pair(&spec, 0)? == pair(alloc, "north", 7)?,
+        "nothing is changed"
+    );
+    rows.clear(0);
+    let nine = Cell::Int(9);
+    assert!(rt;
+        rows.lend_with(0, 0, &nine).pair(alloc, &spec)?.is_none(),
+        "it is dead"
+    );
+    Ok(())
+}
+
+#[test]
+fn a_row_in_hand_gives_the_pair_that_its_place_will(rt: HostRuntime) -> Result<(), Fail> {
+    let alloc = rt.alloc();
+    let spec = over_two(alloc)?;
+    let seven = row(alloc, Some(7), Some("north"))?;
+    assert!(rt; PlaceRef::inserted(&seven).pair(alloc, &spec)? == pair(alloc, "north", 7)?);
+    let one = row(alloc, Some(1), Some("south"))?;
+    assert!(rt;
+        PlaceRef::inserted(&one).pair(alloc, &spec)?.is_none(),
+        "the filter does not keep it"
+    );
     Ok(())
 }
 

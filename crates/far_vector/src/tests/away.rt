@@ -3,11 +3,13 @@ ghost use Rattle.std.specs.Prelude.{◌≡◌, ◌<◌, ◌^◌, ℕ, List, leng
 ghost use Rattle.far_scopes.specs.Movement.{list_of};
 ghost use Rattle.far_vector.specs.Vector.{Vector, IsVector};
 
-use super::{filled, no_objects};
+use super::again::{agent, no_objects, push, put};
+use super::digest::Digested;
+use super::filled;
 use crate::FarVector;
 use far_codec::Elem;
 use far_scopes::Objects;
-use far_store::{AgentStore, FarRead, FarStore, Meter};
+use far_store::{FarRead, FarStore};
 use far_types::Refusal;
 use std::alloc::Global;
 use std::test::Fail;
@@ -27,8 +29,7 @@ fn send_away<T: Elem, S: FarStore>(
     if list.len() >= 1 << 32 || objects.pins(o) > 0 || !objects.may_leave(o) {
         return Err(Refusal::Pinned);
     }
-    let bytes = T::spell(alloc, list)?;
-    let ticket = store.put(alloc, &mut Meter::new(), &bytes)?;
+    let ticket = put(alloc, store, list)?;
     objects.leave(store, o, &ticket);
     Ok(())
 }
@@ -70,23 +71,20 @@ fn pieces_refused<T: Elem, S: FarRead>(
 }
 
 /// Why the last of five elements is neither read nor written, and none is added behind it.
-fn all_refused<T: Elem, S: FarRead>(
+fn all_refused<T: Elem + Digested, S: FarRead>(
     vector: &mut FarVector<T>,
     objects: &mut Objects<T, S>,
     x: T,
-) -> Result<[Option<Refusal>; 6], Refusal>
+) -> [Option<Refusal>; 6]
     requires { IsVector (list_of T.meaning S.content objects.old) vector.old }
 {
-    if objects.count() >= 1 << 28 {
-        return Err(Refusal::RegionFull);
-    }
     let get = vector.get(objects, 4).err();
     let part = part_refused(vector, objects);
     let pieces = pieces_refused(vector, objects);
     let may_write_part = vector.may_write_part(objects, 4, 5).err();
     let set = vector.set(objects, 4, x).err();
-    let push = vector.push(objects, x).err();
-    Ok([get, part, pieces, may_write_part, set, push])
+    let push = push(vector, objects, x).err();
+    [get, part, pieces, may_write_part, set, push]
 }
 
 /// The same, of five numbers in row groups of four, of which the last is away.
@@ -97,7 +95,7 @@ fn refused_in<S: FarStore>(
 ) -> Result<[Option<Refusal>; 6], Refusal> {
     let mut vector = filled(alloc, objects, 0, &[1, 2, 3, 4, 5])?;
     send_last_away(alloc, objects, store)?;
-    all_refused(&mut vector, objects, 6)
+    Ok(all_refused(&mut vector, objects, 6))
 }
 
 fn refused_away<S: FarStore>(alloc: Global, store: &S) -> Result<[Option<Refusal>; 6], Refusal> {
@@ -123,7 +121,7 @@ fn read_beside<S: FarStore>(alloc: Global, store: &S) -> Result<i64, Refusal> {
 
 #[test]
 fn calls_on_elements_of_which_the_object_is_away_are_refused(rt: HostRuntime) -> Result<(), Fail> {
-    let store = AgentStore::new(&rt, rt.alloc(), 4)?;
+    let store = agent(&rt)?;
     let refused = refused_away(rt.alloc(), &store)?;
     let absent = Refusal::Absent {
         column: 0,
@@ -135,7 +133,7 @@ fn calls_on_elements_of_which_the_object_is_away_are_refused(rt: HostRuntime) ->
 
 #[test]
 fn an_element_of_another_object_is_read(rt: HostRuntime) -> Result<(), Fail> {
-    let store = AgentStore::new(&rt, rt.alloc(), 4)?;
+    let store = agent(&rt)?;
     assert_eq!(rt; read_beside(rt.alloc(), &store)?, 4);
     Ok(())
 }

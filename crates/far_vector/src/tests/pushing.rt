@@ -3,17 +3,18 @@ ghost use Rattle.std.specs.Prelude.{◌≡◌, []};
 ghost use Rattle.far_scopes.specs.Movement.{list_of};
 ghost use Rattle.far_vector.specs.Vector.{IsVector};
 
-use super::no_objects;
+use super::again::{agent, no_elements, no_objects, push};
+use super::digest::Digested;
 use crate::FarVector;
 use far_codec::Elem;
 use far_scopes::Objects;
-use far_store::{AgentStore, FarRead};
+use far_store::FarRead;
 use far_types::Refusal;
 use std::alloc::Global;
 use std::test::Fail;
 
 /// How many elements and objects there are once the first element is pushed and taken back.
-fn take_back<T: Elem, S: FarRead>(
+fn take_back<T: Elem + Digested, S: FarRead>(
     vector: &mut FarVector<T>,
     objects: &mut Objects<T, S>,
     x: T,
@@ -21,10 +22,7 @@ fn take_back<T: Elem, S: FarRead>(
     requires empty { (vector.old.objects ≡ []) × (vector.old.len ≡ 0) }
     requires is { IsVector (list_of T.meaning S.content objects.old) vector.old }
 {
-    if objects.count() >= 1 << 28 {
-        return Err(Refusal::RegionFull);
-    }
-    vector.push(objects, x)?;
+    push(vector, objects, x)?;
     let o = objects.count() - 1;
     objects.lend(o)?;
     if objects.pins(o) > 0 {
@@ -39,7 +37,7 @@ fn taken_back_in<S: FarRead>(
     alloc: Global,
     objects: &mut Objects<i64, S>,
 ) -> Result<(usize, u32), Refusal> {
-    let mut vector = FarVector::new(alloc, 0, 4, 0)?;
+    let mut vector = no_elements(alloc, 4, 0)?;
     take_back(&mut vector, objects, 1)
 }
 
@@ -50,7 +48,7 @@ fn taken_back<S: FarRead>(alloc: Global, store: &S) -> Result<(usize, u32), Refu
 
 #[test]
 fn a_push_that_is_taken_back_leaves_no_element_and_no_object(rt: HostRuntime) -> Result<(), Fail> {
-    let store = AgentStore::new(&rt, rt.alloc(), 4)?;
+    let store = agent(&rt)?;
     assert_eq!(rt; taken_back(rt.alloc(), &store)?, (0, 0));
     Ok(())
 }

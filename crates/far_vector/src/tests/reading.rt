@@ -2,11 +2,12 @@
 ghost use Rattle.far_scopes.specs.Movement.{list_of};
 ghost use Rattle.far_vector.specs.Vector.{IsVector};
 
-use super::{filled, no_objects, push_all};
+use super::again::{agent, copy_of, no_elements, no_objects};
+use super::{filled, push_all};
 use crate::FarVector;
 use far_codec::Elem;
 use far_scopes::Objects;
-use far_store::{AgentStore, FarRead};
+use far_store::FarRead;
 use far_types::Refusal;
 use std::alloc::Global;
 use std::test::Fail;
@@ -16,7 +17,7 @@ fn numbers_in<S: FarRead>(
     alloc: Global,
     objects: &mut Objects<Option<i64>, S>,
 ) -> Result<(Option<i64>, Vec<Option<i64>>), Refusal> {
-    let mut vector = FarVector::new(alloc, 0, 4, Some(0))?;
+    let mut vector = no_elements(alloc, 4, Some(0))?;
     push_all(
         &mut vector,
         objects,
@@ -24,7 +25,7 @@ fn numbers_in<S: FarRead>(
     )?;
     let last = vector.get(objects, 4)?;
     let part = vector.part(objects, 1, 3)?;
-    Ok((last, part.to_vec(alloc)?))
+    Ok((last, copy_of(alloc, part)?))
 }
 
 fn numbers<S: FarRead>(
@@ -76,7 +77,7 @@ fn objects_in<S: FarRead>(
     alloc: Global,
     objects: &mut Objects<i64, S>,
 ) -> Result<(usize, Option<u32>, Option<u32>), Refusal> {
-    let mut vector = FarVector::new(alloc, 0, 2, 0)?;
+    let mut vector = no_elements(alloc, 2, 0)?;
     push_all(&mut vector, objects, &[1, 2, 3])?;
     Ok((vector.len(), vector.object(1), vector.object(2)))
 }
@@ -91,7 +92,7 @@ fn objects_of<S: FarRead>(
 
 #[test]
 fn five_numbers_are_read_from_two_row_groups(rt: HostRuntime) -> Result<(), Fail> {
-    let store = AgentStore::new(&rt, rt.alloc(), 4)?;
+    let store = agent(&rt)?;
     let (last, part) = numbers(rt.alloc(), &store)?;
     assert_eq!(rt; last, Some(5));
     assert_eq!(rt; part.as_slice(), [Some(2), Some(3)].as_slice());
@@ -100,7 +101,7 @@ fn five_numbers_are_read_from_two_row_groups(rt: HostRuntime) -> Result<(), Fail
 
 #[test]
 fn five_numbers_are_lent_in_pieces_of_four_and_one(rt: HostRuntime) -> Result<(), Fail> {
-    let store = AgentStore::new(&rt, rt.alloc(), 4)?;
+    let store = agent(&rt)?;
     let lengths = piece_lengths(rt.alloc(), &store)?;
     assert_eq!(rt; lengths, (2, Some(4), Some(1)));
     Ok(())
@@ -108,7 +109,7 @@ fn five_numbers_are_lent_in_pieces_of_four_and_one(rt: HostRuntime) -> Result<()
 
 #[test]
 fn a_vector_names_the_objects_of_its_row_groups(rt: HostRuntime) -> Result<(), Fail> {
-    let store = AgentStore::new(&rt, rt.alloc(), 4)?;
+    let store = agent(&rt)?;
     assert_eq!(rt; objects_of(rt.alloc(), &store)?, (3, Some(1), None));
     Ok(())
 }

@@ -2,11 +2,12 @@
 ghost use Rattle.far_scopes.specs.Movement.{list_of};
 ghost use Rattle.far_vector.specs.Vector.{IsVector};
 
-use super::{filled, no_objects, push_all};
+use super::again::{agent, no_elements, no_objects};
+use super::{filled, push_all};
 use crate::FarVector;
 use far_codec::Elem;
 use far_scopes::Objects;
-use far_store::{AgentStore, FarRead};
+use far_store::FarRead;
 use far_types::Refusal;
 use std::alloc::Global;
 use std::test::Fail;
@@ -52,7 +53,7 @@ fn used_up_in<S: FarRead>(
     alloc: Global,
     objects: &mut Objects<i64, S>,
 ) -> Result<[Option<Refusal>; 3], Refusal> {
-    let mut vector = FarVector::new(alloc, 0, 4, 0)?;
+    let mut vector = no_elements(alloc, 4, 0)?;
     push_all(&mut vector, objects, &[1])?;
     vector.set(objects, 0, 2)?;
     Ok([
@@ -69,7 +70,7 @@ fn used_up<S: FarRead>(alloc: Global, store: &S) -> Result<[Option<Refusal>; 3],
 
 #[test]
 fn what_is_past_the_end_or_crosses_row_groups_is_refused(rt: HostRuntime) -> Result<(), Fail> {
-    let store = AgentStore::new(&rt, rt.alloc(), 4)?;
+    let store = agent(&rt)?;
     let refused = out_of_range(rt.alloc(), &store)?;
     assert_eq!(rt; refused, [Some(Refusal::OutOfRange); 2]);
     Ok(())
@@ -79,7 +80,7 @@ fn what_is_past_the_end_or_crosses_row_groups_is_refused(rt: HostRuntime) -> Res
 fn a_row_group_that_was_written_as_often_as_it_may_be_is_not_written(
     rt: HostRuntime,
 ) -> Result<(), Fail> {
-    let store = AgentStore::new(&rt, rt.alloc(), 4)?;
+    let store = agent(&rt)?;
     let refused = used_up(rt.alloc(), &store)?;
     let used_up = Some(Refusal::EditsUsedUp);
     assert_eq!(rt; refused, [used_up, used_up, None]);

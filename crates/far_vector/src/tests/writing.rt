@@ -4,11 +4,12 @@ ghost use Rattle.far_scopes.specs.Movement.{list_of};
 ghost use Rattle.far_vector.specs.Vector.{IsVector};
 ghost use Rattle.far_vector.specs.Refusing.{write_part_refusal};
 
-use super::{no_objects, push_all};
+use super::again::{agent, no_elements, no_objects};
+use super::push_all;
 use crate::FarVector;
 use far_codec::Elem;
 use far_scopes::Objects;
-use far_store::{AgentStore, FarRead};
+use far_store::FarRead;
 use far_types::Refusal;
 use std::alloc::Global;
 use std::test::Fail;
@@ -36,7 +37,7 @@ fn written_in<S: FarRead>(
     alloc: Global,
     objects: &mut Objects<Option<i64>, S>,
 ) -> Result<(Option<i64>, Option<i64>), Refusal> {
-    let mut vector = FarVector::new(alloc, 0, 4, Some(0))?;
+    let mut vector = no_elements(alloc, 4, Some(0))?;
     push_all(
         &mut vector,
         objects,
@@ -55,7 +56,7 @@ fn written<S: FarRead>(alloc: Global, store: &S) -> Result<(Option<i64>, Option<
 
 #[test]
 fn a_part_that_is_written_in_place_shows_in_the_vector(rt: HostRuntime) -> Result<(), Fail> {
-    let store = AgentStore::new(&rt, rt.alloc(), 4)?;
+    let store = agent(&rt)?;
     assert_eq!(rt; written(rt.alloc(), &store)?, (Some(6), Some(9)));
     Ok(())
 }

@@ -1,8 +1,9 @@
 // Elements added and taken back at the end.
 ghost use Rattle.std.specs.Prelude.{◌≡◌, ℕ, ◌+◌, ◌-◌, ◌*◌, ◌<◌, ◌^◌, ◌⊎◌, ◌++◌, List, [], ◌∷◌, length, true, false, take, Some, None, OnOk, OnErr, IfErr, slice_index, slice_get};
+ghost use Rattle.far_log.specs.Room.{spaces_of, fit_in_order};
 ghost use Rattle.far_scopes.specs.Movement.{list_of, AreClean, AreHere, ChangesObject, is_local, pins_of};
 ghost use Rattle.far_scopes.specs.Effects.{created, uncreated};
-ghost use Rattle.far_scopes.specs.Refusing.{refusal_in, no_room, write_refusal};
+ghost use Rattle.far_scopes.specs.Refusing.{refusal_in, lend_refusal, no_room, write_refusal};
 ghost use Rattle.far_types.specs.FirstOf.{first_of};
 ghost use Rattle.far_vector.specs.Vector.{Vector, IsVector, IsUntouched, AreApart, KeepsOthers, elements, object_at};
 ghost use Rattle.far_vector.specs.Effects.{is_full, next_name, next_group, pushed, pushed_in, unpushed, range_written};
@@ -15,6 +16,37 @@ use far_store::FarRead;
 use far_types::{Name, Refusal};
 
 impl<T: Elem> FarVector<T> {
+    /// Whether the next element begins a row group. Takes no memory.
+    pub fn begins_group(&self) -> bool
+        ensures { result ≡ is_full self.now }
+    {
+        self.len == self.objects.len() * self.size
+    }
+
+    /// Whether the object of the next place is local, whose row group is begun. Takes no memory.
+    ///
+    /// Refused with `Absent` (16) exactly where it is away.
+    pub fn next_is_here<S: FarRead>(&self, objects: &Objects<T, S>) -> Result<(), Refusal>
+        requires is { IsVector (list_of T.meaning S.content objects.now) self.now }
+        requires begun { is_full self.now ≡ false }
+        ensures { refusal_in result ≡ lend_refusal objects.now (object_at self.now self.now.len) }
+    {
+        let _list = objects.lend(self.object_at(objects, self.len))?;
+        Ok(())
+    }
+
+    /// Whether the object of the next place may be written, whose row group is begun. Takes no memory.
+    ///
+    /// Refused with `Absent` (16) exactly where it is away, else with `EditsUsedUp` (24) exactly where it was written as
+    /// often as objects may be.
+    pub fn next_is_writable<S: FarRead>(&self, objects: &Objects<T, S>) -> Result<(), Refusal>
+        requires is { IsVector (list_of T.meaning S.content objects.now) self.now }
+        requires begun { is_full self.now ≡ false }
+        ensures { refusal_in result ≡ write_refusal objects.now (object_at self.now self.now.len) }
+    {
+        objects.may_write(self.object_at(objects, self.len))
+    }
+
     /// Adds an element at the end: in the last row group, or, where that is full, in a new one, whose object is made here.
     /// `unpush` undoes a push that made an object (`undone`).
     ///
@@ -24,10 +56,12 @@ impl<T: Elem> FarVector<T> {
     /// changed.
     pub fn push<S: FarRead>(&mut self, objects: &mut Objects<T, S>, x: T) -> Result<(), Refusal>
         requires is { IsVector (list_of T.meaning S.content objects.old) self.old }
-        requires few { length objects.old.entries < 2 ^ 28 }
+        requires few { is_full self.old ≡ true → length objects.old.entries < 2 ^ 28 }
         ensures pushed { OnOk result (self.new ≡ pushed self.old (length objects.old.entries)) }
         ensures written { OnOk result (objects.new ≡ pushed_in objects.old self.old x) }
         ensures undone { OnOk result (is_full self.old ≡ true → (unpushed self.new ≡ self.old) × (uncreated objects.new ≡ objects.old)) }
+        ensures last { OnOk result (is_full self.old ≡ true → (is_local objects.new (length objects.old.entries) ≡ true) × (pins_of objects.new (length objects.old.entries) ≡ 0)) }
+        ensures next { OnOk result (is_full self.old ≡ true → (lens : List ℕ) → fit_in_order (spaces_of objects.old.memory.room) (self.old.size ∷ lens) ≡ fit_in_order (spaces_of objects.new.memory.room) lens) }
         ensures elements { OnOk result (elements (list_of T.meaning S.content objects.new) self.new ≡ elements (list_of T.meaning S.content objects.old) self.old ++ x ∷ []) }
         ensures is { IsVector (list_of T.meaning S.content objects.new) self.new }
         ensures apart { (w : Vector T) → IsVector (list_of T.meaning S.content objects.old) w → AreApart self.old w → IsUntouched (list_of T.meaning S.content objects.old) (list_of T.meaning S.content objects.new) self.new w }
@@ -39,7 +73,7 @@ impl<T: Elem> FarVector<T> {
         ensures refused { IfErr result (λ e. (push_refusal objects.old self.old ≡ Some e) ⊎ ((push_refusal objects.old self.old ≡ None) × (is_full self.old ≡ true) × (e ≡ Refusal.NoMemory))) }
         ensures err { OnErr result ((self.new ≡ self.old) × (objects.new ≡ objects.old)) }
     {
-        if self.len == self.objects.len() * self.size {
+        if self.begins_group() {
             self.begin_group(objects, x)
         } else {
             self.fill_place(objects, x)
@@ -54,6 +88,8 @@ impl<T: Elem> FarVector<T> {
         ensures pushed { OnOk result (self.new ≡ record self.old { objects = self.old.objects ++ length objects.old.entries ∷ []; len = self.old.len + 1 }) }
         ensures written { OnOk result (objects.new ≡ created objects.old (next_name self.old) (next_group self.old x)) }
         ensures undone { OnOk result ((unpushed self.new ≡ self.old) × (uncreated objects.new ≡ objects.old)) }
+        ensures last { OnOk result ((is_local objects.new (length objects.old.entries) ≡ true) × (pins_of objects.new (length objects.old.entries) ≡ 0)) }
+        ensures next { OnOk result ((lens : List ℕ) → fit_in_order (spaces_of objects.old.memory.room) (self.old.size ∷ lens) ≡ fit_in_order (spaces_of objects.new.memory.room) lens) }
         ensures elements { OnOk result (elements (list_of T.meaning S.content objects.new) self.new ≡ elements (list_of T.meaning S.content objects.old) self.old ++ x ∷ []) }
         ensures is { IsVector (list_of T.meaning S.content objects.new) self.new }
         ensures apart { (w : Vector T) → IsVector (list_of T.meaning S.content objects.old) w → AreApart self.old w → IsUntouched (list_of T.meaning S.content objects.old) (list_of T.meaning S.content objects.new) self.new w }
@@ -98,7 +134,7 @@ impl<T: Elem> FarVector<T> {
         ensures refused { refusal_in result ≡ write_refusal objects.old (object_at self.old self.old.len) }
         ensures err { OnErr result ((self.new ≡ self.old) × (objects.new ≡ objects.old)) }
     {
-        objects.may_write(self.object_at(objects, self.len))?;
+        self.next_is_writable(objects)?;
         self.write(objects, self.len, x);
         self.len += 1;
         Ok(())

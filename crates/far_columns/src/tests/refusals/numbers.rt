@@ -5,7 +5,7 @@ ghost use Rattle.far_columns.specs.Numbers.{number_lists};
 
 use super::super::again::{agent, no_numbers, no_objects, push_number};
 use super::super::digest::of_numbers;
-use super::super::moving::send_away;
+use super::super::moving::send_numbers_away;
 use crate::{Alive, IntColumn};
 use far_scopes::Objects;
 use far_store::{FarRead, FarStore};
@@ -26,25 +26,6 @@ fn counted<S: FarRead>(
         push_number(objects, &mut column, Some(number + 1))?;
     }
     Ok(column)
-}
-
-/// Sends the object of a row group away.
-fn send_group_away<S: FarStore>(
-    alloc: Global,
-    objects: &mut Objects<Option<i64>, S>,
-    store: &S,
-    column: &IntColumn,
-    group: u32,
-) -> Result<(), Refusal>
-    requires { IsVector (number_lists S.content objects.old) column.now }
-    ensures { IsVector (number_lists S.content objects.new) column.now }
-{
-    let Some(o) = column.object(group) else {
-        return Err(Refusal::NoRow);
-    };
-    let _len = column.len();
-    let _number = objects.number();
-    send_away(alloc, objects, store, o)
 }
 
 /// Why a number is not set, where all was left as before.
@@ -128,8 +109,8 @@ fn away_in<S: FarStore>(
     store: &S,
 ) -> Result<[Option<Refusal>; 6], Refusal> {
     let mut column = counted(alloc, objects, 9)?;
-    send_group_away(alloc, objects, store, &column, 0)?;
-    send_group_away(alloc, objects, store, &column, 2)?;
+    send_numbers_away(alloc, objects, store, &column, 0)?;
+    send_numbers_away(alloc, objects, store, &column, 2)?;
     let set = set_refused(objects, &mut column, 8);
     let push = push_refused(objects, &mut column);
     let set_past = set_refused(objects, &mut column, 9);
@@ -151,8 +132,8 @@ fn lent_in<S: FarStore>(
     store: &S,
 ) -> Result<[Option<Refusal>; 4], Refusal> {
     let column = counted(alloc, objects, 9)?;
-    send_group_away(alloc, objects, store, &column, 0)?;
-    send_group_away(alloc, objects, store, &column, 2)?;
+    send_numbers_away(alloc, objects, store, &column, 0)?;
+    send_numbers_away(alloc, objects, store, &column, 2)?;
     let all = lent_refused(alloc, objects, &column, 0, 9)?;
     let behind = lent_refused(alloc, objects, &column, 4, 9)?;
     let between = lent_refused(alloc, objects, &column, 4, 8)?;
@@ -206,7 +187,7 @@ fn written_out_away_in<S: FarStore>(
     store: &S,
 ) -> Result<[Option<Refusal>; 2], Refusal> {
     let mut column = counted(alloc, objects, 3)?;
-    send_group_away(alloc, objects, store, &column, 0)?;
+    send_numbers_away(alloc, objects, store, &column, 0)?;
     let set = set_refused(objects, &mut column, 0);
     let push = push_refused(objects, &mut column);
     Ok([set, push])

@@ -4,7 +4,7 @@ ghost use Rattle.far_columns.specs.Texts.{lists_of, IsTextColumn};
 
 use super::super::again::{agent, no_objects, push_text, set_text};
 use super::super::digest::of_texts;
-use super::super::moving::send_away;
+use super::super::moving::send_texts_away;
 use crate::{Alive, TextColumn};
 use far_scopes::Objects;
 use far_store::{FarRead, FarStore};
@@ -48,24 +48,6 @@ struct Case {
     away: bool,
     place: usize,
     letters: usize,
-}
-
-/// Sends the object of a row group away.
-fn send_group_away<S: FarStore>(
-    alloc: Global,
-    objects: &mut Objects<u8, S>,
-    store: &S,
-    column: &TextColumn,
-    group: usize,
-) -> Result<(), Refusal>
-    requires { IsTextColumn (lists_of S.content objects.old) column.now }
-    ensures { IsTextColumn (lists_of S.content objects.new) column.now }
-{
-    let Some(o) = column.object(group) else {
-        return Err(Refusal::NoRow);
-    };
-    let _number = objects.number();
-    send_away(alloc, objects, store, o)
 }
 
 /// Why a text is not set, where all was left as before.
@@ -136,7 +118,7 @@ fn due_in<S: FarStore>(
 ) -> Result<[Option<Refusal>; 2], Refusal> {
     let mut column = short_texts(alloc, objects, case.texts)?;
     if case.away {
-        send_group_away(alloc, objects, store, &column, 0)?;
+        send_texts_away(alloc, objects, store, &column, 0)?;
     }
     let text = times(alloc, "a", case.letters)?;
     let set = set_refused(alloc, objects, &column, case.place, &text);
@@ -179,8 +161,8 @@ fn away_in<S: FarStore>(
     store: &S,
 ) -> Result<([Option<Refusal>; 3], [Option<Refusal>; 4]), Refusal> {
     let column = short_texts(alloc, objects, 9)?;
-    send_group_away(alloc, objects, store, &column, 0)?;
-    send_group_away(alloc, objects, store, &column, 2)?;
+    send_texts_away(alloc, objects, store, &column, 0)?;
+    send_texts_away(alloc, objects, store, &column, 2)?;
     let set = set_refused(alloc, objects, &column, 1, &None);
     let read = column.text(objects, 1).err();
     let past = column.text(objects, 9).err();

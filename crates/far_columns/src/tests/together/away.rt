@@ -1,46 +1,29 @@
 // Texts for several columns of which an object is away: a worked example.
-ghost use Rattle.std.specs.Prelude.{◌≡◌, ℕ, List, OnOk};
-ghost use Rattle.far_columns.specs.Texts.{Texts, lists_of};
+ghost use Rattle.std.specs.Prelude.{◌≡◌, length};
+ghost use Rattle.far_columns.specs.Texts.{lists_of};
 ghost use Rattle.far_columns.specs.Together.{AreColumns};
 
+use super::super::moving::send_texts_away;
 use super::{push_both, two_columns};
-use far_codec::Elem;
+use crate::TextColumn;
 use far_scopes::Objects;
-use far_store::{AgentStore, FarStore, Meter};
+use far_store::{AgentStore, FarStore};
 use far_types::Refusal;
 use std::alloc::Global;
 use std::test::Fail;
 
-/// Sends an object away, where it may leave: every object keeps its list.
-fn send_away<S: FarStore>(
+/// Sends the first object of the second of two columns away, and leaves both what they are.
+fn send_second_away<S: FarStore>(
     alloc: Global,
     objects: &mut Objects<u8, S>,
     store: &S,
-    o: u32,
+    columns: &[TextColumn],
 ) -> Result<(), Refusal>
-    ensures { OnOk result ((p : ℕ) → lists_of S.content objects.new p ≡ lists_of S.content objects.old p) }
+    requires are { AreColumns (lists_of S.content objects.old) columns.now }
+    requires two { length columns.now ≡ 2 }
+    ensures { AreColumns (lists_of S.content objects.new) columns.now }
 {
-    if o >= objects.count() || objects.pins(o) > 0 || !objects.may_leave(o) {
-        return Err(Refusal::Pinned);
-    }
-    let Some(bytes) = u8::unspell(alloc, objects.lend(o)?)? else {
-        return Err(Refusal::StaleJob);
-    };
-    let ticket = store.put(alloc, &mut Meter::new(), &bytes)?;
-    objects.leave(store, o, &ticket);
-    Ok(())
-}
-
-/// Sends an object away, and leaves columns what they are.
-fn send_one_away<S: FarStore>(
-    alloc: Global,
-    objects: &mut Objects<u8, S>,
-    store: &S,
-    o: u32,
-) -> Result<(), Refusal>
-    ensures { OnOk result ((columns : List Texts) → AreColumns (lists_of S.content objects.old) columns → AreColumns (lists_of S.content objects.new) columns) }
-{
-    send_away(alloc, objects, store, o)
+    send_texts_away(alloc, objects, store, &columns[1], 0)
 }
 
 /// Two columns of one text each, of which the second's object is away: why a text for each is refused.
@@ -48,7 +31,7 @@ fn refused_away<S: FarStore>(alloc: Global, store: &S) -> Result<Option<Refusal>
     let mut objects: Objects<u8, S> = Objects::new(alloc, 7, 8, 64, 9, 9)?;
     let mut columns = two_columns(alloc, &objects, 4);
     push_both(alloc, &mut objects, &mut columns, "pear", "red")?;
-    send_one_away(alloc, &mut objects, store, 1)?;
+    send_second_away(alloc, &mut objects, store, &columns)?;
     Ok(push_both(alloc, &mut objects, &mut columns, "fig", "").err())
 }
 

@@ -5,9 +5,10 @@ ghost use Rattle.far_vector.specs.Vector.{IsVector};
 ghost use Rattle.far_vector.specs.Vectors.{AreVectors};
 ghost use Rattle.far_columns.specs.Numbers.{number_lists};
 
-use super::numbers::{LentNumbers, NumberCall, change_one, lent_of, one_of};
+use super::super::lending::{LentNumbers, lent_numbers, with_flags};
+use super::numbers::{NumberCall, change_one, one_of};
 use super::plain::{Faults, Plain};
-use super::{Draws, PLACES, SIZE, Step, clear, with_flags};
+use super::{Draws, PLACES, SIZE, Step, clear};
 use crate::{Alive, IntColumn};
 use far_scopes::Objects;
 use far_store::{FarRead, FarStore};
@@ -165,7 +166,7 @@ impl NumberSteps {
         let place = draws.place(len);
         let part = draws.part(place, len);
         let step = Step::of(
-            lent_of(alloc, objects, column, alive, part),
+            lent_numbers(alloc, objects, column, alive, part),
             lent(alloc, plain, part),
         );
         self.clear(k, place)?;

@@ -5,22 +5,14 @@ ghost use Rattle.far_vector.specs.Vector.{IsVector};
 ghost use Rattle.far_vector.specs.Vectors.{AreVectors, ChangesVector};
 ghost use Rattle.far_columns.specs.Numbers.{Numbers, number_lists};
 
-use super::super::moving::{bring_back, send_away};
+use super::super::moving::{bring_numbers_back, send_numbers_away};
 use super::{CHANGES, LEAVINGS};
-use crate::{Alive, IntColumn};
+use crate::IntColumn;
 use far_scopes::Objects;
 use far_store::{FarRead, FarStore};
 use far_types::Refusal;
 use far_vector::laws::vectors_stay_together;
 use std::alloc::Global;
-
-/// What is lent of a column: how long each piece is, and the numbers and the flags of all.
-#[derive(Drop, Debug, PartialEq)]
-pub struct LentNumbers {
-    pub lengths: Vec<usize>,
-    pub numbers: Vec<Option<i64>>,
-    pub alive: Vec<bool>,
-}
 
 /// A call on a column that may change it, or its objects.
 #[derive(Clone, Copy)]
@@ -111,46 +103,6 @@ fn may_unpush<S: FarRead>(objects: &Objects<Option<i64>, S>, column: &IntColumn)
     objects.lend(last).is_ok()
 }
 
-// The object of a row group goes away.
-fn away<S: FarStore>(
-    alloc: Global,
-    objects: &mut Objects<Option<i64>, S>,
-    store: &S,
-    column: &IntColumn,
-    group: u32,
-) -> Result<(), Refusal>
-    requires is { IsVector (number_lists S.content objects.old) column.now }
-    ensures changes { ChangesVector (number_lists S.content objects.old) (number_lists S.content objects.new) column.now column.now }
-    ensures here { AreHere S.is_of (S.name store.now) objects.old → AreHere S.is_of (S.name store.now) objects.new }
-{
-    let Some(o) = column.object(group) else {
-        return Err(Refusal::NoRow);
-    };
-    let _len = column.len();
-    let _number = objects.number();
-    send_away(alloc, objects, store, o)
-}
-
-// The object of a row group comes back.
-fn back<S: FarStore>(
-    alloc: Global,
-    objects: &mut Objects<Option<i64>, S>,
-    store: &S,
-    column: &IntColumn,
-    group: u32,
-) -> Result<(), Refusal>
-    requires is { IsVector (number_lists S.content objects.old) column.now }
-    requires here { AreHere S.is_of (S.name store.now) objects.old }
-    ensures changes { ChangesVector (number_lists S.content objects.old) (number_lists S.content objects.new) column.now column.now }
-    ensures here { AreHere S.is_of (S.name store.now) objects.new }
-{
-    let Some(o) = column.object(group) else {
-        return Err(Refusal::NoRow);
-    };
-    let _number = objects.number();
-    bring_back(alloc, objects, store, o)
-}
-
 // A call on one column.
 fn change_once<S: FarStore>(
     alloc: Global,
@@ -170,8 +122,8 @@ fn change_once<S: FarStore>(
         NumberCall::Push(number) => push(objects, column, number),
         NumberCall::Set(place, number) => set(objects, column, place, number),
         NumberCall::Unpush => unpush(objects, column),
-        NumberCall::SendAway(group) => away(alloc, objects, store, column, group),
-        NumberCall::BringBack(group) => back(alloc, objects, store, column, group),
+        NumberCall::SendAway(group) => send_numbers_away(alloc, objects, store, column, group),
+        NumberCall::BringBack(group) => bring_numbers_back(alloc, objects, store, column, group),
     }
 }
 
@@ -224,36 +176,6 @@ pub fn change_one<S: FarStore>(
         1 => change(alloc, objects, store, b, call),
         _ => change(alloc, objects, store, c, call),
     }
-}
-
-/// What is lent of a part of a column with these flags.
-pub fn lent_of<S: FarRead>(
-    alloc: Global,
-    objects: &Objects<Option<i64>, S>,
-    column: &IntColumn,
-    alive: &Alive,
-    part: (usize, usize),
-) -> Result<LentNumbers, Refusal>
-    requires { IsVector (number_lists S.content objects.now) column.now }
-{
-    if alive.len() != column.len() {
-        return Err(Refusal::RowWidth);
-    }
-    let mut lents = column.lent(objects, alive, part.0, part.1)?;
-    let mut lent = LentNumbers {
-        lengths: Vec::new(alloc),
-        numbers: Vec::new(alloc),
-        alive: Vec::new(alloc),
-    };
-    for _ in 0..lents.len() {
-        let Some(piece) = lents.next() else {
-            break;
-        };
-        lent.lengths.push(piece.values.len())?;
-        lent.numbers.extend_from_slice(piece.values)?;
-        lent.alive.extend_from_slice(piece.alive)?;
-    }
-    Ok(lent)
 }
 
 /// A column to be read of three.

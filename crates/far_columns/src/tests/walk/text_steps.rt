@@ -4,8 +4,9 @@ ghost use Rattle.far_scopes.specs.Movement.{AreHere};
 ghost use Rattle.far_columns.specs.Texts.{lists_of, IsTextColumn};
 ghost use Rattle.far_columns.specs.Columns.{AreTextColumns};
 
+use super::super::lending::{LentText, lent_texts};
 use super::plain::{Faults, Plain};
-use super::texts::{LentText, TextCall, change_one, lent_of, one_of};
+use super::texts::{TextCall, change_one, one_of};
 use super::{Draws, LIMIT, PLACES, SIZE, Step, clear};
 use crate::{Alive, TextColumn};
 use far_scopes::Objects;
@@ -218,7 +219,7 @@ impl TextSteps {
         let place = draws.place(len);
         let part = draws.part(place, len);
         let step = Step::of(
-            lent_of(alloc, objects, column, alive, part),
+            lent_texts(alloc, objects, column, alive, part),
             lent(alloc, plain, part),
         );
         self.clear(k, place)?;

@@ -4,17 +4,14 @@ ghost use Rattle.far_scopes.specs.Movement.{AreHere};
 ghost use Rattle.far_columns.specs.Texts.{Lists, lists_of, IsTextColumn};
 ghost use Rattle.far_columns.specs.Columns.{AreTextColumns, ChangesColumn};
 
-use super::super::moving::{bring_back, send_away};
+use super::super::moving::{bring_texts_back, send_texts_away};
 use super::{CHANGES, LEAVINGS};
+use crate::TextColumn;
 use crate::laws::columns_stay_together;
-use crate::{Alive, TextColumn};
 use far_scopes::Objects;
-use far_store::{FarRead, FarStore};
+use far_store::FarStore;
 use far_types::{Refusal, Text};
 use std::alloc::Global;
-
-/// The bytes of a text and the flag of its place.
-pub type LentText = (Option<Vec<u8>>, bool);
 
 /// A call on a column that may change it, or its objects.
 #[derive(Clone, Copy)]
@@ -62,45 +59,6 @@ fn set<S: FarStore>(
     column.set(alloc, objects, place, text)
 }
 
-// The object of a row group goes away.
-fn away<S: FarStore>(
-    alloc: Global,
-    objects: &mut Objects<u8, S>,
-    store: &S,
-    column: &TextColumn,
-    group: usize,
-) -> Result<(), Refusal>
-    requires is { IsTextColumn (lists_of S.content objects.old) column.now }
-    ensures changes { ChangesColumn (lists_of S.content objects.old) (lists_of S.content objects.new) column.now column.now }
-    ensures here { AreHere S.is_of (S.name store.now) objects.old → AreHere S.is_of (S.name store.now) objects.new }
-{
-    let Some(o) = column.object(group) else {
-        return Err(Refusal::NoRow);
-    };
-    let _number = objects.number();
-    send_away(alloc, objects, store, o)
-}
-
-// The object of a row group comes back.
-fn back<S: FarStore>(
-    alloc: Global,
-    objects: &mut Objects<u8, S>,
-    store: &S,
-    column: &TextColumn,
-    group: usize,
-) -> Result<(), Refusal>
-    requires is { IsTextColumn (lists_of S.content objects.old) column.now }
-    requires here { AreHere S.is_of (S.name store.now) objects.old }
-    ensures changes { ChangesColumn (lists_of S.content objects.old) (lists_of S.content objects.new) column.now column.now }
-    ensures here { AreHere S.is_of (S.name store.now) objects.new }
-{
-    let Some(o) = column.object(group) else {
-        return Err(Refusal::NoRow);
-    };
-    let _number = objects.number();
-    bring_back(alloc, objects, store, o)
-}
-
 // A call on one column.
 fn change_once<S: FarStore>(
     alloc: Global,
@@ -117,8 +75,8 @@ fn change_once<S: FarStore>(
     match call {
         TextCall::Push(text) => push(alloc, objects, column, text),
         TextCall::Set(place, text) => set(alloc, objects, column, place, text),
-        TextCall::SendAway(group) => away(alloc, objects, store, column, group),
-        TextCall::BringBack(group) => back(alloc, objects, store, column, group),
+        TextCall::SendAway(group) => send_texts_away(alloc, objects, store, column, group),
+        TextCall::BringBack(group) => bring_texts_back(alloc, objects, store, column, group),
     }
 }
 
@@ -165,34 +123,6 @@ pub fn change_one<S: FarStore>(
         0 => change(alloc, objects, store, d, call),
         _ => change(alloc, objects, store, e, call),
     }
-}
-
-/// What is lent of a part of a column with these flags.
-pub fn lent_of<S: FarRead>(
-    alloc: Global,
-    objects: &Objects<u8, S>,
-    column: &TextColumn,
-    alive: &Alive,
-    part: (usize, usize),
-) -> Result<Vec<LentText>, Refusal>
-    requires { IsTextColumn (lists_of S.content objects.now) column.now }
-{
-    if alive.len() != column.len() {
-        return Err(Refusal::RowWidth);
-    }
-    let mut cells = column.texts(objects, alive, part.0, part.1)?;
-    let mut lent = Vec::new(alloc);
-    for _ in 0..alive.len() {
-        let Some(cell) = cells.next() else {
-            break;
-        };
-        let text = match cell.text {
-            Some(text) => Some(Vec::from_slice(alloc, text.as_bytes())?),
-            None => None,
-        };
-        lent.push((text, cell.alive))?;
-    }
-    Ok(lent)
 }
 
 /// A column to be read of two.

@@ -1,8 +1,8 @@
-use Rattle.std.proofs.Common.{ap, ◌∙◌, length, map}
+use Rattle.std.proofs.Common.{ap, sym, ◌∙◌, length, map, option_map}
 use Rattle.far_types.specs.Edits.{removed}
 use Rattle.far_frame.specs.Kept.{registered_in}
 use Rattle.far_frame.proofs.GroupLaws.{length-changed}
-use Rattle.far_frame.proofs.EditLaws.{rows-fit, set_may_take, after_set, nothing_comes, all-taken_registered}
+use Rattle.far_frame.proofs.EditLaws.{rows-fit, set_may_take, after_set, removed-adds_all, all-taken_registered}
 use Rattle.far_frame.proofs.edits.remove_row.Goals as goal
 
 pub returns-in_err-make_rooms-clause-kept : goal.returns-in_err-make_rooms-clause-kept
@@ -17,18 +17,18 @@ returns-clause-count c = ap length c.clear.ensures.places ∙ length-changed rem
 pub take_all-requires-clause-may : goal.take_all-requires-clause-may
 take_all-requires-clause-may c =
     let ps = c.args.rows.now.places in
-    let new = c.clear.new.self.places in
-    set_may_take c.args.size removed ps new c.args.place c.make_rooms.new.slots c.make_rooms.new.slots c.as_slice.result.now c.requires.size c.clear.ensures.places c.requires.within
-    (c.as_slice.ensures.value ∙ c.in_ok-gone.ensures.ok) (nothing_comes c.args.size c.args.place ps new c.make_rooms.new.slots c.clear.ensures.places c.requires.within)
+    let slots = c.make_rooms.new.slots in
+    set_may_take c.args.size removed ps c.clear.new.self.places c.args.place c.lend.result (removed c.lend.result) slots slots c.as_slice.result.now c.requires.size c.clear.ensures.places
+    c.lend.ensures (ap (option_map removed) c.lend.ensures) (c.as_slice.ensures.value ∙ c.in_ok-gone.ensures.ok) (sym (removed-adds_all c.args.size c.args.place c.lend.result slots))
     (c.in_ok-make_rooms.ensures.kept c.args.size ps c.requires.kept) c.in_ok-make_rooms.ensures.room
-    (rows-fit c.args.rows.now.kinds ps c.len-fit.ensures.rows) (rows-fit c.clear.new.self.kinds new c.len-still_fit.ensures.rows)
+    (rows-fit c.args.rows.now.kinds ps c.len-fit.ensures.rows) (rows-fit c.clear.new.self.kinds c.clear.new.self.places c.len-still_fit.ensures.rows)
 
 pub returns-clause-kept : goal.returns-clause-kept
 returns-clause-kept c =
     let ps = c.args.rows.now.places in
-    let new = c.clear.new.self.places in
-    after_set c.args.size removed ps new c.args.place c.make_rooms.new.slots c.make_rooms.new.slots c.as_slice.result.now c.requires.size c.clear.ensures.places c.requires.within
-    (c.as_slice.ensures.value ∙ c.in_ok-gone.ensures.ok) (nothing_comes c.args.size c.args.place ps new c.make_rooms.new.slots c.clear.ensures.places c.requires.within)
+    let slots = c.make_rooms.new.slots in
+    after_set c.args.size removed ps c.clear.new.self.places c.args.place c.lend.result (removed c.lend.result) slots slots c.as_slice.result.now c.requires.size c.clear.ensures.places
+    c.lend.ensures (ap (option_map removed) c.lend.ensures) (c.as_slice.ensures.value ∙ c.in_ok-gone.ensures.ok) (sym (removed-adds_all c.args.size c.args.place c.lend.result slots))
     (c.in_ok-make_rooms.ensures.kept c.args.size ps c.requires.kept) c.in_ok-make_rooms.ensures.room
     c.take_all.new.slots c.take_all.ensures
 

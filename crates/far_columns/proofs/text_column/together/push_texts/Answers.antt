@@ -1,5 +1,5 @@
 use Rattle.std.proofs.Common.{◌≡◌, ℕ, true, false, inl, length, map, None, Some, sym, ap, subst, ◌∙◌}
-use Rattle.std.specs.Prelude.{slice_get, ◌⊎◌}
+use Rattle.std.specs.Prelude.{slice_get, ◌⊎◌, All}
 use Rattle.std.proofs.lemmas.List.Sums.{AllPass-from_list_all, list_all-from_AllPass}
 use Rattle.far_types.specs.declared.refusal.Refusal.TheVariants.{NoMemory}
 use Rattle.far_types.specs.FirstOf.{first_of}
@@ -7,15 +7,15 @@ use Rattle.far_log.specs.Room.{spaces_of, fit_in_order}
 use Rattle.far_scopes.specs.declared.replacement.Replacement.{Replacement}
 use Rattle.far_scopes.specs.Refusing.{first_absent, replace_all_refusal}
 use Rattle.far_scopes.proofs.RefusedAll.{err-handed}
-use Rattle.far_columns.specs.Texts.{Texts, Lists, lists_of, texts_in}
+use Rattle.far_columns.specs.Texts.{Texts, Lists, AreApart, lists_of, texts_in}
 use Rattle.far_columns.specs.Changes.{begins_group}
 use Rattle.far_columns.specs.Together.{AreColumns, all_begin, next_forms, given_forms, all_created, ChangesTo, KeepsColumns}
 use Rattle.far_columns.specs.RefusingTogether.{first_tests, push_texts_refusal}
 use Rattle.far_columns.proofs.Setting.{by-outcome, on-ok, by-outcomes, on-both}
-use Rattle.far_columns.proofs.Checking.{all-with, none-begin}
+use Rattle.far_columns.proofs.Checking.{all-begin, none-begin}
 use Rattle.far_columns.proofs.NextForms.{all-at}
 use Rattle.far_columns.proofs.AllPushed.{all-texts, keeps-columns, same-columns}
-use Rattle.far_columns.proofs.StayColumns.{stay-columns}
+use Rattle.far_columns.proofs.StayColumns.{stay-columns, stays-apart}
 use Rattle.far_columns.proofs.GivenForms.{length-given, given-some, given-numbered, given-changes, given-within, given-once, given-here}
 use Rattle.far_columns.proofs.DueTogether.{due-first, begun-free, begun-full, due-replaced, all-local, refused-begun, refused-longer}
 use Rattle.far_columns.proofs.text_column.together.push_texts.Goals as goal
@@ -24,7 +24,7 @@ pub next_forms-requires-clause-few : goal.next_forms-requires-clause-few
 next_forms-requires-clause-few g c κs within =
     let columns = c.args.columns.now in
     let old : Lists = lists_of g.S.FarRead.content c.args.objects.now in
-    λ k d below begins. c.requires.few (list_all-from_AllPass begins_group columns (all-with old columns c.requires.are c.known_together.ensures.groups k d below begins))
+    λ k d below begins. c.requires.few (list_all-from_AllPass begins_group columns (all-begin old columns c.requires.are c.known_together.ensures.groups k d below begins))
 
 pub begin_groups-requires-clause-begin : goal.begin_groups-requires-clause-begin
 begin_groups-requires-clause-begin g c κs within =
@@ -250,6 +250,14 @@ returns-then-all_begin-clause-others g c =
     (λ changes. keeps-columns old n columns are groups fresh new texts c.requires.even valid (subst (ChangesTo old new) is changes))
     (λ err. subst (λ w. KeepsColumns old (lists_of content w) columns) (sym err) (same-columns old columns))
 
+pub returns-then-all_begin-clause-apart : goal.returns-then-all_begin-clause-apart
+returns-then-all_begin-clause-apart g c =
+    let old : Lists = lists_of g.S.FarRead.content c.args.objects.now in
+    let n = length c.args.objects.now.entries in
+    by-outcome c.begin_groups.result c.begin_groups.ensures.pushed c.begin_groups.ensures.kept
+    (λ now d is apart. subst (All (λ x. AreApart x d)) (sym now) (stays-apart old n c.args.columns.now c.requires.are c.known_together.ensures.groups c.known_together.ensures.fresh d is apart))
+    (λ kept d is apart. subst (All (λ x. AreApart x d)) (sym kept) apart)
+
 pub returns-then-all_begin-clause-free : goal.returns-then-all_begin-clause-free
 returns-then-all_begin-clause-free g c =
     let content = g.S.FarRead.content in
@@ -401,6 +409,14 @@ returns-clause-others g c =
     by-outcome c.extend_groups.result c.extend_groups.ensures.lists c.extend_groups.ensures.err
     (λ changes. keeps-columns old n columns are groups fresh new texts c.requires.even valid (given-changes old n columns texts c.requires.even forms is old new changes))
     (λ err. subst (λ w. KeepsColumns old (lists_of content w) columns) (sym err) (same-columns old columns))
+
+pub returns-clause-apart : goal.returns-clause-apart
+returns-clause-apart g c =
+    let old : Lists = lists_of g.S.FarRead.content c.args.objects.now in
+    let n = length c.args.objects.now.entries in
+    by-outcome c.extend_groups.result c.extend_groups.ensures.pushed c.extend_groups.ensures.kept
+    (λ now d is apart. subst (All (λ x. AreApart x d)) (sym (now n)) (stays-apart old n c.args.columns.now c.requires.are c.known_together.ensures.groups c.known_together.ensures.fresh d is apart))
+    (λ kept d is apart. subst (All (λ x. AreApart x d)) (sym kept) apart)
 
 pub returns-clause-free : goal.returns-clause-free
 returns-clause-free g c =

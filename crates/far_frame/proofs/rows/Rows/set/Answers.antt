@@ -1,22 +1,19 @@
-use Rattle.std.proofs.Common.{◌≡◌, ◌<◌, not, List, [], length, map, get_or, set, ap, subst, sym, ◌∙◌, arith, Some, option_map, slice_get}
+use Rattle.std.proofs.Common.{◌<◌, List, [], length, map, get_or, set, ap, subst, sym, ◌∙◌, arith, slice_get}
 use Rattle.std.specs.List.{All}
 use Rattle.std.proofs.lemmas.List.{length-map}
 use Rattle.far_types.specs.declared.cell.Cell.{Cell}
-use Rattle.far_types.specs.declared.cell.Cell.TheVariants.{Missing}
-use Rattle.far_types.specs.declared.cell.Kind.{Kind}
-use Rattle.far_types.specs.Cells.{cell_at, is_of_kind}
+use Rattle.far_types.specs.Cells.{is_of_kind}
 use Rattle.far_types.specs.Edits.{changed_at, with_cell, is_of_other_kind}
-use Rattle.far_types.specs.Table.{Place}
 use Rattle.far_frame.specs.Columns.{kind_in, cells_in}
 use Rattle.far_frame.specs.Rows.{TableRows, IsFull, places_of}
 use Rattle.far_frame.proofs.Writes.{map-write_same}
 use Rattle.far_frame.proofs.ColumnLaws.{full-set, other-kind, not-false}
 use Rattle.far_frame.proofs.RowsLaws.{count-places, count-columns, cells-at, count-cells, cells-written}
-use Rattle.far_frame.proofs.PlaceLaws.{length-places, places-set, cell-stands, set-back}
+use Rattle.far_frame.proofs.PlaceLaws.{length-places, places-set}
 use Rattle.far_frame.proofs.rows.Rows.set.Goals as goal
 
-pub replace-requires-clause-within : goal.replace-requires-clause-within
-replace-requires-clause-within c =
+pub set-requires-clause-within : goal.set-requires-clause-within
+set-requires-clause-within c =
     let columns = c.self.inside.columns.items in
     let alive = c.self.inside.alive.items in
     let column : c.args.column < length columns = omega (arith, count-columns columns alive c.args.self.now c.self.view_is) in
@@ -27,8 +24,8 @@ replace-requires-clause-within c =
       count-cells columns (length alive) c.args.column column c.self.invariant,
     )
 
-pub replace-requires-clause-of_kind : goal.replace-requires-clause-of_kind
-replace-requires-clause-of_kind c =
+pub set-requires-clause-of_kind : goal.set-requires-clause-of_kind
+set-requires-clause-of_kind c =
     let columns = c.self.inside.columns.items in
     let column = c.index_mut.result.now in
     let within : c.args.column < length columns = omega (arith, count-columns columns c.self.inside.alive.items c.args.self.now c.self.view_is) in
@@ -42,57 +39,26 @@ invariant_of-self c =
     let columns = c.self.inside.columns.items in
     let alive = c.self.inside.alive.items in
     let within : c.args.column < length columns = omega (arith, count-columns columns alive c.args.self.now c.self.view_is) in
-    let written = cells-written columns c.args.column c.args.place c.index_mut.result.now c.replace.new.self c.args.cell within c.index_mut.ensures.value c.replace.ensures.cells in
+    let written = cells-written columns c.args.column c.args.place c.index_mut.result.now c.set.new.self c.args.cell within c.index_mut.ensures.value c.set.ensures.cells in
     subst (λ (cs : List (List Cell)). All (IsFull (length alive)) cs) (sym written)
-    (full-set (map cells_in columns) (length alive) c.args.column c.args.place c.args.cell (omega (arith, length-map columns cells_in)) c.replace.ensures.fits c.self.invariant)
+    (full-set (map cells_in columns) (length alive) c.args.column c.args.place c.args.cell (omega (arith, length-map columns cells_in)) c.set.ensures.fits c.self.invariant)
 
 pub returns-clause-kinds : goal.returns-clause-kinds
 returns-clause-kinds c =
-    map-write_same kind_in c.self.inside.columns.items c.args.column c.index_mut.result.now c.replace.new.self c.index_mut.ensures.value c.replace.ensures.kind
+    map-write_same kind_in c.self.inside.columns.items c.args.column c.index_mut.result.now c.set.new.self c.index_mut.ensures.value c.set.ensures.kind
     ∙ ap (λ (rows : TableRows). rows.kinds) c.self.view_is
 
-after : (c : goal.After-self-1) → places_of (map cells_in (set c.self.inside.columns.items c.args.column c.replace.new.self)) c.self.inside.alive.items ≡ changed_at (with_cell c.args.column c.args.cell) c.args.place c.args.self.now.places
-after c =
+pub returns-clause-places : goal.returns-clause-places
+returns-clause-places c =
     let columns = c.self.inside.columns.items in
     let alive = c.self.inside.alive.items in
     let within : c.args.column < length columns = omega (arith, count-columns columns alive c.args.self.now c.self.view_is) in
     let place : c.args.place < length (get_or (map cells_in columns) c.args.column []) = omega (arith, count-places columns alive c.args.self.now c.self.view_is, count-cells columns (length alive) c.args.column within c.self.invariant) in
-    ap (λ (cs : List (List Cell)). places_of cs alive) (cells-written columns c.args.column c.args.place c.index_mut.result.now c.replace.new.self c.args.cell within c.index_mut.ensures.value c.replace.ensures.cells)
+    ap (λ (cs : List (List Cell)). places_of cs alive) (cells-written columns c.args.column c.args.place c.index_mut.result.now c.set.new.self c.args.cell within c.index_mut.ensures.value c.set.ensures.cells)
     ∙ places-set (map cells_in columns) alive c.args.column c.args.place c.args.cell place
     ∙ ap (λ (rows : TableRows). changed_at (with_cell c.args.column c.args.cell) c.args.place rows.places) c.self.view_is
 
-stood : (c : goal.After-self-1) → Some c.replace.result ≡ option_map (λ (p : Place). cell_at c.args.column p.cells) (slice_get c.args.self.now.places c.args.place)
-stood c =
-    let columns = c.self.inside.columns.items in
-    let alive = c.self.inside.alive.items in
-    let within : c.args.column < length columns = omega (arith, count-columns columns alive c.args.self.now c.self.view_is) in
-    let place : c.args.place < length alive = omega (arith, count-places columns alive c.args.self.now c.self.view_is) in
-    ap Some (c.replace.ensures.old ∙ ap (λ (cells : List Cell). get_or cells c.args.place Missing) (cells-at columns c.args.column c.index_mut.result.now within c.index_mut.ensures.value))
-    ∙ sym (cell-stands (map cells_in columns) alive c.args.column c.args.place place)
-    ∙ ap (λ (rows : TableRows). option_map (λ (p : Place). cell_at c.args.column p.cells) (slice_get rows.places c.args.place)) c.self.view_is
-
-pub returns-clause-places : goal.returns-clause-places
-returns-clause-places c = after c
-
-pub returns-clause-stood : goal.returns-clause-stood
-returns-clause-stood c = stood c
-
-pub returns-clause-back : goal.returns-clause-back
-returns-clause-back c =
-    ap (changed_at (with_cell c.args.column c.replace.result) c.args.place) (after c)
-    ∙ set-back c.args.column c.args.place c.args.cell c.replace.result c.args.self.now.places (stood c)
-
-pub returns-clause-back_kind : goal.returns-clause-back_kind
-returns-clause-back_kind c =
-    let columns = c.self.inside.columns.items in
-    let column = c.index_mut.result.now in
-    let within : c.args.column < length columns = omega (arith, count-columns columns c.self.inside.alive.items c.args.self.now c.self.view_is) in
-    ap (λ (kinds : List Kind). is_of_other_kind (slice_get kinds c.args.column) c.replace.result)
-    (map-write_same kind_in columns c.args.column column c.replace.new.self c.index_mut.ensures.value c.replace.ensures.kind)
-    ∙ other-kind columns c.args.column column c.replace.result within c.index_mut.ensures.value
-    ∙ ap not c.replace.ensures.old_kind
-
 pub returns-clause-len : goal.returns-clause-len
 returns-clause-len c =
-    length-places (map cells_in (set c.self.inside.columns.items c.args.column c.replace.new.self)) c.self.inside.alive.items
+    length-places (map cells_in (set c.self.inside.columns.items c.args.column c.set.new.self)) c.self.inside.alive.items
     ∙ sym (count-places c.self.inside.columns.items c.self.inside.alive.items c.args.self.now c.self.view_is)

@@ -1,8 +1,9 @@
 use Rattle.std.proofs.Common.{◌≡◌, false, sym, subst, ◌∙◌}
 use Rattle.std.proofs.lemmas.Result.{err_from_is_err_and}
 use Rattle.far_columns.specs.Texts.{Texts, lists_of, IsTextColumn}
-use Rattle.far_columns.specs.Changes.{begins_group}
-use Rattle.far_columns.proofs.Checking.{here-free, here-due}
+use Rattle.far_columns.specs.Changes.{begins_group, last_object}
+use Rattle.far_scopes.specs.Refusing.{absent}
+use Rattle.far_columns.proofs.FirstCases.{next-free, next-due}
 use Rattle.far_columns.proofs.text_column.together.checking.all_here.Goals as goal
 
 pub last_form-requires-clause-begun : goal.last_form-requires-clause-begun
@@ -16,8 +17,8 @@ last_form-requires-clause-is g c κs within =
 pub returns-in_err-_form : goal.returns-in_err-_form
 returns-in_err-_form g c =
     let p = err_from_is_err_and c.from_residual.result c.from_residual.ensures.1 in
-    rw (p.1, p.2) (sym (c.loop-column.invariant ∙ here-due c.args.objects.now c.args.columns.now c.loop-column.column-index c.column-item.result c.in_err-_form.field-0.0 c.loop-column-test.true c.column-item.is c.in_err-_form.ensures.refused))
+    rw (p.1, p.2) (sym (c.loop-column.invariant ∙ next-due (λ (t : Texts). absent c.args.objects.now (last_object t)) c.args.columns.now c.loop-column.column-index c.column-item.result c.in_err-_form.field-0.0 c.loop-column-test.true c.column-item.is c.in_err-_form.ensures.refused))
 
 pub loop-column-preserved : goal.loop-column-preserved
 loop-column-preserved g c =
-    c.loop-column.invariant ∙ here-free c.args.objects.now c.args.columns.now c.loop-column.column-index c.column-item.result c.loop-column-test.true c.column-item.is c.in_ok-_form.ensures.refused
+    c.loop-column.invariant ∙ next-free (λ (t : Texts). absent c.args.objects.now (last_object t)) c.args.columns.now c.loop-column.column-index c.column-item.result c.loop-column-test.true c.column-item.is c.in_ok-_form.ensures.refused

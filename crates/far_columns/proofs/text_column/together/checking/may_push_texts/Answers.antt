@@ -3,12 +3,14 @@ use Rattle.std.specs.Prelude.{All}
 use Rattle.std.specs.List.{slice_index_or}
 use Rattle.std.proofs.lemmas.Result.{err_from_is_err_and}
 use Rattle.std.proofs.lemmas.List.Sums.{AllPass-from_list_all}
+use Rattle.far_scopes.specs.Refusing.{absent}
 use Rattle.far_columns.specs.Texts.{Texts, Lists, lists_of}
-use Rattle.far_columns.specs.Changes.{begins_group}
+use Rattle.far_columns.specs.Changes.{begins_group, last_object}
 use Rattle.far_columns.specs.Refusing.{next_length_refusal}
 use Rattle.far_columns.specs.Together.{all_begin}
 use Rattle.far_columns.specs.RefusingTogether.{any_too_long, any_full, absents}
-use Rattle.far_columns.proofs.Checking.{none-begin, none-away, here-begun, here-longer, tests-away, tests-full, away-begun, away-longer, where-ok, ok-free}
+use Rattle.far_columns.proofs.FirstCases.{none-due}
+use Rattle.far_columns.proofs.Checking.{none-begin, here-begun, here-longer, tests-away, tests-full, away-begun, away-longer, where-ok, ok-free}
 use Rattle.far_columns.proofs.text_column.together.checking.may_push_texts.Goals as goal
 use Rattle.far_columns.proofs.text_column.together.checking.may_push_texts.Goals.{then-not-all_begin+in_ok-all_here, else-not-all_begin}
 
@@ -28,7 +30,7 @@ none_full-requires-clause-here g c κs within =
     let columns = c.args.columns.now in
     elim c.if-not-all_begin.branch [
       | then-not-all_begin+in_ok-all_here w ↦ λ k d below.
-          here-longer m g.S.FarRead.content (slice_index_or columns k d) (none-begin (lists_of g.S.FarRead.content m) columns c.requires.are c.known_groups.ensures (sym w.if-not-all_begin.ensures) k d below) (none-away m columns w.in_ok-all_here.ensures k d below)
+          here-longer m g.S.FarRead.content (slice_index_or columns k d) (none-begin (lists_of g.S.FarRead.content m) columns c.requires.are c.known_groups.ensures (sym w.if-not-all_begin.ensures) k d below) (none-due (λ (t : Texts). absent m (last_object t)) columns w.in_ok-all_here.ensures k d below)
       | else-not-all_begin w ↦ λ k d below.
           here-begun m g.S.FarRead.content (slice_index_or columns k d) (AllPass-from_list_all begins_group columns (sym w.if-not-all_begin.ensures) k d below)
     ]
@@ -51,7 +53,7 @@ returns-clause-here g c =
     where-ok c.none_full.result (All (λ (d : Texts). next_length_refusal g.S.FarRead.content m d ≡ None) columns)
     (elim c.if-not-all_begin.branch [
       | then-not-all_begin+in_ok-all_here w ↦ λ k d below.
-          here-longer m g.S.FarRead.content (slice_index_or columns k d) (none-begin (lists_of g.S.FarRead.content m) columns c.requires.are c.known_groups.ensures (sym w.if-not-all_begin.ensures) k d below) (none-away m columns w.in_ok-all_here.ensures k d below)
+          here-longer m g.S.FarRead.content (slice_index_or columns k d) (none-begin (lists_of g.S.FarRead.content m) columns c.requires.are c.known_groups.ensures (sym w.if-not-all_begin.ensures) k d below) (none-due (λ (t : Texts). absent m (last_object t)) columns w.in_ok-all_here.ensures k d below)
       | else-not-all_begin w ↦ λ k d below.
           here-begun m g.S.FarRead.content (slice_index_or columns k d) (AllPass-from_list_all begins_group columns (sym w.if-not-all_begin.ensures) k d below)
     ])

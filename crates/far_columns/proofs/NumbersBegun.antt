@@ -1,0 +1,73 @@
+-- Columns of numbers whose next places begin row groups: one gets an object, and then the others do.
+use Rattle.std.proofs.Common.{◌≡◌, ℕ, ℤ, ◌+◌, ◌-◌, ◌*◌, Bool, true, false, cond, inl, inr, List, [], ◌∷◌, ◌++◌, length, Option, None, Some, refl, sym, ap, ◌∙◌, arith}
+use Rattle.std.specs.Prelude.{slice_get, slice_set, slice_index, ◌⊎◌, not, is_some}
+use Rattle.std.specs.Option.{option_map_or}
+use Rattle.std.proofs.lemmas.Bool.{eqb-true}
+use Rattle.std.proofs.lemmas.List.{length_push}
+use Rattle.far_scopes.proofs.WordPlaces.{slice_get-push_last}
+use Rattle.far_types.specs.declared.refusal.Refusal.{Refusal}
+use Rattle.far_types.specs.declared.refusal.Refusal.TheVariants as refusal
+use Rattle.far_types.specs.FirstOf.{first_of}
+use Rattle.far_log.specs.Room.{spaces_of, lowest_for, fits_in, fit_in_order}
+use Rattle.far_scopes.specs.Movement.{Movement}
+use Rattle.far_scopes.specs.Effects.{created, new_entry}
+use Rattle.far_scopes.specs.Refusing.{no_room, write_refusal}
+use Rattle.far_vector.specs.Vector.{Vector, object_at}
+use Rattle.far_vector.specs.Effects.{is_full, pushed, pushed_in, next_name, next_group, range_written}
+use Rattle.far_vector.specs.Refusing.{push_refusal}
+
+module _ {K : Type 0} (m mid : Movement (Option ℤ) K) (c c' : Vector (Option ℤ)) (x : Option ℤ) (full : is_full c ≡ true) (is : c' ≡ pushed c (length m.entries)) (written : mid ≡ pushed_in m c x) where
+  -- there is an object more
+  pub one-more : length mid.entries ≡ length m.entries + 1
+  one-more =
+      ap (λ w. length w.entries) (written ∙ ap (λ (b : Bool). cond b (created m (next_name c) (next_group c x)) (range_written m c c.len (x ∷ []))) full)
+      ∙ length_push m.entries (new_entry (next_name c) (length (next_group c x)))
+
+  longer : c' ≡ record c { objects = c.objects ++ length m.entries ∷ []; len = c.len + 1 }
+  longer = is ∙ ap (λ (b : Bool). cond b (record c { objects = c.objects ++ length m.entries ∷ []; len = c.len + 1 }) (record c { len = c.len + 1 })) full
+
+  -- the number is alone in its row group
+  pub alone : c'.len ≡ (length c'.objects - 1) * c'.size + 1
+  alone =
+      let places : c.len ≡ length c.objects * c.size = eqb-true c.len (length c.objects * c.size) full in
+      let groups : length c'.objects - 1 ≡ length c.objects = let more = ap (λ (v : Vector (Option ℤ)). length v.objects) longer ∙ length_push c.objects (length m.entries) in omega (arith, more) in
+      ap (λ (v : Vector (Option ℤ)). v.len) longer ∙ ap (λ n. n + 1) places ∙ ap (λ n. n * c.size + 1) (sym groups) ∙ ap (λ s. (length c'.objects - 1) * s + 1) (sym (ap (λ (v : Vector (Option ℤ)). v.size) longer))
+
+  -- its object is the last
+  pub last : slice_get c'.objects (length c'.objects - 1) ≡ Some (length mid.entries - 1)
+  last =
+      let groups : length c'.objects - 1 ≡ length c.objects = let more = ap (λ (v : Vector (Option ℤ)). length v.objects) longer ∙ length_push c.objects (length m.entries) in omega (arith, more) in
+      let number : length m.entries ≡ length mid.entries - 1 = omega (arith, one-more) in
+      ap (λ (v : Vector (Option ℤ)). slice_get v.objects (length c'.objects - 1)) longer
+      ∙ ap (slice_get (c.objects ++ length m.entries ∷ [])) groups
+      ∙ slice_get-push_last c.objects (length m.entries)
+      ∙ ap Some number
+
+-- where the first list finds no room, they do not all
+pub none-fits : (spaces : List ℕ) (n : ℕ) (ns : List ℕ) → is_some (lowest_for spaces n) ≡ false → fit_in_order spaces (n ∷ ns) ≡ false
+none-fits spaces n ns full = on-none (λ i. fit_in_order (slice_set spaces i (slice_index spaces i - n)) ns) (lowest_for spaces n) full
+  where
+    on-none : (f : ℕ → Bool) (o : Option ℕ) → is_some o ≡ false → option_map_or f o false ≡ false
+    on-none f None full = refl
+    on-none f (Some i) full = absurd cc
+
+-- why the first of several is refused
+module _ {K : Type 0} (m : Movement (Option ℤ) K) (c : Vector (Option ℤ)) (lens : List ℕ) (full : is_full c ≡ true) where
+  due : push_refusal m c ≡ first_of (no_room m (length m.entries) c.size ∷ [])
+  due = ap (λ (b : Bool). cond b (first_of (no_room m (length m.entries) c.size ∷ [])) (write_refusal m (object_at c c.len))) full
+
+  room-due : (e : Refusal) (fits : Bool) → first_of ((not fits, refusal.RegionFull) ∷ []) ≡ Some e → (e ≡ refusal.RegionFull) × (fits ≡ false)
+  room-due e true is = absurd cc
+  room-due e false is = (cc, refl)
+
+  pub first-refused : (e : Refusal) → (push_refusal m c ≡ Some e) ⊎ ((push_refusal m c ≡ None) × (is_full c ≡ true) × (e ≡ refusal.NoMemory))
+      → ((e ≡ refusal.RegionFull) × (fit_in_order (spaces_of m.memory.room) (c.size ∷ lens) ≡ false)) ⊎ (e ≡ refusal.NoMemory)
+  first-refused e (inl some) =
+      let why = room-due e (fits_in m.memory.room c.size) (sym due ∙ some) in
+      inl (why.0, none-fits (spaces_of m.memory.room) c.size lens why.1)
+  first-refused e (inr rest) = inr rest.2
+
+-- why the others are refused
+pub others-refused : (one all : Bool) (e : Refusal) → all ≡ one → ((e ≡ refusal.RegionFull) × (one ≡ false)) ⊎ (e ≡ refusal.NoMemory) → ((e ≡ refusal.RegionFull) × (all ≡ false)) ⊎ (e ≡ refusal.NoMemory)
+others-refused one all e same (inl full) = inl (full.0, same ∙ full.1)
+others-refused one all e same (inr memory) = inr memory

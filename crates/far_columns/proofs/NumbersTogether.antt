@@ -1,0 +1,135 @@
+-- Columns of numbers that get a number each.
+use Rattle.std.proofs.Common.{◌≡◌, ◌≢◌, inl, inr, ℕ, suc, ℤ, ◌+◌, ◌*◌, ◌/◌, ◌<◌, Bool, true, false, not, cond, List, [], ◌∷◌, ◌++◌, length, Option, None, Some, refl, sym, ap, ◌∙◌, arith, mul-le-mul_right}
+use Rattle.std.specs.Prelude.{All, AllPairs, slice_get, nat_lt, is_some, ◌⊎◌}
+use Rattle.std.specs.Option.{option_and_then, option_map_or, option_or}
+use Rattle.std.proofs.lemmas.Bool.{eqb-true, eq-eqb, cases_lt, cases_eq, cases_Bool}
+use Rattle.std.proofs.lemmas.List.Elements.{All-nil, All-cons, All-head, All-tail}
+use Rattle.std.proofs.lemmas.List.Kept.{AllPairs-cons}
+use Rattle.std.proofs.lemmas.Nat.{div_below}
+use Rattle.far_pointer.specs.declared.pointer.Pointer.{Pointer}
+use Rattle.far_types.specs.declared.refusal.Refusal.{Refusal}
+use Rattle.far_types.specs.declared.refusal.Refusal.TheVariants as refusal
+use Rattle.far_types.specs.FirstOf.{first_of}
+use Rattle.far_scopes.specs.declared.entry.Entry.{Entry}
+use Rattle.far_scopes.specs.Memory.{at_of}
+use Rattle.far_scopes.specs.Movement.{Movement, ChangesObject}
+use Rattle.far_scopes.specs.Refusing.{write_refusal, no_room}
+use Rattle.far_vector.specs.Vector.{Vector, IsShaped, AreApart, object_at}
+use Rattle.far_vector.specs.Effects.{is_full, pushed, pushed_in}
+use Rattle.far_vector.specs.Refusing.{push_refusal}
+use Rattle.far_columns.proofs.FirstCases.{first-append}
+use Rattle.far_columns.proofs.Alike.{none-pass}
+use Rattle.far_columns.specs.NumbersTogether.{NumberLists, NumberColumns, AreNumberColumns, all_begin, all_pushed, absents, some_written_out, no_room_for_groups, push_numbers_refusal}
+
+pub pairs-head : {X : Type 0} (R : X → X → Type 0) (x : X) (xs : List X) → AllPairs R (x ∷ xs) → All (R x) xs
+pairs-head R x xs pairs k d below = pairs 0 (suc k) d (omega arith) (omega (arith, below))
+
+pub pairs-tail : {X : Type 0} (R : X → X → Type 0) (x : X) (xs : List X) → AllPairs R (x ∷ xs) → AllPairs R xs
+pairs-tail R x xs pairs i j d below within = pairs (suc i) (suc j) d (omega (arith, below)) (omega (arith, within))
+
+-- of two columns of one length and one size of row groups, both begin a row group or neither
+pub both-begin : (c d : Vector (Option ℤ)) → IsShaped c → IsShaped d → c.size ≡ d.size → c.len ≡ d.len → is_full c ≡ true → is_full d ≡ true
+both-begin c d has other size len begins =
+    let full : c.len ≡ length c.objects * c.size = eqb-true c.len (length c.objects * c.size) begins in
+    let full_too : d.len ≡ length c.objects * d.size = sym len ∙ full ∙ ap (λ s. length c.objects * s) size in
+    elim (cases_eq (length c.objects) (length d.objects)) [
+      | inl same ↦ eq-eqb d.len (length d.objects * d.size) (full_too ∙ ap (λ n. n * d.size) same)
+      | inr ne ↦ elim (cases_lt (length d.objects) (length c.objects)) [
+        | inl fewer ↦
+            let long = mul-le-mul_right {m = length d.objects + 1} {n = length c.objects} d.size (omega (arith, fewer)) in
+            absurd (omega (arith, long, full_too, other.enough, other.some))
+        | inr more ↦
+            let long = mul-le-mul_right {m = length c.objects + 1} {n = length d.objects} d.size (omega (arith, more, ne)) in
+            absurd (omega (arith, long, full_too, other.needed))
+      ]
+    ]
+
+-- a row group that is begun is not full, so a number is pushed where its object may be written
+pub push-free : {K : Type 0} (m : Movement (Option ℤ) K) (v : Vector (Option ℤ)) → is_full v ≡ false → None ≡ write_refusal m (object_at v v.len) → push_refusal m v ≡ None
+push-free m v begun free = ap (λ (b : Bool). cond b (first_of (no_room m (length m.entries) v.size ∷ [])) (write_refusal m (object_at v v.len))) begun ∙ sym free
+
+pub free-push : {K : Type 0} (m : Movement (Option ℤ) K) (v : Vector (Option ℤ)) → is_full v ≡ false → push_refusal m v ≡ None → write_refusal m (object_at v v.len) ≡ None
+free-push m v begun free = sym (ap (λ (b : Bool). cond b (first_of (no_room m (length m.entries) v.size ∷ [])) (write_refusal m (object_at v v.len))) begun) ∙ free
+
+-- that is the refusal before other objects change
+abbrev writing : {K : Type 0} → Option Pointer → Option (Entry K) → ℕ → Option Refusal
+writing word entry changes = first_of (
+    (not (is_some (option_and_then at_of word)), option_map_or (λ e. refusal.Absent e.name.column e.name.group) entry refusal.StaleJob)
+    ∷ (not (nat_lt (option_map_or (λ e. e.version) entry 0) changes), refusal.EditsUsedUp)
+    ∷ [])
+
+pub write-other : {K : Type 0} (old new : Movement (Option ℤ) K) (o p : ℕ) → ChangesObject old new o → new.changes ≡ old.changes → p ≢ o → write_refusal new p ≡ write_refusal old p
+write-other old new o p changes same apart =
+    ap (λ word. writing word (slice_get new.entries p) new.changes) (changes.words p apart)
+    ∙ ap (λ entry. writing (slice_get old.memory.words p) entry new.changes) (changes.entries p apart)
+    ∙ ap (writing (slice_get old.memory.words p) (slice_get old.entries p)) same
+
+pub changes-same : {K : Type 0} (m : Movement (Option ℤ) K) (v : Vector (Option ℤ)) (x : Option ℤ) → (pushed_in m v x).changes ≡ m.changes
+changes-same m v x = elim (cases_Bool (is_full v)) [ inl full ↦ rw full refl | inr begun ↦ rw begun refl ]
+
+-- apart either way
+pub apart-turned : (v w : Vector (Option ℤ)) → AreApart v w → AreApart w v
+apart-turned v w apart k d within j e inside same = apart j e inside k d within (sym same)
+
+-- the object of the next place is one of those that are there
+pub next-within : (v : Vector (Option ℤ)) → IsShaped v → is_full v ≡ false → v.len / v.size < length v.objects
+next-within v shaped begun =
+    let short : v.len ≢ length v.objects * v.size = λ e. absurd (let full = sym (eq-eqb v.len (length v.objects * v.size) e) ∙ begun in cc) in
+    div_below v.len v.size (length v.objects) shaped.some (omega (arith, shaped.enough, short))
+
+-- two that are begun have different objects for their next places
+pub next-apart : (v w : Vector (Option ℤ)) → IsShaped v → IsShaped w → is_full v ≡ false → is_full w ≡ false → AreApart v w → object_at w w.len ≢ object_at v v.len
+next-apart v w shaped other begun begun_too apart same = apart (v.len / v.size) 0 (next-within v shaped begun) (w.len / w.size) 0 (next-within w other begun_too) (sym same)
+
+-- where a number may be pushed and its row group is begun, no push is refused
+pub none-refused : (due : Option Refusal) (full : Bool) (e : Refusal) → due ≡ None → full ≡ false → (due ≡ Some e) ⊎ ((due ≡ None) × (full ≡ true) × (e ≡ refusal.NoMemory)) → ⊥
+none-refused due full e free begun (inl some) = absurd (let two = sym free ∙ some in cc)
+none-refused due full e free begun (inr rest) = absurd (let two = sym begun ∙ rest.1 in cc)
+
+-- a column whose row group is begun, with a number more
+pub begun-same : (c : Vector (Option ℤ)) (n o : ℕ) → is_full c ≡ false → pushed c n ≡ pushed c o
+begun-same c n o begun = rw begun refl
+
+pub begun-object : (c c' : Vector (Option ℤ)) (n : ℕ) → is_full c ≡ false → c' ≡ pushed c n → object_at c' c.len ≡ object_at c c.len
+begun-object c c' n begun is = rw (is, begun) refl
+
+-- the columns with a number more each, the first and then the rest
+pub pushed-first : (n k : ℕ) (c c' : Vector (Option ℤ)) (rest rest' columns : NumberColumns) → columns ≡ c ∷ rest → c' ≡ pushed c n → rest' ≡ all_pushed k rest → k ≡ n + 1 → c' ∷ rest' ≡ all_pushed n columns
+pushed-first n k c c' rest rest' columns is first others step =
+    ap (λ d. d ∷ rest') first ∙ ap (λ l. pushed c n ∷ l) (others ∙ ap (λ i. all_pushed i rest) step) ∙ ap (all_pushed n) (sym is)
+
+-- columns of one table, which all begin row groups or none
+module _ (lists : NumberLists) (columns : NumberColumns) (are : AreNumberColumns lists columns) (shaped : All IsShaped columns) where
+  alike : (c d : Vector (Option ℤ)) → IsShaped c → IsShaped d → (c.size ≡ d.size) × (c.len ≡ d.len) → is_full c ≡ true → is_full d ≡ true
+  alike c d one other even = both-begin c d one other even.0 even.1
+
+  pub none-begin : all_begin columns ≡ false → All (λ (c : Vector (Option ℤ)). is_full c ≡ false) columns
+  none-begin = none-pass is_full IsShaped (λ c d. (c.size ≡ d.size) × (c.len ≡ d.len)) (λ c d even. (sym even.0, sym even.1)) alike columns shaped are.even
+
+-- with a number more each they are of one length and one size still
+pub pushed-size : (c : Vector (Option ℤ)) (n : ℕ) → (pushed c n).size ≡ c.size
+pushed-size c n = elim (cases_Bool (is_full c)) [ inl full ↦ rw full refl | inr begun ↦ rw begun refl ]
+
+pub pushed-len : (c : Vector (Option ℤ)) (n : ℕ) → (pushed c n).len ≡ c.len + 1
+pushed-len c n = elim (cases_Bool (is_full c)) [ inl full ↦ rw full refl | inr begun ↦ rw begun refl ]
+
+even-beside : (c : Vector (Option ℤ)) (k n : ℕ) (rest : NumberColumns) → All (λ d. (c.size ≡ d.size) × (c.len ≡ d.len)) rest → All (λ d. ((pushed c k).size ≡ d.size) × ((pushed c k).len ≡ d.len)) (all_pushed n rest)
+even-beside c k n [] even = All-nil (λ d. ((pushed c k).size ≡ d.size) × ((pushed c k).len ≡ d.len))
+even-beside c k n (d ∷ rest) even =
+    let pair = All-head (λ d. (c.size ≡ d.size) × (c.len ≡ d.len)) d rest even in
+    All-cons (λ d. ((pushed c k).size ≡ d.size) × ((pushed c k).len ≡ d.len)) (pushed d n) (all_pushed (n + 1) rest)
+    (pushed-size c k ∙ pair.0 ∙ sym (pushed-size d n), pushed-len c k ∙ ap (λ l. l + 1) pair.1 ∙ sym (pushed-len d n))
+    (even-beside c k (n + 1) rest (All-tail (λ d. (c.size ≡ d.size) × (c.len ≡ d.len)) d rest even))
+
+pub even-pushed : (n : ℕ) (columns : NumberColumns) → AllPairs (λ c d. (c.size ≡ d.size) × (c.len ≡ d.len)) columns → AllPairs (λ c d. (c.size ≡ d.size) × (c.len ≡ d.len)) (all_pushed n columns)
+even-pushed n [] even = even
+even-pushed n (c ∷ rest) even =
+    AllPairs-cons (λ c d. (c.size ≡ d.size) × (c.len ≡ d.len)) (pushed c n) (all_pushed (n + 1) rest)
+    (even-beside c n (n + 1) rest (pairs-head (λ c d. (c.size ≡ d.size) × (c.len ≡ d.len)) c rest even))
+    (even-pushed (n + 1) rest (pairs-tail (λ c d. (c.size ≡ d.size) × (c.len ≡ d.len)) c rest even))
+
+-- the refusals where row groups are begun
+pub due-begun : {K : Type 0} (m : Movement (Option ℤ) K) (columns : NumberColumns) → all_begin columns ≡ false → push_numbers_refusal m columns ≡ option_or (first_of (absents m columns)) (first_of (some_written_out m columns ∷ []))
+due-begun m columns begun =
+    ap (λ (b : Bool). first_of (cond b (no_room_for_groups m columns ∷ []) (absents m columns ++ some_written_out m columns ∷ []))) begun
+    ∙ first-append (absents m columns) (some_written_out m columns ∷ [])

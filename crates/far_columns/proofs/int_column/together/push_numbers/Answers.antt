@@ -1,0 +1,51 @@
+use Rattle.std.proofs.Common.{◌≡◌, ◌∷◌, [], length, inl, sym, ap, subst, ◌∙◌}
+use Rattle.std.specs.Prelude.{AllPairs}
+use Rattle.std.specs.Option.{option_or}
+use Rattle.std.proofs.lemmas.Result.{err_from_is_err_and}
+use Rattle.far_types.specs.FirstOf.{first_of}
+use Rattle.far_columns.specs.Numbers.{number_lists}
+use Rattle.far_columns.specs.NumbersTogether.{some_written_out}
+use Rattle.far_columns.proofs.Setting.{by-outcomes}
+use Rattle.far_columns.proofs.NumbersTogether.{none-begin, even-pushed, due-begun}
+use Rattle.far_columns.proofs.int_column.together.push_numbers.Goals as goal
+
+pub returns-then-all_begin-clause-are : goal.returns-then-all_begin-clause-are
+returns-then-all_begin-clause-are g c =
+    by-outcomes c.begin_groups.result c.begin_groups.ensures.beside c.begin_groups.ensures.pushed c.begin_groups.ensures.err c.begin_groups.ensures.err
+    (λ beside pushed. record {
+      beside = beside;
+      even = subst (AllPairs (λ c d. (c.size ≡ d.size) × (c.len ≡ d.len))) (sym pushed) (even-pushed (length c.args.objects.now.entries) c.args.columns.now c.requires.are.even);
+    })
+    (λ same _. rw (same.0, same.1) c.requires.are)
+
+pub all_here-requires-clause-begun : goal.all_here-requires-clause-begun
+all_here-requires-clause-begun g c κs within = none-begin (number_lists g.S.FarRead.content c.args.objects.now) c.args.columns.now c.requires.are c.known_shapes.ensures (sym c.if-all_begin.ensures)
+
+pub returns-in_err-all_here-clause-refused : goal.returns-in_err-all_here-clause-refused
+returns-in_err-all_here-clause-refused g c =
+    let p = err_from_is_err_and c.from_residual.result c.from_residual.ensures.1 in
+    let m = c.args.objects.now in
+    rw (p.1, p.2) (inl (due-begun m c.args.columns.now (sym c.if-all_begin.ensures) ∙ ap (λ r. option_or r (first_of (some_written_out m c.args.columns.now ∷ []))) (sym c.in_err-all_here.ensures)))
+
+pub all_writable-requires-clause-begun : goal.all_writable-requires-clause-begun
+all_writable-requires-clause-begun g c κs within = none-begin (number_lists g.S.FarRead.content c.args.objects.now) c.args.columns.now c.requires.are c.known_shapes.ensures (sym c.if-all_begin.ensures)
+
+pub returns-in_err-all_writable-clause-refused : goal.returns-in_err-all_writable-clause-refused
+returns-in_err-all_writable-clause-refused g c =
+    let p = err_from_is_err_and c.from_residual-in_err-all_writable.result c.from_residual-in_err-all_writable.ensures.1 in
+    let m = c.args.objects.now in
+    rw (p.1, p.2) (inl (due-begun m c.args.columns.now (sym c.if-all_begin.ensures) ∙ ap (λ r. option_or r (first_of (some_written_out m c.args.columns.now ∷ []))) (sym c.in_ok-all_here.ensures) ∙ sym c.in_err-all_writable.ensures.refused))
+
+pub fill_places-requires-clause-begun : goal.fill_places-requires-clause-begun
+fill_places-requires-clause-begun g c κs within = none-begin (number_lists g.S.FarRead.content c.args.objects.now) c.args.columns.now c.requires.are c.known_shapes.ensures (sym c.if-all_begin.ensures)
+
+pub returns-clause-are : goal.returns-clause-are
+returns-clause-are g c = record {
+  beside = c.fill_places.ensures.beside;
+  even = subst (AllPairs (λ c d. (c.size ≡ d.size) × (c.len ≡ d.len))) (sym (c.fill_places.ensures.pushed 0)) (even-pushed 0 c.args.columns.now c.requires.are.even);
+}
+
+pub returns-clause-free : goal.returns-clause-free
+returns-clause-free g c =
+    let m = c.args.objects.now in
+    due-begun m c.args.columns.now (sym c.if-all_begin.ensures) ∙ ap (λ r. option_or r (first_of (some_written_out m c.args.columns.now ∷ []))) (sym c.in_ok-all_here.ensures) ∙ sym c.in_ok-all_writable.ensures.refused
