@@ -1,0 +1,4 @@
+pub mod Cells
+pub mod Slots
+pub mod Rows
+pub mod Refusing

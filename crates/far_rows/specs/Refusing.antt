@@ -1,0 +1,19 @@
+-- Why calls on rows are refused.
+use Rattle.std.specs.Prelude.{ℕ, false, Bool, List, ◌∷◌, map}
+use Rattle.std.specs.Option.{option_map_or}
+use Rattle.far_types.specs.declared.refusal.Refusal.{Refusal}
+use Rattle.far_types.specs.declared.refusal.Refusal.TheVariants as refusal
+use Rattle.far_scopes.specs.Refusing.{absent}
+use Rattle.far_rows.specs.declared.slot.Slot.{Slot}
+use Rattle.far_rows.specs.declared.slot.Slot.TheVariants as slot
+use Rattle.far_rows.specs.Rows.{Rows, object_of}
+
+module _ {K : Type 0} (r : Rows K) where
+  -- the object of a row group of a column is away
+  abbrev pub absent_at : ℕ → Slot → Bool × Refusal
+  absent_at g (slot.Number i) = option_map_or (absent r.number_objects) (object_of r (slot.Number i) g) (false, refusal.StaleJob)
+  absent_at g (slot.Text i) = option_map_or (absent r.text_objects) (object_of r (slot.Text i) g) (false, refusal.StaleJob)
+
+  -- the columns of a row group, in order: its object is away
+  abbrev pub absents : ℕ → List (Bool × Refusal)
+  absents g = map (absent_at g) r.slots

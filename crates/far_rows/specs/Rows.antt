@@ -1,0 +1,61 @@
+-- The rows of a table whose columns lie in objects that may be away.
+use Rattle.std.specs.Prelude.{◌≡◌, ℕ, ℤ, ◌+◌, ◌*◌, ◌<◌, ◌≤◌, ◌^◌, Bool, List, [], ◌∷◌, map, length, All, Option, slice_get, slice_index_or}
+use Rattle.std.specs.Option.{option_and_then}
+use Rattle.far_types.specs.declared.cell.Cell.{Cell}
+use Rattle.far_codec.specs.Reading.{ints_meaning}
+use Rattle.far_scopes.specs.Movement.{Movement, AreClean}
+use Rattle.far_vector.specs.Vector.{Vector}
+use Rattle.far_columns.specs.Texts.{Texts, lists_of, texts_in}
+use Rattle.far_columns.specs.Numbers.{Numbers, number_lists, numbers_in}
+use Rattle.far_columns.specs.NumbersTogether.{NumberColumns, AreNumberColumns}
+use Rattle.far_columns.specs.Together.{AreColumns}
+use Rattle.far_rows.specs.declared.slot.Slot.{Slot}
+use Rattle.far_rows.specs.declared.slot.Slot.TheVariants as slot
+use Rattle.far_rows.specs.Slots.{AreSlots, columns_of}
+
+-- where each column lies, how many places a row group has, the columns of numbers and of texts, the objects in which
+-- they lie, and for each place whether it is alive
+pub record Rows (K : Type 0) : Type 0 where
+  pub slots : List Slot
+  pub size : ℕ
+  pub numbers : NumberColumns
+  pub texts : List Texts
+  pub number_objects : Movement (Option ℤ) K
+  pub text_objects : Movement ℕ K
+  pub alive : List Bool
+
+module _ {K : Type 0} where
+  -- the object of a row group of a column; none where there is no such column, or no place of the row group is used
+  abbrev pub object_of : Rows K → Slot → ℕ → Option ℕ
+  object_of r (slot.Number i) g = option_and_then (λ c. slice_get c.objects g) (slice_get r.numbers i)
+  object_of r (slot.Text i) g = option_and_then (λ c. slice_get c.objects g) (slice_get r.texts i)
+
+  module _ (content : K → List ℕ) where
+    -- the numbers of each column of numbers
+    abbrev pub all_numbers : Rows K → List Numbers
+    all_numbers r = map (numbers_in content r.number_objects) r.numbers
+
+    -- the texts of each column of texts
+    abbrev pub all_texts : Rows K → List (List (Option (List ℕ)))
+    all_texts r = map (texts_in (lists_of content r.text_objects)) r.texts
+
+    -- the cells of each column, over all places, local or away
+    abbrev pub cells_of : Rows K → List (List Cell)
+    cells_of r = columns_of r.slots (all_numbers r) (all_texts r)
+
+    -- at most 16 columns and 2^24 places; all columns are as long as there are places, have row groups of one size, and
+    -- objects of their own; the lists of objects that are clean are what their far copies mean
+    pub record AreRows (r : Rows K) : Type 0 where
+      pub slots : AreSlots r.slots (length r.numbers) (length r.texts)
+      pub few : length r.numbers + length r.texts ≤ 16
+      pub some : 0 < r.size
+      pub small : r.size ≤ 2 ^ 16
+      pub places : length r.alive ≤ 2 ^ 24
+      pub numbers : AreNumberColumns (number_lists content r.number_objects) r.numbers
+      pub texts : AreColumns (lists_of content r.text_objects) r.texts
+      pub even_numbers : All (λ c. (c.size ≡ r.size) × (c.len ≡ length r.alive)) r.numbers
+      pub even_texts : All (λ c. (c.size ≡ r.size) × (c.len ≡ length r.alive)) r.texts
+      pub number_objects : All (λ c. length r.number_objects.entries ≡ length r.numbers * length c.objects) r.numbers
+      pub text_objects : All (λ c. length r.text_objects.entries ≡ length r.texts * length c.objects) r.texts
+      pub clean_numbers : AreClean ints_meaning content r.number_objects
+      pub clean_texts : AreClean (λ bytes. bytes) content r.text_objects

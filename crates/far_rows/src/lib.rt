@@ -1,0 +1,12 @@
+#![tactic(auto)]
+//! The rows of a table whose columns lie in objects that may be away.
+
+mod cell_ref;
+mod new_row;
+mod rows;
+mod slot;
+
+pub use cell_ref::CellRef;
+pub use new_row::NewRow;
+pub use rows::Rows;
+pub use slot::Slot;

@@ -1,0 +1,119 @@
+// A row that is to come.
+ghost use Rattle.std.specs.Prelude.{◌≡◌, true, length, map, IfOk, IfErr};
+ghost use Rattle.far_types.specs.Edits.{kinds_fit};
+ghost use Rattle.far_types.specs.Cells.{is_of_kind};
+ghost use Rattle.far_rows.specs.Cells.{int_cell, text_cell};
+ghost use Rattle.far_rows.specs.Slots.{AreSlots, IsWithin, kind_of, row_of, with_value};
+
+use super::slot::Slot;
+use far_types::{Cell, Kind, Refusal, Row, Text};
+use std::alloc::Global;
+use std::marker::Model;
+
+/// The values of a row that is to come, those of its columns of numbers and those of its columns of texts apart. It is
+/// made once for a table, and filled for each row without memory.
+#[derive(Drop, Debug)]
+pub struct NewRow {
+    numbers: Vec<Option<i64>>,
+    texts: Vec<Option<Text>>,
+}
+
+impl Model for NewRow {
+    ghost use Rattle.far_rows.specs.Slots.{Values};
+
+    ghost Value = { Values };
+
+    ghost view = { λ row. record { numbers = row.numbers.items; texts = row.texts.items } };
+}
+
+impl NewRow {
+    /// A row without a value, for so many columns of numbers and so many of texts. Refused with `NoMemory` (1) alone.
+    pub fn new(alloc: Global, numbers: usize, texts: usize) -> Result<NewRow, Refusal>
+        ensures numbers { IfOk result (λ row. length row.numbers ≡ numbers) }
+        ensures texts { IfOk result (λ row. length row.texts ≡ texts) }
+        ensures memory { IfErr result (λ e. e ≡ Refusal.NoMemory) }
+    {
+        Ok(NewRow {
+            numbers: nothing(alloc, numbers)?,
+            texts: nothing(alloc, texts)?,
+        })
+    }
+
+    /// Takes the cells of a row, whose columns have these slots. Takes no memory.
+    pub fn fill(&mut self, slots: &[Slot], row: Row)
+        requires slots { AreSlots slots.now (length self.old.numbers) (length self.old.texts) }
+        requires width { length row ≡ length slots.now }
+        requires of_kinds { kinds_fit (map kind_of slots.now) row ≡ true }
+        ensures row { row_of slots.now self.new ≡ row }
+        ensures numbers { length self.new.numbers ≡ length self.old.numbers }
+        ensures texts { length self.new.texts ≡ length self.old.texts }
+    {
+        let mut column = 0;
+        for cell in row.into_cells() {
+            self.put(slots[column], cell);
+            column += 1;
+        }
+    }
+
+    // Takes a cell, which is of the kind of its slot.
+    fn put(&mut self, slot: Slot, cell: Cell)
+        requires within { IsWithin (length self.old.numbers) (length self.old.texts) slot }
+        requires of_kind { is_of_kind (kind_of slot) cell ≡ true }
+        ensures { self.new ≡ with_value self.old slot cell }
+    {
+        match slot {
+            Slot::Number(number) => self.numbers[number] = number_of(cell),
+            Slot::Text(text) => self.texts[text] = text_of(cell),
+        }
+    }
+
+    /// The numbers, lent in place: one for each column of numbers.
+    pub fn numbers(&self) -> &[Option<i64>]
+        ensures { result.now ≡ self.now.numbers }
+    {
+        self.numbers.as_slice()
+    }
+
+    /// The texts, lent in place: one for each column of texts.
+    pub fn texts(&self) -> &[Option<Text>]
+        ensures { result.now ≡ self.now.texts }
+    {
+        self.texts.as_slice()
+    }
+}
+
+// A list of so many values, all missing.
+fn nothing<T: Drop>(alloc: Global, count: usize) -> Result<Vec<Option<T>>, Refusal>
+    ensures count { IfOk result (λ values. length values.items ≡ count) }
+    ensures memory { IfErr result (λ e. e ≡ Refusal.NoMemory) }
+{
+    let mut values = Vec::with_capacity(alloc, count)?;
+    for _ in 0..count {
+        values.push(None)?;
+    }
+    Ok(values)
+}
+
+// The number of a cell of a column of numbers.
+fn number_of(cell: Cell) -> Option<i64>
+    requires { is_of_kind Kind.Int cell ≡ true }
+    ensures { int_cell result ≡ cell }
+{
+    match cell {
+        Cell::Int(number) => Some(number),
+        Cell::Text(_) => unreachable!(),
+        Cell::Missing => None,
+    }
+}
+
+// The text of a cell of a column of texts.
+fn text_of(cell: Cell) -> Option<Text>
+    requires { is_of_kind Kind.Text cell ≡ true }
+    ensures { text_cell result ≡ cell }
+{
+    match cell {
+        Cell::Int(_) => unreachable!(),
+        Cell::Text(text) => Some(text),
+        Cell::Missing => None,
+    }
+}

@@ -1,0 +1,57 @@
+// The rows of a table whose columns lie in objects that may be away.
+ghost use Rattle.std.specs.Prelude.{◌≡◌, ℕ, ◌<◌, ◌≤◌, [], List, length, map, option_map, slice_get, true, IfOk, IfErr};
+ghost use Rattle.far_types.specs.Bounds.{AreLimits};
+ghost use Rattle.far_scopes.specs.Movement.{AreHere};
+ghost use Rattle.far_rows.specs.Slots.{slots_from, kind_of};
+ghost use Rattle.far_rows.specs.Rows.{AreRows};
+
+use super::slot::Slot;
+use far_columns::{Alive, IntColumn, TextColumn};
+use far_scopes::Objects;
+use far_store::FarRead;
+use far_types::{Kind, Limits, Refusal, Schema};
+use std::alloc::Global;
+use std::marker::Model;
+
+/// The cells of a table by column, in objects that are local or away, and for each place whether it is alive.
+///
+/// Contracts see where each column lies, the columns, the objects and the flags; `specs/Rows.antt` says which cells that
+/// is (`cells_of`).
+#[derive(Drop)]
+pub struct Rows<S: FarRead> {
+    slots: Vec<Slot>,
+    // How many places a row group has.
+    size: u32,
+    numbers: Vec<IntColumn>,
+    texts: Vec<TextColumn>,
+    number_objects: Objects<Option<i64>, S>,
+    text_objects: Objects<u8, S>,
+    alive: Alive,
+}
+
+impl<S: FarRead> Model for Rows<S> {
+    ghost use Rattle.far_rows.specs.Rows.{Rows, AreRows};
+
+    ghost Value = { Rows S.Ticket };
+
+    ghost view = { λ r. record { slots = r.slots.items; size = r.size; numbers = r.numbers.items; texts = r.texts.items; number_objects = r.number_objects; text_objects = r.text_objects; alive = r.alive } };
+
+    ghost invariant = { λ r. AreRows S.content record { slots = r.slots.items; size = r.size; numbers = r.numbers.items; texts = r.texts.items; number_objects = r.number_objects; text_objects = r.text_objects; alive = r.alive } };
+}
+
+impl<S: FarRead> Rows<S> {
+    /// How many places there are, dead ones too. Takes no memory.
+    pub fn len(&self) -> usize
+        ensures len { result ≡ length self.now.alive }
+        ensures rows { AreRows S.content self.now }
+    {
+        self.alive.len()
+    }
+
+    /// Where each column lies, by its number. Takes no memory.
+    pub fn slots(&self) -> &[Slot]
+        ensures { result.now ≡ self.now.slots }
+    {
+        self.slots.as_slice()
+    }
+}

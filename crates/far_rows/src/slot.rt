@@ -1,0 +1,8 @@
+// Where the columns of a table lie.
+
+/// Where a column of a table lies: the how-many-th column of numbers it is, or of texts, counted from 0.
+#[derive(Clone, Copy, Debug, PartialEq, Eq)]
+pub enum Slot {
+    Number(usize),
+    Text(usize),
+}
