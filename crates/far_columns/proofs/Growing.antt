@@ -1,5 +1,5 @@
 -- Several columns, of which one after the other gets a new object.
-use Rattle.std.proofs.Common.{◌≡◌, ◌≢◌, ℕ, suc, ◌+◌, ◌<◌, true, List, [], ◌∷◌, ◌++◌, length, Some, sym, ap, subst, ◌∙◌, arith}
+use Rattle.std.proofs.Common.{◌≡◌, ◌≢◌, ℕ, suc, ◌+◌, ◌<◌, true, List, [], ◌∷◌, ◌++◌, length, Some, refl, sym, ap, subst, ◌∙◌, arith}
 use Rattle.std.specs.Prelude.{All}
 use Rattle.std.specs.List.{slice_index_or}
 use Rattle.std.proofs.lemmas.List.{length_push}
@@ -8,7 +8,10 @@ use Rattle.far_types.specs.declared.name.Name.{Name}
 use Rattle.far_scopes.specs.declared.replacement.Replacement.{Replacement}
 use Rattle.far_scopes.specs.Memory.{ChangesList}
 use Rattle.far_scopes.specs.Movement.{Movement}
-use Rattle.far_scopes.specs.Effects.{created, new_entry}
+use Rattle.far_scopes.specs.Effects.{created, new_entry, written, written_all, with_lens, replaced_all}
+use Rattle.far_scopes.specs.Replacing.{replaced_all as replaced_all_in}
+use Rattle.far_scopes.proofs.Pins.{length-with}
+use Rattle.far_scopes.proofs.Relisted.{length-lens}
 use Rattle.far_columns.specs.Texts.{Texts, Lists}
 use Rattle.far_columns.specs.Changes.{begins_group, pushed}
 use Rattle.far_columns.specs.Together.{ChangesTo, given_forms, all_pushed}
@@ -20,6 +23,17 @@ AreNumbered n lists = (k : ℕ) (d : Replacement ℕ) → k < length lists → (
 
 pub count-created : {K : Type 0} (m new : Movement ℕ K) (name : Name) (list : List ℕ) → new ≡ created m name list → length new.entries ≡ length m.entries + 1
 count-created m new name list is = ap (λ w. length w.entries) is ∙ length_push m.entries (new_entry name (length list))
+
+-- objects that get other lists stay as many
+length-written_all : {K : Type 0} (m : Movement ℕ K) (lists : List (Replacement ℕ)) → length (written_all m lists).entries ≡ length m.entries
+length-written_all m [] = refl
+length-written_all m (r ∷ lists) = length-written_all (written m r.object) lists ∙ length-with m.entries r.object (λ entry. record entry { version = entry.version + 1 })
+
+pub count-replaced : {K : Type 0} (m new : Movement ℕ K) (lists : List (Replacement ℕ)) → new ≡ replaced_all m lists → length new.entries ≡ length m.entries
+count-replaced m new lists is =
+    ap (λ w. length w.entries) is
+    ∙ length-written_all (record m { memory = replaced_all_in m.memory lists; entries = with_lens m.entries lists }) lists
+    ∙ length-lens m.entries lists
 
 pub numbered-rest : (n : ℕ) (r : Replacement ℕ) (rest lists : List (Replacement ℕ)) → lists ≡ r ∷ rest → AreNumbered n lists → AreNumbered (n + 1) rest
 numbered-rest n r rest lists is numbered k d below =

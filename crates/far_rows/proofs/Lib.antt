@@ -1,0 +1,3 @@
+pub mod MoreCells
+pub mod Beginning
+pub mod Grown

@@ -1,5 +1,5 @@
 // Several columns of texts get a text each, all or none.
-ghost use Rattle.std.specs.Prelude.{◌≡◌, ◌⊎◌, ◌<◌, ◌≤◌, ◌+◌, ◌^◌, ◌∷◌, ℕ, List, [], length, map, true, false, None, Some, All, OnOk, IfErr, OnErr};
+ghost use Rattle.std.specs.Prelude.{◌≡◌, if◌then◌else◌, ◌⊎◌, ◌<◌, ◌≤◌, ◌+◌, ◌^◌, ◌∷◌, ℕ, List, [], length, map, true, false, None, Some, All, OnOk, IfErr, OnErr};
 ghost use Rattle.far_types.specs.FirstOf.{first_of};
 ghost use Rattle.far_scopes.specs.Movement.{AreClean, AreHere};
 ghost use Rattle.far_columns.specs.Texts.{Texts, IsTextColumn, AreApart, lists_of, texts_in};
@@ -41,6 +41,7 @@ pub fn push_texts<S: FarRead>(
     ensures pushed { OnOk result (columns.new ≡ all_pushed (length objects.old.entries) columns.old) }
     ensures begun { OnOk result (all_begin columns.old ≡ true → objects.new ≡ all_created objects.old columns.old (next_forms (lists_of S.content objects.old) (length objects.old.entries) columns.old texts.now)) }
     ensures replaced { OnOk result (all_begin columns.old ≡ false → AreReplaced objects.old (next_forms (lists_of S.content objects.old) (length objects.old.entries) columns.old texts.now) objects.new) }
+    ensures count { OnOk result (length objects.new.entries ≡ (if all_begin columns.old then length objects.old.entries + length columns.old else length objects.old.entries)) }
     ensures lists { OnOk result (ChangesTo (lists_of S.content objects.old) (lists_of S.content objects.new) (next_forms (lists_of S.content objects.old) (length objects.old.entries) columns.old texts.now)) }
     ensures are { AreColumns (lists_of S.content objects.new) columns.new }
     ensures texts { OnOk result (map (texts_in (lists_of S.content objects.new)) columns.new ≡ all_texts_with (lists_of S.content objects.old) columns.old texts.now) }

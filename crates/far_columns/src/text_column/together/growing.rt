@@ -30,6 +30,7 @@ pub(super) fn begin_groups<S: FarRead>(
     requires numbered { (k : ℕ) (d : Given ℕ) → k < length forms.now → (slice_index_or forms.now k d).object ≡ length objects.old.entries + k }
     ensures pushed { OnOk result (columns.new ≡ all_pushed (length objects.old.entries) columns.old) }
     ensures created { OnOk result (objects.new ≡ all_created objects.old columns.old (given_forms forms.now)) }
+    ensures count { OnOk result (length objects.new.entries ≡ length objects.old.entries + length columns.old) }
     ensures lists { OnOk result (ChangesTo (lists_of S.content objects.old) (lists_of S.content objects.new) (given_forms forms.now)) }
     ensures clean { AreClean (λ bytes. bytes) S.content objects.old → AreClean (λ bytes. bytes) S.content objects.new }
     ensures store { (name : List ℕ) → AreHere S.is_of name objects.old → AreHere S.is_of name objects.new }
@@ -83,6 +84,7 @@ pub(super) fn extend_groups<S: FarRead>(
     requires once { AreListedOnce forms.now }
     ensures pushed { OnOk result ((n : ℕ) → columns.new ≡ all_pushed n columns.old) }
     ensures replaced { OnOk result (objects.new ≡ replaced_all objects.old forms.now) }
+    ensures count { OnOk result (length objects.new.entries ≡ length objects.old.entries) }
     ensures lists { OnOk result (ChangesLists (lists_of S.content objects.old) (lists_of S.content objects.new) forms.now) }
     ensures clean { AreClean (λ bytes. bytes) S.content objects.old → AreClean (λ bytes. bytes) S.content objects.new }
     ensures store { (name : List ℕ) → AreHere S.is_of name objects.old → AreHere S.is_of name objects.new }

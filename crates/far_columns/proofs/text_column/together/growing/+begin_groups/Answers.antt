@@ -62,3 +62,8 @@ returns-clause-clean g t c = λ clean. c.begin_groups.ensures.clean (c.create.en
 
 pub returns-clause-store : goal.returns-clause-store
 returns-clause-store g t c = λ name here. c.begin_groups.ensures.store name (c.create.ensures.store name here)
+
+pub returns-clause-count : goal.returns-clause-count
+returns-clause-count g t c =
+    let more = count-created c.args.objects.now c.create.new.self _ _ c.in_ok-o.ensures.created in
+    omega (arith, more, c.in_default-begin_groups.ensures.count, c.in-Some.ensures.cases.1)

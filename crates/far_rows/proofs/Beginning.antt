@@ -1,0 +1,97 @@
+-- Where row groups begin: at a place whose number is divided by the size of a row group.
+use Rattle.std.proofs.Common.{◌≡◌, ◌≢◌, inl, inr, ℕ, ◌+◌, ◌*◌, ◌/◌, ◌%◌, ◌≤◌, ◌<◌, ◌^◌, Bool, true, false, List, [], ◌∷◌, length, refl, sym, ap, ◌∙◌, arith, mul-le-mul_left, mul-le-mul_right}
+use Rattle.std.specs.Prelude.{ℤ, Option, All}
+use Rattle.std.specs.List.{list_all}
+use Rattle.std.proofs.Math.Nat.{div-add-mod', mul-mod_left, mul-add, mul-one}
+use Rattle.std.proofs.lemmas.Bool.{cases_lt, cases_eq, cases_Bool, eq-eqb, eqb-true}
+use Rattle.std.proofs.lemmas.List.Elements.{All-head, All-weaker}
+use Rattle.std.proofs.lemmas.List.Sums.{list_all-from_AllPass}
+use Rattle.far_vector.specs.Vector.{Vector, IsShaped}
+use Rattle.far_vector.specs.Effects.{is_full}
+use Rattle.far_columns.specs.Texts.{Texts, HasGroups}
+use Rattle.far_columns.specs.Changes.{begins_group}
+use Rattle.far_columns.specs.NumbersTogether.{NumberColumns, all_begin}
+use Rattle.far_columns.specs.Together.{all_begin as all_texts_begin}
+
+-- len elements lie in k row groups of so many places
+module _ (len k size : ℕ) (some : 0 < size) (enough : len ≤ k * size) (needed : k * size < len + size) where
+  -- all places of the last row group are used
+  pub full-at : len % size ≡ 0 → len ≡ k * size
+  full-at divides =
+      let q = len / size in
+      let whole : len ≡ q * size = omega (arith, div-add-mod' len size, divides) in
+      elim (cases_eq q k) [
+        | inl same ↦ whole ∙ ap (λ n. n * size) same
+        | inr ne ↦ elim (cases_lt q k) [
+          | inl fewer ↦
+              let long = mul-le-mul_right {m = q + 1} {n = k} size (omega (arith, fewer)) in
+              absurd (omega (arith, long, whole, needed))
+          | inr more ↦
+              let long = mul-le-mul_right {m = k + 1} {n = q} size (omega (arith, more, ne)) in
+              absurd (omega (arith, long, whole, enough, some))
+        ]
+      ]
+
+  pub begun-at : len % size ≢ 0 → len ≢ k * size
+  begun-at not_divides full = not_divides (ap (λ n. n % size) full ∙ mul-mod_left k size)
+
+-- a column of numbers with rows of this table
+pub record IsNumbers (size len : ℕ) (c : Vector (Option ℤ)) : Type 0 where
+  pub shaped : IsShaped c
+  pub even : (c.size ≡ size) × (c.len ≡ len)
+
+pub record IsTexts (size len : ℕ) (c : Texts) : Type 0 where
+  pub grouped : HasGroups c
+  pub even : (c.size ≡ size) × (c.len ≡ len)
+
+number-begins : (size len : ℕ) → 0 < size → len % size ≡ 0 → (c : Vector (Option ℤ)) → IsNumbers size len c → is_full c ≡ true
+number-begins size len some divides c is =
+    let k = length c.objects in
+    let on : c.len ≡ k * c.size =
+    is.even.1
+    ∙ full-at len k size some (omega (arith, is.shaped.enough, is.even.1, ap (λ s. k * s) is.even.0)) (omega (arith, is.shaped.needed, is.even.0, is.even.1, ap (λ s. k * s) is.even.0)) divides
+    ∙ sym (ap (λ s. k * s) is.even.0) in
+    eq-eqb c.len (k * c.size) on
+
+number-begun : (size len : ℕ) → 0 < size → len % size ≢ 0 → (c : Vector (Option ℤ)) → IsNumbers size len c → is_full c ≡ false
+number-begun size len some not_divides c is =
+    let k = length c.objects in
+    elim (cases_Bool (is_full c)) [
+      | inl full ↦
+          absurd (begun-at len k size some (omega (arith, is.shaped.enough, is.even.1, ap (λ s. k * s) is.even.0)) (omega (arith, is.shaped.needed, is.even.0, is.even.1, ap (λ s. k * s) is.even.0)) not_divides (sym is.even.1 ∙ eqb-true c.len (k * c.size) full ∙ ap (λ s. k * s) is.even.0))
+      | inr begun ↦ begun
+    ]
+
+text-begins : (size len : ℕ) → 0 < size → len % size ≡ 0 → (c : Texts) → IsTexts size len c → begins_group c ≡ true
+text-begins size len some divides c is =
+    let k = length c.objects in
+    let on : c.len ≡ k * c.size =
+    is.even.1
+    ∙ full-at len k size some (omega (arith, is.grouped.held, is.even.1, ap (λ s. k * s) is.even.0)) (omega (arith, is.grouped.begun, is.even.0, is.even.1, ap (λ s. k * s) is.even.0)) divides
+    ∙ sym (ap (λ s. k * s) is.even.0) in
+    eq-eqb c.len (k * c.size) on
+
+-- of columns of one table all begin a row group where the next place is the first of one
+pub numbers-begin : (size len : ℕ) (columns : NumberColumns) → 0 < size → len % size ≡ 0 → All (IsNumbers size len) columns → all_begin columns ≡ true
+numbers-begin size len columns some divides are =
+    list_all-from_AllPass is_full columns (All-weaker (IsNumbers size len) (λ c. is_full c ≡ true) (number-begins size len some divides) columns are)
+
+pub numbers-begun : (size len : ℕ) (columns : NumberColumns) → 0 < size → len % size ≢ 0 → 0 < length columns → All (IsNumbers size len) columns → all_begin columns ≡ false
+numbers-begun size len [] some not_divides more are = absurd (omega (arith, more))
+numbers-begun size len (c ∷ columns) some not_divides more are =
+    let first = number-begun size len some not_divides c (All-head (IsNumbers size len) c columns are) in
+    rw first refl
+
+pub texts-begin : (size len : ℕ) (columns : List Texts) → 0 < size → len % size ≡ 0 → All (IsTexts size len) columns → all_texts_begin columns ≡ true
+texts-begin size len columns some divides are =
+    list_all-from_AllPass begins_group columns (All-weaker (IsTexts size len) (λ c. begins_group c ≡ true) (text-begins size len some divides) columns are)
+
+-- a table of at most 16 columns and 2^24 places has few enough objects: as many a row group as columns of a kind
+pub few-more : (entries n k size len : ℕ) → entries ≡ n * k → k * size ≡ len → len < 2 ^ 24 → 0 < size → n ≤ 16 → entries + n ≤ 2 ^ 28
+few-more entries n k size len count all below some few =
+    let groups = mul-le-mul_left {m = 1} {n = size} k some in
+    let one : k * 1 ≡ k = mul-one k in
+    let all_groups = mul-le-mul_left {m = k + 1} {n = 2 ^ 24} n (omega (arith, groups, one, all, below)) in
+    let columns = mul-le-mul_right {m = n} {n = 16} (2 ^ 24) few in
+    let sum : n * (k + 1) ≡ n * k + n = mul-add n k 1 ∙ ap (λ m. n * k + m) (mul-one n) in
+    omega (arith, count, sum, all_groups, columns)

@@ -1,0 +1,55 @@
+-- What columns hold once each has a value more.
+use Rattle.std.proofs.Common.{◌≡◌, ℕ, zero, suc, ◌<◌, List, [], ◌∷◌, ◌++◌, map, length, get_or, Option, None, refl, sym, ap, ◌∙◌, arith}
+use Rattle.std.specs.Prelude.{ℤ, All}
+use Rattle.std.proofs.lemmas.List.{map-append}
+use Rattle.std.proofs.lemmas.List.Elements.{All-head, All-tail}
+use Rattle.far_types.specs.declared.cell.Cell.{Cell}
+use Rattle.far_vector.specs.Vector.{elements}
+use Rattle.far_columns.specs.Texts.{Texts, Lists, texts_in}
+use Rattle.far_columns.specs.Numbers.{Numbers}
+use Rattle.far_columns.specs.NumbersTogether.{NumberLists, NumberColumns, all_numbers_with}
+use Rattle.far_columns.specs.Together.{all_texts_with}
+use Rattle.far_rows.specs.declared.slot.Slot.{Slot}
+use Rattle.far_rows.specs.declared.slot.Slot.TheVariants as slot
+use Rattle.far_rows.specs.Cells.{int_cell, text_cell}
+use Rattle.far_rows.specs.Slots.{Values, IsWithin, cell_in, row_of, column_in, columns_of, with_row}
+
+module _ {A : Type 0} where
+  -- each list with one more behind it
+  abbrev pub all_with : List (List A) → List A → List (List A)
+  all_with [] xs = []
+  all_with (l ∷ ls) [] = []
+  all_with (l ∷ ls) (x ∷ xs) = (l ++ x ∷ []) ∷ all_with ls xs
+
+  pub at-with : (ls : List (List A)) (xs : List A) (i : ℕ) (d : A) → length xs ≡ length ls → i < length ls → get_or (all_with ls xs) i [] ≡ get_or ls i [] ++ get_or xs i d ∷ []
+  at-with [] xs i d even below = absurd (omega arith)
+  at-with (l ∷ ls) [] i d even below = absurd (omega arith)
+  at-with (l ∷ ls) (x ∷ xs) zero d even below = refl
+  at-with (l ∷ ls) (x ∷ xs) (suc i) d even below = at-with ls xs i d (omega arith) (omega arith)
+
+pub numbers-with : (lists : NumberLists) (columns : NumberColumns) (numbers : Numbers) → all_numbers_with lists columns numbers ≡ all_with (map (elements lists) columns) numbers
+numbers-with lists [] numbers = refl
+numbers-with lists (c ∷ columns) [] = refl
+numbers-with lists (c ∷ columns) (number ∷ numbers) = ap (λ l. (elements lists c ++ number ∷ []) ∷ l) (numbers-with lists columns numbers)
+
+pub texts-with : (lists : Lists) (columns : List Texts) (texts : List (Option (List ℕ))) → all_texts_with lists columns texts ≡ all_with (map (texts_in lists) columns) texts
+texts-with lists [] texts = refl
+texts-with lists (c ∷ columns) [] = refl
+texts-with lists (c ∷ columns) (text ∷ texts) = ap (λ l. (texts_in lists c ++ text ∷ []) ∷ l) (texts-with lists columns texts)
+
+module _ (numbers : List Numbers) (texts : List (List (Option (List ℕ)))) (values : Values) (n m : ℕ) (even_numbers : length values.numbers ≡ length numbers) (even_texts : length values.texts ≡ length texts) (n_is : n ≡ length numbers) (m_is : m ≡ length texts) where
+  column-with : (s : Slot) → IsWithin n m s → column_in (all_with numbers values.numbers) (all_with texts values.texts) s ≡ column_in numbers texts s ++ cell_in values s ∷ []
+  column-with (slot.Number i) within =
+      ap (map int_cell) (at-with numbers values.numbers i None even_numbers (omega (arith, within, n_is)))
+      ∙ map-append int_cell (get_or numbers i []) (get_or values.numbers i None ∷ [])
+  column-with (slot.Text i) within =
+      ap (map text_cell) (at-with texts values.texts i None even_texts (omega (arith, within, m_is)))
+      ∙ map-append text_cell (get_or texts i []) (get_or values.texts i None ∷ [])
+
+  -- each column of the table has its cell of the row more
+  pub columns-with : (slots : List Slot) → All (IsWithin n m) slots → columns_of slots (all_with numbers values.numbers) (all_with texts values.texts) ≡ with_row (columns_of slots numbers texts) (row_of slots values)
+  columns-with [] within = refl
+  columns-with (s ∷ slots) within =
+      let here = column-with s (All-head (IsWithin n m) s slots within) in
+      let there = columns-with slots (All-tail (IsWithin n m) s slots within) in
+      λ k. here k ∷ there k
