@@ -1,11 +1,12 @@
 -- Where row groups begin: at a place whose number is divided by the size of a row group.
 use Rattle.std.proofs.Common.{◌≡◌, ◌≢◌, inl, inr, ℕ, ◌+◌, ◌*◌, ◌/◌, ◌%◌, ◌≤◌, ◌<◌, ◌^◌, Bool, true, false, List, [], ◌∷◌, length, refl, sym, ap, ◌∙◌, arith, mul-le-mul_left, mul-le-mul_right}
-use Rattle.std.specs.Prelude.{ℤ, Option, All}
+use Rattle.std.specs.Prelude.{ℤ, Option, None, Some, All}
+use Rattle.std.specs.Option.{option_or}
 use Rattle.std.specs.List.{list_all}
 use Rattle.std.proofs.Math.Nat.{div-add-mod', mul-mod_left, mul-add, mul-one}
 use Rattle.std.proofs.lemmas.Bool.{cases_lt, cases_eq, cases_Bool, eq-eqb, eqb-true}
 use Rattle.std.proofs.lemmas.List.Elements.{All-head, All-weaker}
-use Rattle.std.proofs.lemmas.List.Sums.{list_all-from_AllPass}
+use Rattle.std.proofs.lemmas.List.Sums.{AllPass-from_list_all, list_all-from_AllPass}
 use Rattle.far_vector.specs.Vector.{Vector, IsShaped}
 use Rattle.far_vector.specs.Effects.{is_full}
 use Rattle.far_columns.specs.Texts.{Texts, HasGroups}
@@ -44,7 +45,7 @@ pub record IsTexts (size len : ℕ) (c : Texts) : Type 0 where
   pub grouped : HasGroups c
   pub even : (c.size ≡ size) × (c.len ≡ len)
 
-number-begins : (size len : ℕ) → 0 < size → len % size ≡ 0 → (c : Vector (Option ℤ)) → IsNumbers size len c → is_full c ≡ true
+pub number-begins : (size len : ℕ) → 0 < size → len % size ≡ 0 → (c : Vector (Option ℤ)) → IsNumbers size len c → is_full c ≡ true
 number-begins size len some divides c is =
     let k = length c.objects in
     let on : c.len ≡ k * c.size =
@@ -53,7 +54,7 @@ number-begins size len some divides c is =
     ∙ sym (ap (λ s. k * s) is.even.0) in
     eq-eqb c.len (k * c.size) on
 
-number-begun : (size len : ℕ) → 0 < size → len % size ≢ 0 → (c : Vector (Option ℤ)) → IsNumbers size len c → is_full c ≡ false
+pub number-begun : (size len : ℕ) → 0 < size → len % size ≢ 0 → (c : Vector (Option ℤ)) → IsNumbers size len c → is_full c ≡ false
 number-begun size len some not_divides c is =
     let k = length c.objects in
     elim (cases_Bool (is_full c)) [
@@ -62,7 +63,7 @@ number-begun size len some not_divides c is =
       | inr begun ↦ begun
     ]
 
-text-begins : (size len : ℕ) → 0 < size → len % size ≡ 0 → (c : Texts) → IsTexts size len c → begins_group c ≡ true
+pub text-begins : (size len : ℕ) → 0 < size → len % size ≡ 0 → (c : Texts) → IsTexts size len c → begins_group c ≡ true
 text-begins size len some divides c is =
     let k = length c.objects in
     let on : c.len ≡ k * c.size =
@@ -70,6 +71,15 @@ text-begins size len some divides c is =
     ∙ full-at len k size some (omega (arith, is.grouped.held, is.even.1, ap (λ s. k * s) is.even.0)) (omega (arith, is.grouped.begun, is.even.0, is.even.1, ap (λ s. k * s) is.even.0)) divides
     ∙ sym (ap (λ s. k * s) is.even.0) in
     eq-eqb c.len (k * c.size) on
+
+pub text-begun : (size len : ℕ) → 0 < size → len % size ≢ 0 → (c : Texts) → IsTexts size len c → begins_group c ≡ false
+text-begun size len some not_divides c is =
+    let k = length c.objects in
+    elim (cases_Bool (begins_group c)) [
+      | inl full ↦
+          absurd (begun-at len k size some (omega (arith, is.grouped.held, is.even.1, ap (λ s. k * s) is.even.0)) (omega (arith, is.grouped.begun, is.even.0, is.even.1, ap (λ s. k * s) is.even.0)) not_divides (sym is.even.1 ∙ eqb-true c.len (k * c.size) full ∙ ap (λ s. k * s) is.even.0))
+      | inr begun ↦ begun
+    ]
 
 -- of columns of one table all begin a row group where the next place is the first of one
 pub numbers-begin : (size len : ℕ) (columns : NumberColumns) → 0 < size → len % size ≡ 0 → All (IsNumbers size len) columns → all_begin columns ≡ true
@@ -86,6 +96,12 @@ pub texts-begin : (size len : ℕ) (columns : List Texts) → 0 < size → len %
 texts-begin size len columns some divides are =
     list_all-from_AllPass begins_group columns (All-weaker (IsTexts size len) (λ c. begins_group c ≡ true) (text-begins size len some divides) columns are)
 
+pub texts-begun : (size len : ℕ) (columns : List Texts) → 0 < size → len % size ≢ 0 → 0 < length columns → All (IsTexts size len) columns → all_texts_begin columns ≡ false
+texts-begun size len [] some not_divides more are = absurd (omega (arith, more))
+texts-begun size len (c ∷ columns) some not_divides more are =
+    let first = text-begun size len some not_divides c (All-head (IsTexts size len) c columns are) in
+    rw first refl
+
 -- a table of at most 16 columns and 2^24 places has few enough objects: as many a row group as columns of a kind
 pub few-more : (entries n k size len : ℕ) → entries ≡ n * k → k * size ≡ len → len < 2 ^ 24 → 0 < size → n ≤ 16 → entries + n ≤ 2 ^ 28
 few-more entries n k size len count all below some few =
@@ -95,3 +111,33 @@ few-more entries n k size len count all below some few =
     let columns = mul-le-mul_right {m = n} {n = 16} (2 ^ 24) few in
     let sum : n * (k + 1) ≡ n * k + n = mul-add n k 1 ∙ ap (λ m. n * k + m) (mul-one n) in
     omega (arith, count, sum, all_groups, columns)
+
+pub are-numbers : (size len : ℕ) (columns : NumberColumns) → All IsShaped columns → All (λ c. (c.size ≡ size) × (c.len ≡ len)) columns → All (IsNumbers size len) columns
+are-numbers size len columns shaped even k d below = record { shaped = shaped k d below; even = even k d below }
+
+pub are-texts : (size len : ℕ) (columns : List Texts) → All HasGroups columns → All (λ c. (c.size ≡ size) × (c.len ≡ len)) columns → All (IsTexts size len) columns
+are-texts size len columns grouped even k d below = record { grouped = grouped k d below; even = even k d below }
+
+module _ (size len entries : ℕ) (some : 0 < size) (below : len < 2 ^ 24) (few : entries ≤ 2 ^ 28) where
+  pub numbers-few : (columns : NumberColumns) → length columns ≤ 16 → All (IsNumbers size len) columns → All (λ c. entries ≡ length columns * length c.objects) columns → all_begin columns ≡ true → entries + length columns ≤ 2 ^ 28
+  numbers-few [] small are count begin = omega (arith, few)
+  numbers-few (c ∷ columns) small are count begin =
+      let n = length (c ∷ columns) in
+      let here = All-head (IsNumbers size len) c columns are in
+      let full = All-head (λ c. is_full c ≡ true) c columns (AllPass-from_list_all is_full (c ∷ columns) begin) in
+      let all : length c.objects * size ≡ len = ap (λ s. length c.objects * s) (sym here.even.0) ∙ sym (eqb-true c.len (length c.objects * c.size) full) ∙ here.even.1 in
+      few-more entries n (length c.objects) size len (All-head (λ c. entries ≡ n * length c.objects) c columns count) all below some small
+
+  pub texts-few : (columns : List Texts) → length columns ≤ 16 → All (IsTexts size len) columns → All (λ c. entries ≡ length columns * length c.objects) columns → all_texts_begin columns ≡ true → entries + length columns ≤ 2 ^ 28
+  texts-few [] small are count begin = omega (arith, few)
+  texts-few (c ∷ columns) small are count begin =
+      let n = length (c ∷ columns) in
+      let here = All-head (IsTexts size len) c columns are in
+      let full = All-head (λ c. begins_group c ≡ true) c columns (AllPass-from_list_all begins_group (c ∷ columns) begin) in
+      let all : length c.objects * size ≡ len = ap (λ s. length c.objects * s) (sym here.even.0) ∙ sym (eqb-true c.len (length c.objects * c.size) full) ∙ here.even.1 in
+      few-more entries n (length c.objects) size len (All-head (λ c. entries ≡ n * length c.objects) c columns count) all below some small
+
+-- neither of two refusals is due
+pub none-of-two : {A : Type 0} (a b : Option A) → option_or a b ≡ None → (a ≡ None) × (b ≡ None)
+none-of-two None b free = (refl, free)
+none-of-two (Some e) b free = absurd cc

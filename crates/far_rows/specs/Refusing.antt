@@ -1,11 +1,15 @@
 -- Why calls on rows are refused.
-use Rattle.std.specs.Prelude.{ℕ, false, Bool, List, ◌∷◌, map}
-use Rattle.std.specs.Option.{option_map_or}
+use Rattle.std.specs.Prelude.{ℕ, ◌/◌, false, Bool, List, ◌∷◌, map, length, Option}
+use Rattle.std.specs.Option.{option_map_or, option_or}
 use Rattle.far_types.specs.declared.refusal.Refusal.{Refusal}
 use Rattle.far_types.specs.declared.refusal.Refusal.TheVariants as refusal
+use Rattle.far_types.specs.FirstOf.{first_of}
 use Rattle.far_scopes.specs.Refusing.{absent}
+use Rattle.far_columns.specs.NumbersTogether.{push_numbers_refusal}
+use Rattle.far_columns.specs.RefusingTogether.{push_texts_refusal}
 use Rattle.far_rows.specs.declared.slot.Slot.{Slot}
 use Rattle.far_rows.specs.declared.slot.Slot.TheVariants as slot
+use Rattle.far_rows.specs.Slots.{Values}
 use Rattle.far_rows.specs.Rows.{Rows, object_of}
 
 module _ {K : Type 0} (r : Rows K) where
@@ -17,3 +21,9 @@ module _ {K : Type 0} (r : Rows K) where
   -- the columns of a row group, in order: its object is away
   abbrev pub absents : ℕ → List (Bool × Refusal)
   absents g = map (absent_at g) r.slots
+
+-- a row is refused where the object of some column in the row group of the next place is away, where a text or a number
+-- cannot be pushed; of numbers and texts alike 17 comes before 24, which arise where row groups are begun alone
+abbrev pub push_refusal : {K : Type 0} → (K → List ℕ) → Rows K → Values → Option Refusal
+push_refusal content r values =
+    option_or (first_of (absents r (length r.alive / r.size))) (option_or (push_texts_refusal content r.text_objects r.texts values.texts) (push_numbers_refusal r.number_objects r.numbers))

@@ -1,5 +1,5 @@
 -- The rows of a table whose columns lie in objects that may be away.
-use Rattle.std.specs.Prelude.{◌≡◌, ℕ, ℤ, ◌+◌, ◌*◌, ◌<◌, ◌≤◌, ◌^◌, Bool, List, [], ◌∷◌, map, length, All, Option, slice_get, slice_index_or}
+use Rattle.std.specs.Prelude.{◌≡◌, ℕ, ℤ, ◌+◌, ◌*◌, ◌<◌, ◌≤◌, ◌^◌, Bool, true, false, List, [], ◌∷◌, map, length, All, Option, slice_get, slice_index_or}
 use Rattle.std.specs.Option.{option_and_then}
 use Rattle.far_types.specs.declared.cell.Cell.{Cell}
 use Rattle.far_codec.specs.Reading.{ints_meaning}
@@ -8,7 +8,7 @@ use Rattle.far_vector.specs.Vector.{Vector}
 use Rattle.far_columns.specs.Texts.{Texts, lists_of, texts_in}
 use Rattle.far_columns.specs.Numbers.{Numbers, number_lists, numbers_in}
 use Rattle.far_columns.specs.NumbersTogether.{NumberColumns, AreNumberColumns}
-use Rattle.far_columns.specs.Together.{AreColumns}
+use Rattle.far_columns.specs.Together.{AreColumns, AreReplaced, all_begin, all_created, next_forms}
 use Rattle.far_rows.specs.declared.slot.Slot.{Slot}
 use Rattle.far_rows.specs.declared.slot.Slot.TheVariants as slot
 use Rattle.far_rows.specs.Slots.{AreSlots, columns_of}
@@ -59,3 +59,9 @@ module _ {K : Type 0} where
       pub text_objects : All (λ c. length r.text_objects.entries ≡ length r.texts * length c.objects) r.texts
       pub clean_numbers : AreClean ints_meaning content r.number_objects
       pub clean_texts : AreClean (λ bytes. bytes) content r.text_objects
+
+  -- the objects of texts once each column of texts has got one of these: new ones where row groups begin, else the last of
+  -- each with another form, all of which were placed before an old one was dropped
+  pub record TextsMoved (content : K → List ℕ) (r : Rows K) (texts : List (Option (List ℕ))) (now : Movement ℕ K) : Type 0 where
+    pub begun : all_begin r.texts ≡ true → now ≡ all_created r.text_objects r.texts (next_forms (lists_of content r.text_objects) (length r.text_objects.entries) r.texts texts)
+    pub replaced : all_begin r.texts ≡ false → AreReplaced r.text_objects (next_forms (lists_of content r.text_objects) (length r.text_objects.entries) r.texts texts) now

@@ -5,6 +5,8 @@ ghost use Rattle.far_scopes.specs.Movement.{AreHere};
 ghost use Rattle.far_rows.specs.Slots.{slots_from, kind_of};
 ghost use Rattle.far_rows.specs.Rows.{AreRows};
 
+mod pushing;
+
 use super::slot::Slot;
 use far_columns::{Alive, IntColumn, TextColumn};
 use far_scopes::Objects;

@@ -1,0 +1,143 @@
+// A row is appended.
+ghost use Rattle.std.specs.Prelude.{◌≡◌, if◌then◌else◌, ◌<◌, ◌≤◌, ◌+◌, ◌^◌, ◌++◌, ◌∷◌, [], ℕ, List, length, map, true, false, None, All, OnOk, OnErr, IfErr};
+ghost use Rattle.far_codec.specs.Reading.{ints_meaning};
+ghost use Rattle.far_scopes.specs.Movement.{AreClean, AreHere};
+ghost use Rattle.far_vector.specs.Vector.{IsShaped};
+ghost use Rattle.far_columns.specs.Texts.{HasGroups, lists_of, texts_in};
+ghost use Rattle.far_columns.specs.Numbers.{number_lists, numbers_in};
+ghost use Rattle.far_columns.specs.NumbersTogether.{AreNumberColumns, all_begin, all_pushed, all_pushed_in, all_numbers_with, push_numbers_refusal};
+ghost use Rattle.far_columns.specs.Together.{AreColumns, AreReplaced, all_begin as all_texts_begin, all_created, all_pushed as all_texts_pushed, all_texts_with, next_forms};
+ghost use Rattle.far_columns.specs.RefusingTogether.{push_texts_refusal};
+ghost use Rattle.far_rows.specs.Slots.{row_of, with_row};
+ghost use Rattle.far_rows.specs.Rows.{cells_of, TextsMoved};
+ghost use Rattle.far_rows.specs.Refusing.{push_refusal};
+
+use super::Rows;
+use crate::new_row::NewRow;
+use far_columns::{IntColumn, TextColumn, push_numbers, push_texts, unpush_numbers};
+use far_scopes::Objects;
+use far_store::FarRead;
+use far_types::Refusal;
+use std::alloc::Global;
+
+// What each column of numbers knows of itself.
+pub(super) fn known_numbers(columns: &[IntColumn])
+    ensures { All IsShaped columns.now }
+{
+    for column in columns {
+        let _len = column.len();
+    }
+}
+
+// What each column of texts knows of itself.
+pub(super) fn known_texts(columns: &[TextColumn])
+    ensures { All HasGroups columns.now }
+{
+    for column in columns {
+        let _len = column.len();
+    }
+}
+
+// Gives each column its value of the row. Where row groups begin, the numbers are taken back if the texts are refused;
+// else the texts come first, and the numbers then cannot be refused.
+fn push_values<S: FarRead>(
+    alloc: Global,
+    begins: bool,
+    number_objects: &mut Objects<Option<i64>, S>,
+    numbers: &mut [IntColumn],
+    text_objects: &mut Objects<u8, S>,
+    texts: &mut [TextColumn],
+    row: &NewRow,
+) -> Result<(), Refusal>
+    requires numbers_are { AreNumberColumns (number_lists S.content number_objects.old) numbers.old }
+    requires texts_are { AreColumns (lists_of S.content text_objects.old) texts.old }
+    requires numbers_even { length row.now.numbers ≡ length numbers.old }
+    requires texts_even { length row.now.texts ≡ length texts.old }
+    requires begin { begins ≡ true → all_begin numbers.old ≡ true }
+    requires begun { begins ≡ false → 0 < length numbers.old → all_begin numbers.old ≡ false }
+    requires numbers_few { all_begin numbers.old ≡ true → length number_objects.old.entries + length numbers.old ≤ 2 ^ 28 }
+    requires texts_few { all_texts_begin texts.old ≡ true → length text_objects.old.entries + length texts.old ≤ 2 ^ 28 }
+    requires numbers_free { push_numbers_refusal number_objects.old numbers.old ≡ None }
+    requires texts_free { push_texts_refusal S.content text_objects.old texts.old row.now.texts ≡ None }
+    ensures numbers_pushed { OnOk result (numbers.new ≡ all_pushed (length number_objects.old.entries) numbers.old) }
+    ensures numbers_moved { OnOk result (number_objects.new ≡ all_pushed_in number_objects.old numbers.old row.now.numbers) }
+    ensures numbers_count { OnOk result (length number_objects.new.entries ≡ (if all_begin numbers.old then length number_objects.old.entries + length numbers.old else length number_objects.old.entries)) }
+    ensures numbers { OnOk result (map (numbers_in S.content number_objects.new) numbers.new ≡ all_numbers_with (number_lists S.content number_objects.old) numbers.old row.now.numbers) }
+    ensures numbers_are { AreNumberColumns (number_lists S.content number_objects.new) numbers.new }
+    ensures numbers_clean { AreClean ints_meaning S.content number_objects.old → AreClean ints_meaning S.content number_objects.new }
+    ensures numbers_store { (name : List ℕ) → AreHere S.is_of name number_objects.old → AreHere S.is_of name number_objects.new }
+    ensures texts_pushed { OnOk result (texts.new ≡ all_texts_pushed (length text_objects.old.entries) texts.old) }
+    ensures texts_begun { OnOk result (all_texts_begin texts.old ≡ true → text_objects.new ≡ all_created text_objects.old texts.old (next_forms (lists_of S.content text_objects.old) (length text_objects.old.entries) texts.old row.now.texts)) }
+    ensures texts_replaced { OnOk result (all_texts_begin texts.old ≡ false → AreReplaced text_objects.old (next_forms (lists_of S.content text_objects.old) (length text_objects.old.entries) texts.old row.now.texts) text_objects.new) }
+    ensures texts_count { OnOk result (length text_objects.new.entries ≡ (if all_texts_begin texts.old then length text_objects.old.entries + length texts.old else length text_objects.old.entries)) }
+    ensures texts { OnOk result (map (texts_in (lists_of S.content text_objects.new)) texts.new ≡ all_texts_with (lists_of S.content text_objects.old) texts.old row.now.texts) }
+    ensures texts_are { AreColumns (lists_of S.content text_objects.new) texts.new }
+    ensures texts_clean { AreClean (λ bytes. bytes) S.content text_objects.old → AreClean (λ bytes. bytes) S.content text_objects.new }
+    ensures texts_store { (name : List ℕ) → AreHere S.is_of name text_objects.old → AreHere S.is_of name text_objects.new }
+    ensures memory { IfErr result (λ e. e ≡ Refusal.NoMemory) }
+    ensures numbers_err { OnErr result ((numbers.new ≡ numbers.old) × (number_objects.new ≡ number_objects.old)) }
+    ensures texts_err { OnErr result ((texts.new ≡ texts.old) × (text_objects.new ≡ text_objects.old)) }
+{
+    if begins {
+        push_numbers(number_objects, numbers, row.numbers())?;
+        if let Err(refusal) = push_texts(alloc, text_objects, texts, row.texts()) {
+            unpush_numbers(number_objects, numbers);
+            return Err(refusal);
+        }
+        return Ok(());
+    }
+    push_texts(alloc, text_objects, texts, row.texts())?;
+    if numbers.is_empty() {
+        return Ok(());
+    }
+    let Ok(()) = push_numbers(number_objects, numbers, row.numbers()) else {
+        unreachable!()
+    };
+    Ok(())
+}
+
+impl<S: FarRead> Rows<S> {
+    /// Appends a row, which is alive: each column gets its value. Where the place is the first of a row group, an object is
+    /// made for each column; else the last object of each is written, all texts before a number.
+    ///
+    /// The row is one that `may_push` accepted. Refused with `NoMemory` (1) alone; then nothing is changed.
+    pub fn push(&mut self, alloc: Global, row: &NewRow) -> Result<(), Refusal>
+        requires numbers { length row.now.numbers ≡ length self.old.numbers }
+        requires texts { length row.now.texts ≡ length self.old.texts }
+        requires free { push_refusal S.content self.old row.now ≡ None }
+        requires few { length self.old.alive < 2 ^ 24 }
+        ensures cells { OnOk result (cells_of S.content self.new ≡ with_row (cells_of S.content self.old) (row_of self.old.slots row.now)) }
+        ensures alive { OnOk result (self.new.alive ≡ self.old.alive ++ true ∷ []) }
+        ensures slots { self.new.slots ≡ self.old.slots }
+        ensures size { self.new.size ≡ self.old.size }
+        ensures numbers { OnOk result (self.new.numbers ≡ all_pushed (length self.old.number_objects.entries) self.old.numbers) }
+        ensures number_objects { OnOk result (self.new.number_objects ≡ all_pushed_in self.old.number_objects self.old.numbers row.now.numbers) }
+        ensures texts { OnOk result (self.new.texts ≡ all_texts_pushed (length self.old.text_objects.entries) self.old.texts) }
+        ensures text_objects { OnOk result (TextsMoved S.content self.old row.now.texts self.new.text_objects) }
+        ensures number_store { (name : List ℕ) → AreHere S.is_of name self.old.number_objects → AreHere S.is_of name self.new.number_objects }
+        ensures text_store { (name : List ℕ) → AreHere S.is_of name self.old.text_objects → AreHere S.is_of name self.new.text_objects }
+        ensures memory { IfErr result (λ e. e ≡ Refusal.NoMemory) }
+        ensures err { OnErr result (self.new ≡ self.old) }
+    {
+        known_numbers(&self.numbers);
+        known_texts(&self.texts);
+        let _number = self.number_objects.number();
+        let _number = self.text_objects.number();
+        let begins = self.alive.len() % self.size as usize == 0;
+        self.alive.push()?;
+        let pushed = push_values(
+            alloc,
+            begins,
+            &mut self.number_objects,
+            &mut self.numbers,
+            &mut self.text_objects,
+            &mut self.texts,
+            row,
+        );
+        if let Err(refusal) = pushed {
+            self.alive.unpush();
+            return Err(refusal);
+        }
+        Ok(())
+    }
+}
