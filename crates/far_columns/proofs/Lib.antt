@@ -23,6 +23,7 @@ pub mod Fullness
 pub mod MadeForms
 pub mod GivenForms
 pub mod DueTogether
+pub mod Asking
 pub mod StayColumns
 pub mod KeptColumns
 mod Flags

@@ -10,7 +10,7 @@ mod text_column;
 pub use alive::Alive;
 pub use int_column::{IntColumn, push_numbers};
 pub use lent::{Lent, Lents};
-pub use text_column::{TextCell, TextCells, TextColumn, push_texts};
+pub use text_column::{TextCell, TextCells, TextColumn, may_push_texts, push_texts};
 
 #[cfg(test)]
 mod tests;

@@ -123,6 +123,20 @@ fn lengths_told<S: FarRead>(
     ))
 }
 
+/// A form of 64 bytes with one letter: whether 54 letters may be set in its place, why 55 may not, and whether the letter is
+/// still there.
+fn asked_to_set<S: FarRead>(
+    alloc: Global,
+    _store: &S,
+) -> Result<(bool, Option<Refusal>, bool), Refusal> {
+    let mut objects: Objects<u8, S> = Objects::new(alloc, 7, 2, 64, 9, 9)?;
+    let mut column = TextColumn::new(alloc, 0, 4, 64);
+    push(alloc, &mut objects, &mut column, &text(alloc, "a")?)?;
+    let full = column.may_set(&objects, 0, &letters(alloc, 54)?).is_ok();
+    let longer = column.may_set(&objects, 0, &letters(alloc, 55)?).err();
+    Ok((full, longer, is_at(&objects, &column, 0, "a")?))
+}
+
 /// The flags of the second and third of three texts, the third cleared, and whether they come with their texts and no more;
 /// and why a part past the end is refused.
 fn lent_with_flags<S: FarRead>(
@@ -204,5 +218,15 @@ fn lengths_are_told_before_a_form_is_made(rt: HostRuntime) -> Result<(), Fail> {
     assert_eq!(rt; refused, Some(Refusal::ChunkFull));
     assert_eq!(rt; past, Some(Refusal::OutOfRange));
     assert!(rt; told);
+    Ok(())
+}
+
+#[test]
+fn a_text_is_asked_for_before_it_is_set(rt: HostRuntime) -> Result<(), Fail> {
+    let store = AgentStore::new(&rt, rt.alloc(), 4)?;
+    let (full, longer, kept) = asked_to_set(rt.alloc(), &store)?;
+    assert!(rt; full);
+    assert_eq!(rt; longer, Some(Refusal::ChunkFull));
+    assert!(rt; kept);
     Ok(())
 }

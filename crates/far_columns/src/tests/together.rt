@@ -4,6 +4,7 @@ ghost use Rattle.far_scopes.specs.Movement.{AreHere};
 ghost use Rattle.far_columns.specs.Texts.{lists_of};
 ghost use Rattle.far_columns.specs.Together.{AreColumns};
 
+mod asking;
 mod away;
 mod refusing;
 

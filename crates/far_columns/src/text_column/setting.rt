@@ -18,8 +18,14 @@ use far_types::{Refusal, Text};
 use std::alloc::Global;
 
 impl TextColumn {
-    // Whether the text of a place may be set to this one, but for want of memory.
-    fn may_set<S: FarRead>(
+    /// Whether the text of a place may be set to this one. Takes no memory.
+    ///
+    /// Refused as `set` is, but never for want of memory: with `TextTooLong` (7) exactly where the text has more than 4,096
+    /// bytes, else with `OutOfRange` (14) exactly past the end, else with `Absent` (16) exactly where the object is away,
+    /// else with `ChunkFull` (11) exactly where the new form would be longer than one may be, else with `RegionFull` (17)
+    /// exactly where no segment has the space, else with `EditsUsedUp` (24) exactly where the object was written as often
+    /// as objects may be. Where it is not refused, `set` can be refused with `NoMemory` (1) alone.
+    pub fn may_set<S: FarRead>(
         &self,
         objects: &Objects<u8, S>,
         place: usize,

@@ -6,12 +6,14 @@ ghost use Rattle.far_columns.specs.Texts.{Texts, IsTextColumn, AreApart, lists_o
 ghost use Rattle.far_columns.specs.Together.{AreColumns, all_begin, next_forms, all_pushed, all_texts_with, ChangesTo, KeepsColumns, all_created, AreReplaced};
 ghost use Rattle.far_columns.specs.RefusingTogether.{first_tests, push_texts_refusal};
 
+mod asking;
 mod checking;
 mod forms;
 mod growing;
 
 use super::TextColumn;
-use checking::{all_begin, may_push_texts};
+pub use asking::may_push_texts;
+use checking::{all_begin, may_make_forms};
 use far_scopes::Objects;
 use far_store::FarRead;
 use far_types::{Refusal, Text};
@@ -53,7 +55,7 @@ pub fn push_texts<S: FarRead>(
     ensures refused { IfErr result (λ e. (push_texts_refusal S.content objects.old columns.old texts.now ≡ Some e) ⊎ ((first_of (first_tests S.content objects.old columns.old texts.now) ≡ None) × (e ≡ Refusal.NoMemory))) }
     ensures err { OnErr result ((columns.new ≡ columns.old) × (objects.new ≡ objects.old)) }
 {
-    may_push_texts(objects, columns, texts)?;
+    may_make_forms(objects, columns, texts)?;
     known_together(objects, columns);
     let forms = next_forms(alloc, objects, columns, texts)?;
     if all_begin(columns) {

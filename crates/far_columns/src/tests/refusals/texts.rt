@@ -50,7 +50,7 @@ struct Case {
     letters: usize,
 }
 
-/// Why a text is not set, where all was left as before.
+/// Why a text is not set, where that was told beforehand and all was left as before.
 fn set_refused<S: FarRead>(
     alloc: Global,
     objects: &mut Objects<u8, S>,
@@ -62,8 +62,9 @@ fn set_refused<S: FarRead>(
     ensures { IsTextColumn (lists_of S.content objects.new) column.now }
 {
     let before = of_texts(objects, column);
+    let told = column.may_set(objects, place, text).err();
     let refused = set_text(alloc, objects, column, place, text).err();
-    if of_texts(objects, column) == before {
+    if told == refused && of_texts(objects, column) == before {
         refused
     } else {
         None

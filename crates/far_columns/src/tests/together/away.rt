@@ -13,7 +13,7 @@ use std::alloc::Global;
 use std::test::Fail;
 
 /// Sends the first object of the second of two columns away, and leaves both what they are.
-fn send_second_away<S: FarStore>(
+pub fn send_second_away<S: FarStore>(
     alloc: Global,
     objects: &mut Objects<u8, S>,
     store: &S,

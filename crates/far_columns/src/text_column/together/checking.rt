@@ -39,7 +39,7 @@ pub(super) fn all_begin(columns: &[TextColumn]) -> bool
 }
 
 // What each column knows of itself.
-fn known_groups(columns: &[TextColumn])
+pub(super) fn known_groups(columns: &[TextColumn])
     ensures { All HasGroups columns.now }
 {
     for column in columns {
@@ -81,7 +81,7 @@ fn none_full<S: FarRead>(
 }
 
 // Whether the next places may get these texts, but for what is seen while the new forms are made and placed.
-pub(super) fn may_push_texts<S: FarRead>(
+pub(super) fn may_make_forms<S: FarRead>(
     objects: &Objects<u8, S>,
     columns: &[TextColumn],
     texts: &[Option<Text>],

@@ -273,7 +273,7 @@ returns-then-all_begin-clause-free g c =
     let forms = c.deref.result.now in
     let is : given_forms forms ≡ next_forms old n columns texts = ap given_forms c.deref.ensures.value ∙ c.in_ok-forms.ensures.forms in
     let begins : all_begin columns ≡ true = sym c.all_begin.ensures ∙ c.if-all_begin.true in
-    on-ok c.begin_groups.result c.begin_groups.ensures.room (λ fits. begun-free content m columns texts c.in_ok-may_push_texts.ensures.refused forms is begins fits)
+    on-ok c.begin_groups.result c.begin_groups.ensures.room (λ fits. begun-free content m columns texts c.in_ok-may_make_forms.ensures.refused forms is begins fits)
 
 pub returns-then-all_begin-clause-refused : goal.returns-then-all_begin-clause-refused
 returns-then-all_begin-clause-refused g c =
@@ -290,8 +290,8 @@ returns-then-all_begin-clause-refused g c =
     let forms = c.deref.result.now in
     let is : given_forms forms ≡ next_forms old n columns texts = ap given_forms c.deref.ensures.value ∙ c.in_ok-forms.ensures.forms in
     let begins : all_begin columns ≡ true = sym c.all_begin.ensures ∙ c.if-all_begin.true in
-    refused-begun c.begin_groups.result (push_texts_refusal content m columns texts) (first_of (first_tests content m columns texts)) c.in_ok-may_push_texts.ensures.refused
-    (fit_in_order (spaces_of m.memory.room) (map (λ (r : Replacement ℕ). length r.list.items) forms)) (begun-full content m columns texts c.in_ok-may_push_texts.ensures.refused forms is begins) c.begin_groups.ensures.refused
+    refused-begun c.begin_groups.result (push_texts_refusal content m columns texts) (first_of (first_tests content m columns texts)) c.in_ok-may_make_forms.ensures.refused
+    (fit_in_order (spaces_of m.memory.room) (map (λ (r : Replacement ℕ). length r.list.items) forms)) (begun-full content m columns texts c.in_ok-may_make_forms.ensures.refused forms is begins) c.begin_groups.ensures.refused
 
 pub returns-clause-begun : goal.returns-clause-begun
 returns-clause-begun g c =
@@ -434,8 +434,8 @@ returns-clause-free g c =
     let is : given_forms forms ≡ next_forms old n columns texts = ap given_forms c.deref-else-all_begin.ensures.value ∙ c.in_ok-forms.ensures.forms in
     let begins : all_begin columns ≡ false = sym c.all_begin.ensures ∙ c.if-all_begin.false in
     let begun : (k : ℕ) (d : Texts) → slice_get columns k ≡ Some d → begins_group d ≡ false = λ k d here. all-at (λ (x : Texts). begins_group x ≡ false) columns k d (none-begin old columns are groups begins) here in
-    let here = all-local m forms (given-here old n columns texts c.requires.even forms is are groups fresh begun content m c.in_ok-may_push_texts.ensures.here) in
-    let same = due-replaced content m columns texts c.in_ok-may_push_texts.ensures.refused forms is begins here in
+    let here = all-local m forms (given-here old n columns texts c.requires.even forms is are groups fresh begun content m c.in_ok-may_make_forms.ensures.here) in
+    let same = due-replaced content m columns texts c.in_ok-may_make_forms.ensures.refused forms is begins here in
     on-ok c.extend_groups.result c.extend_groups.ensures.free (λ free. sym same ∙ free)
 
 pub returns-clause-refused : goal.returns-clause-refused
@@ -454,20 +454,20 @@ returns-clause-refused g c =
     let is : given_forms forms ≡ next_forms old n columns texts = ap given_forms c.deref-else-all_begin.ensures.value ∙ c.in_ok-forms.ensures.forms in
     let begins : all_begin columns ≡ false = sym c.all_begin.ensures ∙ c.if-all_begin.false in
     let begun : (k : ℕ) (d : Texts) → slice_get columns k ≡ Some d → begins_group d ≡ false = λ k d here. all-at (λ (x : Texts). begins_group x ≡ false) columns k d (none-begin old columns are groups begins) here in
-    let here = all-local m forms (given-here old n columns texts c.requires.even forms is are groups fresh begun content m c.in_ok-may_push_texts.ensures.here) in
-    let same = due-replaced content m columns texts c.in_ok-may_push_texts.ensures.refused forms is begins here in
-    refused-longer c.extend_groups.result (push_texts_refusal content m columns texts) (first_of (first_tests content m columns texts)) c.in_ok-may_push_texts.ensures.refused
+    let here = all-local m forms (given-here old n columns texts c.requires.even forms is are groups fresh begun content m c.in_ok-may_make_forms.ensures.here) in
+    let same = due-replaced content m columns texts c.in_ok-may_make_forms.ensures.refused forms is begins here in
+    refused-longer c.extend_groups.result (push_texts_refusal content m columns texts) (first_of (first_tests content m columns texts)) c.in_ok-may_make_forms.ensures.refused
     (replace_all_refusal m forms) (first_absent m (map (λ (r : Replacement ℕ). r.object) forms) ≡ None) same c.extend_groups.ensures.refused
 
-pub returns-in_err-may_push_texts-clause-refused : goal.returns-in_err-may_push_texts-clause-refused
-returns-in_err-may_push_texts-clause-refused g c =
+pub returns-in_err-may_make_forms-clause-refused : goal.returns-in_err-may_make_forms-clause-refused
+returns-in_err-may_make_forms-clause-refused g c =
     let content = g.S.FarRead.content in
     let m = c.args.objects.now in
     let columns = c.args.columns.now in
     let texts = c.args.texts.now in
-    err-handed c.from_residual.result c.in_err-may_push_texts.field-0.0
+    err-handed c.from_residual.result c.in_err-may_make_forms.field-0.0
     (λ e. (push_texts_refusal content m columns texts ≡ Some e) ⊎ ((first_of (first_tests content m columns texts) ≡ None) × (e ≡ NoMemory)))
-    (inl (due-first content m columns texts c.in_err-may_push_texts.field-0.0 c.in_err-may_push_texts.ensures.refused)) c.from_residual.ensures.1
+    (inl (due-first content m columns texts c.in_err-may_make_forms.field-0.0 c.in_err-may_make_forms.ensures.refused)) c.from_residual.ensures.1
 
 pub returns-then-all_begin-clause-count : goal.returns-then-all_begin-clause-count
 returns-then-all_begin-clause-count g c =

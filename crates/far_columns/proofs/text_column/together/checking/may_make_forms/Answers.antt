@@ -11,8 +11,8 @@ use Rattle.far_columns.specs.Together.{all_begin}
 use Rattle.far_columns.specs.RefusingTogether.{any_too_long, any_full, absents}
 use Rattle.far_columns.proofs.FirstCases.{none-due}
 use Rattle.far_columns.proofs.Checking.{none-begin, here-begun, here-longer, tests-away, tests-full, away-begun, away-longer, where-ok, ok-free}
-use Rattle.far_columns.proofs.text_column.together.checking.may_push_texts.Goals as goal
-use Rattle.far_columns.proofs.text_column.together.checking.may_push_texts.Goals.{then-not-all_begin+in_ok-all_here, else-not-all_begin}
+use Rattle.far_columns.proofs.text_column.together.checking.may_make_forms.Goals as goal
+use Rattle.far_columns.proofs.text_column.together.checking.may_make_forms.Goals.{then-not-all_begin+in_ok-all_here, else-not-all_begin}
 
 pub all_here-requires-clause-begun : goal.all_here-requires-clause-begun
 all_here-requires-clause-begun g c κs within = none-begin (lists_of g.S.FarRead.content c.args.objects.now) c.args.columns.now c.requires.are c.known_groups.ensures (sym c.if-not-all_begin.ensures)
