@@ -1,1 +1,4 @@
 pub mod Filling
+pub mod Opening
+pub mod EmptySlots
+pub mod EmptyRows

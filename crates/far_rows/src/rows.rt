@@ -4,12 +4,16 @@ ghost use Rattle.far_types.specs.Bounds.{AreLimits};
 ghost use Rattle.far_scopes.specs.Movement.{AreHere};
 ghost use Rattle.far_rows.specs.Slots.{slots_from, kind_of};
 ghost use Rattle.far_rows.specs.Rows.{AreRows};
+ghost use Rattle.far_rows.specs.Opening.{empty_rows};
+
+mod opening;
 
 use super::slot::Slot;
 use far_columns::{Alive, IntColumn, TextColumn};
 use far_scopes::Objects;
 use far_store::FarRead;
 use far_types::{Kind, Limits, Refusal, Schema};
+use opening::columns_of;
 use std::alloc::Global;
 use std::marker::Model;
 
@@ -40,6 +44,48 @@ impl<S: FarRead> Model for Rows<S> {
 }
 
 impl<S: FarRead> Rows<S> {
+    /// The rows of a table with this schema, before any row. The number tells the jobs of its objects from those of other
+    /// tables. All memory for cells is taken here.
+    ///
+    /// Refused with `NoMemory` (1) alone.
+    pub fn new(
+        alloc: Global,
+        schema: &Schema,
+        limits: &Limits,
+        number: u32,
+    ) -> Result<Rows<S>, Refusal>
+        requires { AreLimits limits.now }
+        ensures empty { IfOk result (λ rows. rows ≡ empty_rows schema.now limits.now number) }
+        ensures memory { IfErr result (λ e. e ≡ Refusal.NoMemory) }
+    {
+        let columns = columns_of(alloc, schema, limits)?;
+        let number_objects = Objects::new(
+            alloc,
+            number,
+            limits.int_segments,
+            limits.int_size,
+            limits.edits,
+            limits.edits,
+        )?;
+        let text_objects = Objects::new(
+            alloc,
+            number,
+            limits.text_segments,
+            limits.text_size,
+            limits.edits,
+            limits.edits,
+        )?;
+        Ok(Rows {
+            slots: columns.slots,
+            size: limits.group,
+            numbers: columns.numbers,
+            texts: columns.texts,
+            number_objects,
+            text_objects,
+            alive: Alive::new(alloc),
+        })
+    }
+
     /// How many places there are, dead ones too. Takes no memory.
     pub fn len(&self) -> usize
         ensures len { result ≡ length self.now.alive }
