@@ -1,5 +1,5 @@
 // The rows of a table whose columns lie in objects that may be away.
-ghost use Rattle.std.specs.Prelude.{◌≡◌, ℕ, ◌<◌, ◌≤◌, [], List, length, map, option_map, slice_get, true, IfOk, IfErr};
+ghost use Rattle.std.specs.Prelude.{◌≡◌, ℕ, ◌<◌, ◌≤◌, [], List, length, map, option_map, slice_get, slice_set, false, true, IfOk, IfErr};
 ghost use Rattle.far_types.specs.Bounds.{AreLimits};
 ghost use Rattle.far_scopes.specs.Movement.{AreHere};
 ghost use Rattle.far_rows.specs.Slots.{slots_from, kind_of};
@@ -92,6 +92,31 @@ impl<S: FarRead> Rows<S> {
         ensures rows { AreRows S.content self.now }
     {
         self.alive.len()
+    }
+
+    /// Whether a place is alive; `None` where there is no such place. Takes no memory.
+    pub fn is_alive(&self, place: usize) -> Option<bool>
+        ensures { result ≡ slice_get self.now.alive place }
+    {
+        self.alive.get(place)
+    }
+
+    /// The place is not alive from now on; its cells stay. Takes no memory.
+    pub fn clear(&mut self, place: usize)
+        requires { place < length self.old.alive }
+        ensures { self.new ≡ record self.old { alive = slice_set self.old.alive place false } }
+    {
+        self.alive.clear(place);
+    }
+
+    /// The kind of a column; `None` where there is no such column. Takes no memory.
+    pub fn kind(&self, column: usize) -> Option<Kind>
+        ensures { result ≡ option_map kind_of (slice_get self.now.slots column) }
+    {
+        match self.slots.get(column)? {
+            Slot::Number(_) => Some(Kind::Int),
+            Slot::Text(_) => Some(Kind::Text),
+        }
     }
 
     /// Where each column lies, by its number. Takes no memory.
