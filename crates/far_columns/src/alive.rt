@@ -1,5 +1,5 @@
 // Which places of a table are alive.
-ghost use Rattle.std.specs.Prelude.{◌≡◌, ◌++◌, ◌∷◌, ◌<◌, ◌≤◌, ◌-◌, [], length, take, slice_range, slice_set, true, false, OnOk, OnErr, IfErr};
+ghost use Rattle.std.specs.Prelude.{◌≡◌, ◌++◌, ◌∷◌, ◌<◌, ◌≤◌, ◌-◌, [], length, take, slice_get, slice_range, slice_set, true, false, OnOk, OnErr, IfErr};
 
 use far_types::Refusal;
 use std::alloc::Global;
@@ -34,6 +34,13 @@ impl Alive {
         ensures { result ≡ length self.now }
     {
         self.flags.len()
+    }
+
+    /// Whether a place is alive; `None` where there is no such place. Takes no memory.
+    pub fn get(&self, place: usize) -> Option<bool>
+        ensures { result ≡ slice_get self.now place }
+    {
+        self.flags.get(place).copied()
     }
 
     /// One place more, which is alive. Refused with `NoMemory` (1) alone; then nothing is changed.

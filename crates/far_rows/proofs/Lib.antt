@@ -3,3 +3,7 @@ pub mod Beginning
 pub mod Grown
 pub mod GrownNumbers
 pub mod GrownTexts
+pub mod Filling
+pub mod Opening
+pub mod EmptySlots
+pub mod EmptyRows

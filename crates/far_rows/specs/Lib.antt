@@ -2,3 +2,4 @@ pub mod Cells
 pub mod Slots
 pub mod Rows
 pub mod Refusing
+pub mod Opening

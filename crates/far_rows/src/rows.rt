@@ -1,9 +1,12 @@
 // The rows of a table whose columns lie in objects that may be away.
-ghost use Rattle.std.specs.Prelude.{◌≡◌, ℕ, ◌<◌, ◌≤◌, [], List, length, map, option_map, slice_get, true, IfOk, IfErr};
+ghost use Rattle.std.specs.Prelude.{◌≡◌, ℕ, ◌<◌, ◌≤◌, [], List, length, map, option_map, slice_get, slice_set, false, true, IfOk, IfErr};
 ghost use Rattle.far_types.specs.Bounds.{AreLimits};
 ghost use Rattle.far_scopes.specs.Movement.{AreHere};
 ghost use Rattle.far_rows.specs.Slots.{slots_from, kind_of};
 ghost use Rattle.far_rows.specs.Rows.{AreRows};
+ghost use Rattle.far_rows.specs.Opening.{empty_rows};
+
+mod opening;
 
 mod pushing;
 
@@ -12,6 +15,7 @@ use far_columns::{Alive, IntColumn, TextColumn};
 use far_scopes::Objects;
 use far_store::FarRead;
 use far_types::{Kind, Limits, Refusal, Schema};
+use opening::columns_of;
 use std::alloc::Global;
 use std::marker::Model;
 
@@ -42,12 +46,79 @@ impl<S: FarRead> Model for Rows<S> {
 }
 
 impl<S: FarRead> Rows<S> {
+    /// The rows of a table with this schema, before any row. The number tells the jobs of its objects from those of other
+    /// tables. All memory for cells is taken here.
+    ///
+    /// Refused with `NoMemory` (1) alone.
+    pub fn new(
+        alloc: Global,
+        schema: &Schema,
+        limits: &Limits,
+        number: u32,
+    ) -> Result<Rows<S>, Refusal>
+        requires { AreLimits limits.now }
+        ensures empty { IfOk result (λ rows. rows ≡ empty_rows schema.now limits.now number) }
+        ensures memory { IfErr result (λ e. e ≡ Refusal.NoMemory) }
+    {
+        let columns = columns_of(alloc, schema, limits)?;
+        let number_objects = Objects::new(
+            alloc,
+            number,
+            limits.int_segments,
+            limits.int_size,
+            limits.edits,
+            limits.edits,
+        )?;
+        let text_objects = Objects::new(
+            alloc,
+            number,
+            limits.text_segments,
+            limits.text_size,
+            limits.edits,
+            limits.edits,
+        )?;
+        Ok(Rows {
+            slots: columns.slots,
+            size: limits.group,
+            numbers: columns.numbers,
+            texts: columns.texts,
+            number_objects,
+            text_objects,
+            alive: Alive::new(alloc),
+        })
+    }
+
     /// How many places there are, dead ones too. Takes no memory.
     pub fn len(&self) -> usize
         ensures len { result ≡ length self.now.alive }
         ensures rows { AreRows S.content self.now }
     {
         self.alive.len()
+    }
+
+    /// Whether a place is alive; `None` where there is no such place. Takes no memory.
+    pub fn is_alive(&self, place: usize) -> Option<bool>
+        ensures { result ≡ slice_get self.now.alive place }
+    {
+        self.alive.get(place)
+    }
+
+    /// The place is not alive from now on; its cells stay. Takes no memory.
+    pub fn clear(&mut self, place: usize)
+        requires { place < length self.old.alive }
+        ensures { self.new ≡ record self.old { alive = slice_set self.old.alive place false } }
+    {
+        self.alive.clear(place);
+    }
+
+    /// The kind of a column; `None` where there is no such column. Takes no memory.
+    pub fn kind(&self, column: usize) -> Option<Kind>
+        ensures { result ≡ option_map kind_of (slice_get self.now.slots column) }
+    {
+        match self.slots.get(column)? {
+            Slot::Number(_) => Some(Kind::Int),
+            Slot::Text(_) => Some(Kind::Text),
+        }
     }
 
     /// Where each column lies, by its number. Takes no memory.

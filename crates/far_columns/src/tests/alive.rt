@@ -28,6 +28,22 @@ fn last_taken_back(alloc: Global) -> Result<(usize, [bool; 2]), Refusal> {
     Ok((alive.len(), [flags[0], flags[1]]))
 }
 
+/// Two places of which the first is cleared: whether each is alive, and one behind them.
+fn first_cleared(alloc: Global) -> Result<[Option<bool>; 3], Refusal> {
+    let mut alive = Alive::new(alloc);
+    alive.push()?;
+    alive.push()?;
+    alive.clear(0);
+    Ok([alive.get(0), alive.get(1), alive.get(2)])
+}
+
+#[test]
+fn a_place_behind_the_last_is_none(rt: HostRuntime) -> Result<(), Fail> {
+    let flags = first_cleared(rt.alloc())?;
+    assert_eq!(rt; flags, [Some(false), Some(true), None]);
+    Ok(())
+}
+
 #[test]
 fn a_push_of_a_flag_is_taken_back(rt: HostRuntime) -> Result<(), Fail> {
     let (len, flags) = last_taken_back(rt.alloc())?;

@@ -1,0 +1,45 @@
+-- A table when it is opened.
+use Rattle.std.specs.Prelude.{ℕ, ◌+◌, List, [], ◌∷◌, Some, pos, replicate}
+use Rattle.far_types.specs.declared.cell.Kind.{Kind}
+use Rattle.far_types.specs.declared.cell.Kind.TheVariants as kind
+use Rattle.far_types.specs.declared.limits.Limits.{Limits}
+use Rattle.far_scopes.specs.Movement.{Movement}
+use Rattle.far_columns.specs.Texts.{Texts}
+use Rattle.far_columns.specs.NumbersTogether.{NumberColumns}
+use Rattle.far_rows.specs.Slots.{slots_from}
+use Rattle.far_rows.specs.Rows.{Rows}
+
+-- the columns of numbers among columns of these kinds, of which the first is the n-th of the table: each is empty
+abbrev pub numbers_from : ℕ → ℕ → List Kind → NumberColumns
+numbers_from size n [] = []
+numbers_from size n (kind.Int ∷ kinds) = record { column = n; size = size; objects = []; len = 0; blank = Some (pos 0) } ∷ numbers_from size (n + 1) kinds
+numbers_from size n (kind.Text ∷ kinds) = numbers_from size (n + 1) kinds
+
+-- likewise the columns of texts
+abbrev pub texts_from : ℕ → ℕ → ℕ → List Kind → List Texts
+texts_from size limit n [] = []
+texts_from size limit n (kind.Int ∷ kinds) = texts_from size limit (n + 1) kinds
+texts_from size limit n (kind.Text ∷ kinds) = record { column = n; size = size; limit = limit; objects = []; len = 0 } ∷ texts_from size limit (n + 1) kinds
+
+-- no object, in so many segments of this size
+abbrev pub no_objects : {X K : Type 0} → Limits → ℕ → ℕ → ℕ → Movement X K
+no_objects limits number segments size = record {
+  number = number;
+  changes = limits.edits;
+  leavings = limits.edits;
+  memory = record { words = []; room = replicate segments record { parts = []; size = size } };
+  entries = [];
+  order = [];
+}
+
+-- the rows of a table with this schema and these limits, before any row
+abbrev pub empty_rows : {K : Type 0} → List Kind → Limits → ℕ → Rows K
+empty_rows schema limits number = record {
+  slots = slots_from 0 0 schema;
+  size = limits.group;
+  numbers = numbers_from limits.group 0 schema;
+  texts = texts_from limits.group limits.text_size 0 schema;
+  number_objects = no_objects limits number limits.int_segments limits.int_size;
+  text_objects = no_objects limits number limits.text_segments limits.text_size;
+  alive = [];
+}

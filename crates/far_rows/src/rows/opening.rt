@@ -1,0 +1,77 @@
+// The columns of a table when it is opened.
+ghost use Rattle.std.specs.Prelude.{◌≡◌, ◌++◌, ◌∷◌, [], length, IfOk, IfErr, OnOk};
+ghost use Rattle.far_types.specs.Bounds.{AreLimits, IsSchema};
+ghost use Rattle.far_rows.specs.Slots.{slots_from};
+ghost use Rattle.far_rows.specs.Opening.{numbers_from, texts_from};
+
+use crate::slot::Slot;
+use far_columns::{IntColumn, TextColumn};
+use far_types::{Kind, Limits, Refusal, Schema};
+use std::alloc::Global;
+
+// The columns of a table, and where each lies.
+#[derive(Drop)]
+pub(super) struct Columns {
+    pub(super) slots: Vec<Slot>,
+    pub(super) numbers: Vec<IntColumn>,
+    pub(super) texts: Vec<TextColumn>,
+}
+
+// The columns of a schema, each empty.
+pub(super) fn columns_of(
+    alloc: Global,
+    schema: &Schema,
+    limits: &Limits,
+) -> Result<Columns, Refusal>
+    requires { AreLimits limits.now }
+    ensures slots { IfOk result (λ columns. columns.slots.items ≡ slots_from 0 0 schema.now) }
+    ensures numbers { IfOk result (λ columns. columns.numbers.items ≡ numbers_from limits.now.group 0 schema.now) }
+    ensures texts { IfOk result (λ columns. columns.texts.items ≡ texts_from limits.now.group limits.now.text_size 0 schema.now) }
+    ensures schema { IsSchema schema.now }
+    ensures memory { IfErr result (λ e. e ≡ Refusal.NoMemory) }
+{
+    let mut columns = Columns {
+        slots: Vec::with_capacity(alloc, schema.len())?,
+        numbers: Vec::new(alloc),
+        texts: Vec::new(alloc),
+    };
+    let mut column = 0;
+    for kind in schema.as_slice() {
+        columns.push(alloc, column, *kind, limits)?;
+        column += 1;
+    }
+    Ok(columns)
+}
+
+impl Columns {
+    // One column more, which is empty: its number, and its kind.
+    fn push(
+        &mut self,
+        alloc: Global,
+        column: u32,
+        kind: Kind,
+        limits: &Limits,
+    ) -> Result<(), Refusal>
+        requires { AreLimits limits.now }
+        ensures slots { OnOk result (self.new.slots.items ≡ self.old.slots.items ++ slots_from (length self.old.numbers.items) (length self.old.texts.items) (kind ∷ [])) }
+        ensures numbers { OnOk result (self.new.numbers.items ≡ self.old.numbers.items ++ numbers_from limits.now.group column (kind ∷ [])) }
+        ensures texts { OnOk result (self.new.texts.items ≡ self.old.texts.items ++ texts_from limits.now.group limits.now.text_size column (kind ∷ [])) }
+        ensures memory { IfErr result (λ e. e ≡ Refusal.NoMemory) }
+    {
+        match kind {
+            Kind::Int => {
+                self.slots.push(Slot::Number(self.numbers.len()))?;
+                let numbers = IntColumn::new(alloc, column, limits.group)?;
+                self.numbers.push(numbers)?;
+            }
+            Kind::Text => {
+                self.slots.push(Slot::Text(self.texts.len()))?;
+                let size = limits.group as usize;
+                let limit = limits.text_size as usize;
+                self.texts
+                    .push(TextColumn::new(alloc, column, size, limit))?;
+            }
+        }
+        Ok(())
+    }
+}
