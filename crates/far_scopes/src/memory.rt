@@ -1,8 +1,8 @@
 // The local memory of objects.
-ghost use Rattle.std.specs.Prelude.{◌≡◌, ℕ, ◌-◌, ◌<◌, ◌≤◌, ◌^◌, ◌↔◌, ◌⊎◌, List, [], length, replicate, true, false, Some, None, IsSome, IsTrue, IfOk, IfErr, OnOk, OnErr, IsErrOf, slice_get, is_some};
+ghost use Rattle.std.specs.Prelude.{◌≡◌, ℕ, ◌-◌, ◌<◌, ◌≤◌, ◌^◌, ◌↔◌, ◌⊎◌, List, [], length, replicate, All, true, false, Some, None, IsSome, IsTrue, IfOk, IfErr, OnOk, OnErr, IsErrOf, slice_get, is_some};
 ghost use Rattle.std.specs.Borrow.{sem};
 ghost use Rattle.far_pointer.specs.Layout.{HasWord};
-ghost use Rattle.far_log.specs.Room.{fits_in};
+ghost use Rattle.far_log.specs.Room.{fits_in, fit_in_order, spaces_of};
 ghost use Rattle.far_scopes.specs.Memory.{at_of as word_at, place_of, list_in, ChangesList};
 ghost use Rattle.far_pointer.specs.declared.pointer.Pointer.{Pointer};
 ghost use Rattle.std.specs.Prelude.{not};
@@ -149,6 +149,15 @@ impl<T: Elem> LocalMemory<T> {
         ensures { result ≡ fits_in self.now.room len }
     {
         self.region.fits(len)
+    }
+
+    /// Whether lists of these lengths can be placed one after the other.
+    pub fn fits_in_order(&self, lens: &[usize]) -> bool
+        requires few { length lens.now ≤ 16 }
+        requires some { All (λ len. 0 < len) lens.now }
+        ensures { result ≡ fit_in_order (spaces_of self.now.room) lens.now }
+    {
+        self.region.fits_in_order(lens)
     }
 
     /// Object `o` is used: it is hot where it is local.

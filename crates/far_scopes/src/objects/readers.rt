@@ -1,11 +1,12 @@
 // What is asked of objects before they move.
-ghost use Rattle.std.specs.Prelude.{◌≡◌, ◌<◌, ◌↔◌, length, Some, IsTrue, option_map};
-ghost use Rattle.far_log.specs.Room.{fits_in};
+ghost use Rattle.std.specs.Prelude.{◌≡◌, ◌<◌, ◌≤◌, ◌↔◌, length, All, Some, IsTrue, option_map};
+ghost use Rattle.far_log.specs.Room.{fits_in, fit_in_order, spaces_of};
 ghost use Rattle.far_scopes.specs.Movement.{entry_of, leavings_of};
 
 use super::Objects;
 use far_codec::Elem;
 use far_store::FarRead;
+use far_types::Name;
 
 impl<T: Elem, S: FarRead> Objects<T, S> {
     /// How many objects there are: the numbers below are in use. Takes no memory.
@@ -23,11 +24,29 @@ impl<T: Elem, S: FarRead> Objects<T, S> {
         self.entries[o as usize].len
     }
 
+    /// The name of an object: the column and the row group that were given to `create`. Takes no memory.
+    pub fn name(&self, o: u32) -> Name
+        requires { o < length self.now.entries }
+        ensures { option_map (λ entry. entry.name) (entry_of self.now o) ≡ Some result }
+    {
+        self.entries[o as usize].name
+    }
+
     /// Whether some segment has the space for a list of so many elements. Takes no memory.
     pub fn fits(&self, len: usize) -> bool
         ensures { result ≡ fits_in self.now.memory.room len }
     {
         self.memory.fits(len)
+    }
+
+    /// Whether lists of these lengths, none of them empty and at most 16, can be placed one after the other, each in the
+    /// lowest segment that has the space. Takes no memory.
+    pub fn fits_in_order(&self, lens: &[usize]) -> bool
+        requires few { length lens.now ≤ 16 }
+        requires some { All (λ len. 0 < len) lens.now }
+        ensures { result ≡ fit_in_order (spaces_of self.now.memory.room) lens.now }
+    {
+        self.memory.fits_in_order(lens)
     }
 
     /// Whether an object may go away once more: each may as often as was given to `new`. Takes no memory.

@@ -45,6 +45,26 @@ fn number_after_unmade<S: FarRead>(alloc: Global, store: &S) -> Result<u32, Refu
     create(&mut objects, 2, &[9])
 }
 
+/// The name of the second of two objects.
+fn name_of_second<S: FarRead>(alloc: Global, store: &S) -> Result<Name, Refusal> {
+    let mut objects = empty(alloc, store)?;
+    create(&mut objects, 3, &[1, 2])?;
+    create(&mut objects, 5, &[3])?;
+    Ok(objects.name(1))
+}
+
+/// Whether lists fit beside an object of two elements, which leaves space for two in the first segment and for four in the
+/// second: of four and two elements, of one and four, and of one, four and two.
+fn fit_beside_two<S: FarRead>(alloc: Global, store: &S) -> Result<(bool, bool, bool), Refusal> {
+    let mut objects = empty(alloc, store)?;
+    create(&mut objects, 0, &[1, 2])?;
+    Ok((
+        objects.fits_in_order(&[4, 2]),
+        objects.fits_in_order(&[1, 4]),
+        objects.fits_in_order(&[1, 4, 2]),
+    ))
+}
+
 #[test]
 fn a_new_object_has_its_list_beside_the_others(rt: HostRuntime) -> Result<(), Fail> {
     let store = agent(&rt, 4)?;
@@ -65,5 +85,24 @@ fn a_list_that_no_segment_takes_is_refused(rt: HostRuntime) -> Result<(), Fail> 
 fn an_object_unmade_gives_back_its_number_and_its_room(rt: HostRuntime) -> Result<(), Fail> {
     let store = agent(&rt, 4)?;
     assert_eq!(rt; number_after_unmade(rt.alloc(), &store)?, 1);
+    Ok(())
+}
+
+#[test]
+fn an_object_tells_the_name_that_it_was_given(rt: HostRuntime) -> Result<(), Fail> {
+    let store = agent(&rt, 4)?;
+    let name = name_of_second(rt.alloc(), &store)?;
+    assert_eq!(rt; name.column, 0);
+    assert_eq!(rt; name.group, 5);
+    Ok(())
+}
+
+#[test]
+fn lists_fit_in_order_beside_what_is_there(rt: HostRuntime) -> Result<(), Fail> {
+    let store = agent(&rt, 4)?;
+    let (both, small_first, three) = fit_beside_two(rt.alloc(), &store)?;
+    assert!(rt; both);
+    assert!(rt; small_first);
+    assert!(rt; !three);
     Ok(())
 }
