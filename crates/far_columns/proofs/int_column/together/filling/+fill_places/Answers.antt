@@ -1,4 +1,4 @@
-use Rattle.std.proofs.Common.{◌≡◌, ◌+◌, ℤ, false, length, Option, None, refl, subst, ◌∙◌}
+use Rattle.std.proofs.Common.{◌≡◌, ◌+◌, ℤ, false, length, Option, None, refl, ap, subst, ◌∙◌}
 use Rattle.std.specs.Prelude.{All}
 use Rattle.std.proofs.lemmas.List.Elements.{All-head, All-tail}
 use Rattle.far_scopes.specs.Movement.{ChangesObject}
@@ -7,9 +7,9 @@ use Rattle.far_vector.specs.Vectors.{AreVectors}
 use Rattle.far_vector.specs.Effects.{is_full}
 use Rattle.far_vector.specs.Refusing.{push_refusal}
 use Rattle.far_columns.specs.Numbers.{number_lists}
-use Rattle.far_columns.proofs.NumbersTogether.{none-refused, begun-same, begun-object, pushed-first}
+use Rattle.far_columns.proofs.NumbersTogether.{none-refused, begun-same, begun-object, pushed-first, count-same}
 use Rattle.far_columns.proofs.NumbersPushed.{beside-rest, beside-all, keeps-all, numbers-all, free-rest}
-use Rattle.far_columns.proofs.int_column.together.+fill_places.Goals as goal
+use Rattle.far_columns.proofs.int_column.together.filling.+fill_places.Goals as goal
 
 pub unreachable-requires-in_default-push : goal.unreachable-requires-in_default-push
 unreachable-requires-in_default-push g t c =
@@ -72,3 +72,8 @@ returns-clause-others g t c =
 
 pub returns-clause-clean : goal.returns-clause-clean
 returns-clause-clean g t c = λ clean. c.fill_places.ensures.clean (c.push.ensures.clean clean)
+
+pub returns-clause-count : goal.returns-clause-count
+returns-clause-count g t c =
+    let begun = All-head (λ (v : Vector (Option ℤ)). is_full v ≡ false) c.in-Some.column.now c.in-Some.columns.now (subst (λ l. All (λ (v : Vector (Option ℤ)). is_full v ≡ false) l) c.in-Some.ensures.cases.0 c.requires.begun) in
+    c.fill_places.ensures.count ∙ ap (λ w. length w.entries) c.in-Ok.ensures.written ∙ count-same c.args.objects.now c.in-Some.column.now c.in-Some-split_first.number.now begun

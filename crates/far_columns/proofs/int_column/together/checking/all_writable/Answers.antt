@@ -11,7 +11,7 @@ use Rattle.far_vector.specs.Effects.{is_full}
 use Rattle.far_vector.specs.Refusing.{push_refusal}
 use Rattle.far_columns.proofs.FirstCases.{none-due, any-later, any-here, written-free, written-due}
 use Rattle.far_columns.proofs.NumbersTogether.{push-free}
-use Rattle.far_columns.proofs.int_column.together.all_writable.Goals as goal
+use Rattle.far_columns.proofs.int_column.together.checking.all_writable.Goals as goal
 
 pub returns-in_err-next_is_writable-clause-refused : goal.returns-in_err-next_is_writable-clause-refused
 returns-in_err-next_is_writable-clause-refused g c =

@@ -10,8 +10,9 @@ use Rattle.far_vector.specs.Effects.{is_full}
 use Rattle.far_columns.specs.Numbers.{number_lists}
 use Rattle.far_columns.proofs.NumbersTogether.{pushed-first}
 use Rattle.far_columns.proofs.NumbersBegun.{one-more, alone, last, first-refused, others-refused}
+use Rattle.far_columns.proofs.NumbersBack.{begun-all, below-all, undone-all}
 use Rattle.far_columns.proofs.NumbersPushed.{first-has, beside-rest, beside-all, keeps-all, numbers-all}
-use Rattle.far_columns.proofs.int_column.together.+begin_groups.Goals as goal
+use Rattle.far_columns.proofs.int_column.together.groups.+begin_groups.Goals as goal
 
 pub returns-in_err-push-clause-refused : goal.returns-in_err-push-clause-refused
 returns-in_err-push-clause-refused g t c =
@@ -118,3 +119,27 @@ returns-clause-room g t c =
     let full = first-has (λ (v : Vector (Option ℤ)). is_full v ≡ true) c.in-Some.column.now c.in-Some.columns.now c.args.columns.now c.in-Some.ensures.cases.0 c.requires.begin in
     let next = c.in_ok-push.ensures.next full (map (λ (v : Vector (Option ℤ)). v.size) c.in-Some.columns.now) in
     rw c.in-Some.ensures.cases.0 (next ∙ c.in_default-begin_groups.ensures.room)
+
+pub returns-clause-begun : goal.returns-clause-begun
+returns-clause-begun g t c =
+    let full = first-has (λ (v : Vector (Option ℤ)). is_full v ≡ true) c.in-Some.column.now c.in-Some.columns.now c.args.columns.now c.in-Some.ensures.cases.0 c.requires.begin in
+    let there = c.in_ok-push.ensures.last full in
+    begun-all c.args.objects.now c.push.new.objects c.begin_groups.new.objects c.in-Some.column.now c.push.new.self _ c.len-len.ensures.shaped full c.in_ok-push.ensures.pushed c.in_ok-push.ensures.written c.in_ok-push.ensures.others c.in_default-begin_groups.ensures.below c.begin_groups.new.columns there.0 there.1 c.in_default-begin_groups.ensures.begun
+
+pub returns-clause-below : goal.returns-clause-below
+returns-clause-below g t c =
+    let full = first-has (λ (v : Vector (Option ℤ)). is_full v ≡ true) c.in-Some.column.now c.in-Some.columns.now c.args.columns.now c.in-Some.ensures.cases.0 c.requires.begin in
+    below-all c.args.objects.now c.push.new.objects c.begin_groups.new.objects c.in-Some.column.now c.push.new.self _ c.len-len.ensures.shaped full c.in_ok-push.ensures.pushed c.in_ok-push.ensures.written c.in_ok-push.ensures.others c.in_default-begin_groups.ensures.below
+
+pub returns-clause-undone : goal.returns-clause-undone
+returns-clause-undone g t c =
+    let full = first-has (λ (v : Vector (Option ℤ)). is_full v ≡ true) c.in-Some.column.now c.in-Some.columns.now c.args.columns.now c.in-Some.ensures.cases.0 c.requires.begin in
+    rw c.in-Some.ensures.cases.0 (undone-all c.args.objects.now c.push.new.objects c.begin_groups.new.objects c.in-Some.column.now c.push.new.self _ c.len-len.ensures.shaped full c.in_ok-push.ensures.pushed c.in_ok-push.ensures.written c.in_ok-push.ensures.others c.in_default-begin_groups.ensures.below
+    c.in-Some.columns.now c.begin_groups.new.columns (c.in_ok-push.ensures.undone full) c.in_default-begin_groups.ensures.undone)
+
+pub returns-clause-count : goal.returns-clause-count
+returns-clause-count g t c =
+    let full = first-has (λ (v : Vector (Option ℤ)). is_full v ≡ true) c.in-Some.column.now c.in-Some.columns.now c.args.columns.now c.in-Some.ensures.cases.0 c.requires.begin in
+    let more = one-more c.args.objects.now c.push.new.objects c.in-Some.column.now c.push.new.self _ full c.in_ok-push.ensures.pushed c.in_ok-push.ensures.written in
+    let one : length c.in-Some.columns.now + 1 ≡ length c.args.columns.now = c.in-Some.ensures.cases.1 in
+    omega (arith, more, one, c.in_default-begin_groups.ensures.count)

@@ -3,7 +3,7 @@ use Rattle.std.specs.Prelude.{All}
 use Rattle.std.proofs.lemmas.List.{take_all}
 use Rattle.std.proofs.lemmas.List.Elements.{All-more}
 use Rattle.far_vector.specs.Vector.{IsShaped}
-use Rattle.far_columns.proofs.int_column.together.known_shapes.Goals as goal
+use Rattle.far_columns.proofs.int_column.together.checking.known_shapes.Goals as goal
 
 pub loop-column-preserved : goal.loop-column-preserved
 loop-column-preserved c =
