@@ -7,7 +7,6 @@ ghost use Rattle.far_rows.specs.Rows.{AreRows};
 ghost use Rattle.far_rows.specs.Opening.{empty_rows};
 
 mod opening;
-
 mod pushing;
 
 use super::slot::Slot;
