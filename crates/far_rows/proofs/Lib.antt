@@ -2,3 +2,4 @@ pub mod Filling
 pub mod Opening
 pub mod EmptySlots
 pub mod EmptyRows
+pub mod Reading

@@ -1,8 +1,9 @@
 -- Why calls on rows are refused.
-use Rattle.std.specs.Prelude.{ℕ, false, Bool, List, ◌∷◌, map}
+use Rattle.std.specs.Prelude.{ℕ, ◌/◌, nat_lt, not, false, Bool, List, [], ◌∷◌, map, length, Option, slice_get, is_none}
 use Rattle.std.specs.Option.{option_map_or}
 use Rattle.far_types.specs.declared.refusal.Refusal.{Refusal}
 use Rattle.far_types.specs.declared.refusal.Refusal.TheVariants as refusal
+use Rattle.far_types.specs.FirstOf.{first_of}
 use Rattle.far_scopes.specs.Refusing.{absent}
 use Rattle.far_rows.specs.declared.slot.Slot.{Slot}
 use Rattle.far_rows.specs.declared.slot.Slot.TheVariants as slot
@@ -17,3 +18,11 @@ module _ {K : Type 0} (r : Rows K) where
   -- the columns of a row group, in order: its object is away
   abbrev pub absents : ℕ → List (Bool × Refusal)
   absents g = map (absent_at g) r.slots
+
+  -- a cell is refused: there is no such column, or no such place, or its object is away
+  abbrev pub cell_refusal : ℕ → ℕ → Option Refusal
+  cell_refusal place column = first_of (
+      (is_none (slice_get r.slots column), refusal.NoColumn)
+      ∷ (not (nat_lt place (length r.alive)), refusal.NoRow)
+      ∷ option_map_or (absent_at (place / r.size)) (slice_get r.slots column) (false, refusal.StaleJob)
+      ∷ [])

@@ -7,6 +7,7 @@ ghost use Rattle.far_rows.specs.Rows.{AreRows};
 ghost use Rattle.far_rows.specs.Opening.{empty_rows};
 
 mod opening;
+mod reading;
 
 use super::slot::Slot;
 use far_columns::{Alive, IntColumn, TextColumn};
