@@ -7,3 +7,4 @@ pub mod Filling
 pub mod Opening
 pub mod EmptySlots
 pub mod EmptyRows
+pub mod Reading

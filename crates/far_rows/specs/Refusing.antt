@@ -1,5 +1,5 @@
 -- Why calls on rows are refused.
-use Rattle.std.specs.Prelude.{ℕ, ◌/◌, false, Bool, List, ◌∷◌, map, length, Option}
+use Rattle.std.specs.Prelude.{ℕ, ◌/◌, nat_lt, not, false, Bool, List, [], ◌∷◌, map, length, Option, slice_get, is_none}
 use Rattle.std.specs.Option.{option_map_or, option_or}
 use Rattle.far_types.specs.declared.refusal.Refusal.{Refusal}
 use Rattle.far_types.specs.declared.refusal.Refusal.TheVariants as refusal
@@ -21,6 +21,14 @@ module _ {K : Type 0} (r : Rows K) where
   -- the columns of a row group, in order: its object is away
   abbrev pub absents : ℕ → List (Bool × Refusal)
   absents g = map (absent_at g) r.slots
+
+  -- a cell is refused: there is no such column, or no such place, or its object is away
+  abbrev pub cell_refusal : ℕ → ℕ → Option Refusal
+  cell_refusal place column = first_of (
+      (is_none (slice_get r.slots column), refusal.NoColumn)
+      ∷ (not (nat_lt place (length r.alive)), refusal.NoRow)
+      ∷ option_map_or (absent_at (place / r.size)) (slice_get r.slots column) (false, refusal.StaleJob)
+      ∷ [])
 
 -- a row is refused where the object of some column in the row group of the next place is away, where a text or a number
 -- cannot be pushed; of numbers and texts alike 17 comes before 24, which arise where row groups are begun alone

@@ -2,11 +2,13 @@
 //! The rows of a table whose columns lie in objects that may be away.
 
 mod cell_ref;
+mod new_cell;
 mod new_row;
 mod rows;
 mod slot;
 
 pub use cell_ref::CellRef;
+pub use new_cell::NewCell;
 pub use new_row::NewRow;
 pub use rows::Rows;
 pub use slot::Slot;

@@ -8,6 +8,8 @@ ghost use Rattle.far_rows.specs.Opening.{empty_rows};
 
 mod opening;
 mod pushing;
+mod reading;
+mod setting;
 
 use super::slot::Slot;
 use far_columns::{Alive, IntColumn, TextColumn};
