@@ -1,4 +1,6 @@
 pub mod MoreCells
+pub mod OneCell
+pub mod CellsSet
 pub mod Beginning
 pub mod Grown
 pub mod GrownNumbers
