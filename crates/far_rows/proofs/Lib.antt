@@ -3,3 +3,4 @@ pub mod Opening
 pub mod EmptySlots
 pub mod EmptyRows
 pub mod Reading
+pub mod LentNumbers

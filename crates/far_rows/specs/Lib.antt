@@ -2,4 +2,5 @@ pub mod Cells
 pub mod Slots
 pub mod Rows
 pub mod Refusing
+pub mod Lending
 pub mod Opening
