@@ -10,3 +10,6 @@ pub use cell_ref::CellRef;
 pub use new_row::NewRow;
 pub use rows::Rows;
 pub use slot::Slot;
+
+#[cfg(test)]
+mod tests;
