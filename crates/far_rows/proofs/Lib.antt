@@ -10,3 +10,4 @@ pub mod Opening
 pub mod EmptySlots
 pub mod EmptyRows
 pub mod Reading
+pub mod LentNumbers

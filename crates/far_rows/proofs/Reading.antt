@@ -14,7 +14,7 @@ use Rattle.far_types.specs.FirstOf.{first_of}
 use Rattle.far_scopes.specs.Refusing.{absent}
 use Rattle.far_vector.specs.Vector.{Vector, IsVector, IsShaped}
 use Rattle.far_vector.specs.Refusing.{get_refusal}
-use Rattle.far_columns.specs.Numbers.{number_lists}
+use Rattle.far_columns.specs.Numbers.{number_lists, numbers_in}
 use Rattle.far_columns.specs.Texts.{Texts, HasGroups, IsTextColumn, lists_of, texts_in}
 use Rattle.far_columns.specs.Refusing.{text_refusal}
 use Rattle.far_rows.specs.declared.slot.Slot.TheVariants as slot
@@ -24,7 +24,7 @@ use Rattle.far_rows.specs.Rows.{Rows, AreRows, all_numbers, all_texts}
 use Rattle.far_rows.specs.Refusing.{absent_at}
 
 -- what holds of all holds of one that is read
-all-read : {X : Type 0} (P : X → Type 0) (xs : List X) (i : ℕ) (x : X) → All P xs → i < length xs → x ≡ get_or xs i x → P x
+pub all-read : {X : Type 0} (P : X → Type 0) (xs : List X) (i : ℕ) (x : X) → All P xs → i < length xs → x ≡ get_or xs i x → P x
 all-read P xs i x all within read = subst P (sym read) (all i x within)
 
 read-some : {X : Type 0} (xs : List X) (i : ℕ) (x d : X) → slice_get xs i ≡ Some x → get_or xs i d ≡ x
@@ -77,7 +77,10 @@ module _ {K : Type 0} (content : K → List ℕ) (r : Rows K) (are : AreRows con
       ap (λ b. first_of ((not b, refusal.NoRow) ∷ absent r.text_objects (get_or c.objects (place / c.size) 0) ∷ [])) yes
       ∙ ap (λ (case : Bool × Refusal). first_of (case ∷ [])) (sym object)
 
-  -- the texts of a column that is read
+  -- the values of a column that is read
+  pub numbers-read : (i : ℕ) (c : Vector (Option ℤ)) → i < length r.numbers → c ≡ get_or r.numbers i c → get_or (all_numbers content r) i [] ≡ numbers_in content r.number_objects c
+  numbers-read i c within read = map-read (numbers_in content r.number_objects) r.numbers i c [] within read
+
   text-cells : (i : ℕ) (c : Texts) → i < length r.texts → c ≡ get_or r.texts i c → get_or (all_texts content r) i [] ≡ texts_in (lists_of content r.text_objects) c
   text-cells i c within read = map-read (texts_in (lists_of content r.text_objects)) r.texts i c [] within read
 

@@ -12,3 +12,6 @@ pub use new_cell::NewCell;
 pub use new_row::NewRow;
 pub use rows::Rows;
 pub use slot::Slot;
+
+#[cfg(test)]
+mod tests;
