@@ -173,6 +173,18 @@ impl IntColumn {
         self.vector.set(objects, place, number)
     }
 
+    /// Whether the number of a place may be written. Takes no memory, and is refused exactly as `set` is.
+    pub fn may_set<S: FarRead>(
+        &self,
+        objects: &Objects<Option<i64>, S>,
+        place: usize,
+    ) -> Result<(), Refusal>
+        requires { IsVector (number_lists S.content objects.now) self.now }
+        ensures { refusal_in result ≡ set_refusal objects.now self.now place }
+    {
+        self.vector.may_set(objects, place)
+    }
+
     /// The numbers of the places `from` up to `to`, lent in place with the flags of their places, piece by piece: one for each
     /// row group that has some of them. Takes no memory.
     ///

@@ -1,6 +1,8 @@
 // The cell of a place is set.
-ghost use Rattle.std.specs.Prelude.{◌≡◌, [], ◌<◌, ℕ, List, length, map, None, Some, OnOk, OnErr, IfErr, IfSome, option_map, slice_get, slice_set, slice_index_or};
+ghost use Rattle.std.specs.Prelude.{◌≡◌, [], ◌<◌, ℕ, ℤ, Option, List, length, map, false, None, Some, OnOk, OnErr, IfErr, IfSome, option_map, slice_get, slice_set, slice_index_or};
+ghost use Rattle.far_types.specs.Cells.{is_too_long};
 ghost use Rattle.far_scopes.specs.Movement.{AreHere};
+ghost use Rattle.far_scopes.specs.Refusing.{refusal_in};
 ghost use Rattle.far_rows.specs.declared.slot.Slot.TheVariants as slot;
 ghost use Rattle.far_rows.specs.declared.new_cell.NewCell.TheVariants as new;
 ghost use Rattle.far_rows.specs.Slots.{kind_of};
@@ -15,6 +17,32 @@ use far_types::{Refusal, Text};
 use std::alloc::Global;
 
 impl<S: FarRead> Rows<S> {
+    /// Whether a value may be put in a column of a place. Takes no memory.
+    ///
+    /// Refused with `Absent` (16) exactly where some object of the place's row group is away, naming the first in the order of
+    /// the columns; else with `ChunkFull` (11) exactly where it is a text whose form would be longer than one may be, else with `RegionFull` (17)
+    /// exactly where it is a text whose form finds no room beside the old one; else with `EditsUsedUp` (24) exactly where the
+    /// object was written as often as objects may be.
+    pub fn may_set(&self, place: usize, column: usize, value: &NewCell) -> Result<(), Refusal>
+        requires place { place < length self.now.alive }
+        requires of_kind { option_map kind_of (slice_get self.now.slots column) ≡ Some (kind_in value.now) }
+        requires short { is_too_long (cell_of value.now) ≡ false }
+        ensures { refusal_in result ≡ set_refusal S.content self.now place column value.now }
+    {
+        // It tells that each slot is that of a column.
+        let _len = self.len();
+        self.here((place / self.size as usize) as u32)?;
+        match (self.slots[column], value) {
+            (Slot::Number(i), NewCell::Number(_)) => {
+                self.numbers[i].may_set(&self.number_objects, place)
+            },
+            (Slot::Text(i), NewCell::Text(text)) => {
+                self.texts[i].may_set(&self.text_objects, place, text)
+            }
+            _ => unreachable!(),
+        }
+    }
+
     // Puts a number, which is not refused, at a place of a column of numbers.
     fn set_number(&mut self, place: usize, i: usize, number: Option<i64>)
         requires within { i < length self.old.numbers }

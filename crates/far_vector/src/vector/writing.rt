@@ -47,6 +47,18 @@ impl<T: Elem> FarVector<T> {
         Ok(())
     }
 
+    /// Whether the element of a place may be written. Takes no memory, and is refused exactly as `set` is.
+    pub fn may_set<S: FarRead>(&self, objects: &Objects<T, S>, i: usize) -> Result<(), Refusal>
+        requires { IsVector (list_of T.meaning S.content objects.now) self.now }
+        ensures { refusal_in result ≡ set_refusal objects.now self.now i }
+    {
+        if self.len <= i {
+            return Err(Refusal::OutOfRange);
+        }
+        let o = self.object_at(objects, i);
+        objects.may_write(o)
+    }
+
     /// Whether the elements `from` up to `to`, all of one row group, may be written. Takes no memory.
     ///
     /// Refused with `OutOfRange` (14) exactly where `from` is above `to`, `to` is past the end, or the part is not empty and
