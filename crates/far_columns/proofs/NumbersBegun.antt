@@ -1,9 +1,10 @@
 -- Columns of numbers whose next places begin row groups: one gets an object, and then the others do.
-use Rattle.std.proofs.Common.{◌≡◌, ℕ, ℤ, ◌+◌, ◌-◌, ◌*◌, Bool, true, false, cond, inl, inr, List, [], ◌∷◌, ◌++◌, length, Option, None, Some, refl, sym, ap, ◌∙◌, arith}
-use Rattle.std.specs.Prelude.{slice_get, slice_set, slice_index, ◌⊎◌, not, is_some}
+use Rattle.std.proofs.Common.{◌≡◌, ℕ, ℤ, ◌+◌, ◌-◌, ◌*◌, ◌<◌, ◌≤◌, Bool, true, false, cond, inl, inr, List, [], ◌∷◌, ◌++◌, length, get_or, set, map, take, Option, None, Some, refl, sym, ap, subst, ◌∙◌, arith}
+use Rattle.std.specs.Prelude.{All, slice_get, slice_set, slice_index, ◌⊎◌, not, is_some}
 use Rattle.std.specs.Option.{option_map_or}
 use Rattle.std.proofs.lemmas.Bool.{eqb-true}
-use Rattle.std.proofs.lemmas.List.{length_push}
+use Rattle.std.proofs.lemmas.List.{length_push, length-map, get_or-map, take_all, take_more, take_more_set}
+use Rattle.std.proofs.lemmas.List.Elements.{All-map}
 use Rattle.far_scopes.proofs.WordPlaces.{slice_get-push_last}
 use Rattle.far_types.specs.declared.refusal.Refusal.{Refusal}
 use Rattle.far_types.specs.declared.refusal.Refusal.TheVariants as refusal
@@ -12,9 +13,10 @@ use Rattle.far_log.specs.Room.{spaces_of, lowest_for, fits_in, fit_in_order}
 use Rattle.far_scopes.specs.Movement.{Movement}
 use Rattle.far_scopes.specs.Effects.{created, new_entry}
 use Rattle.far_scopes.specs.Refusing.{no_room, write_refusal}
-use Rattle.far_vector.specs.Vector.{Vector, object_at}
+use Rattle.far_vector.specs.Vector.{Vector, IsShaped, object_at}
 use Rattle.far_vector.specs.Effects.{is_full, pushed, pushed_in, next_name, next_group, range_written}
 use Rattle.far_vector.specs.Refusing.{push_refusal}
+use Rattle.far_columns.specs.NumbersTogether.{NumberColumns}
 
 module _ {K : Type 0} (m mid : Movement (Option ℤ) K) (c c' : Vector (Option ℤ)) (x : Option ℤ) (full : is_full c ≡ true) (is : c' ≡ pushed c (length m.entries)) (written : mid ≡ pushed_in m c x) where
   -- there is an object more
@@ -42,6 +44,19 @@ module _ {K : Type 0} (m mid : Movement (Option ℤ) K) (c c' : Vector (Option �
       ∙ ap (slice_get (c.objects ++ length m.entries ∷ [])) groups
       ∙ slice_get-push_last c.objects (length m.entries)
       ∙ ap Some number
+
+-- the sizes of row groups, noted one after the other
+module _ (columns : NumberColumns) (sizes : List ℕ) where
+  pub sizes-more : (k : ℕ) (c : Vector (Option ℤ)) → k < length columns → k < length sizes → c ≡ get_or columns k c → take k sizes ≡ take k (map (λ c. c.size) columns) → take (k + 1) (set sizes k c.size) ≡ take (k + 1) (map (λ c. c.size) columns)
+  sizes-more k c within inside is so =
+      let size : c.size ≡ get_or (map (λ c. c.size) columns) k c.size = ap (λ c. c.size) is ∙ sym (get_or-map (λ c. c.size) columns k c c.size within) in
+      take_more_set sizes k c.size inside ∙ ap (λ l. l ++ c.size ∷ []) so ∙ ap (λ s. take k (map (λ c. c.size) columns) ++ s ∷ []) size
+      ∙ sym (take_more (map (λ c. c.size) columns) k c.size (omega (arith, within, length-map columns (λ c. c.size))))
+
+  pub sizes-some : (k : ℕ) → length columns ≤ k → k ≤ length columns → All IsShaped columns → take k sizes ≡ take k (map (λ c. c.size) columns) → All (λ size. 0 < size) (take (length columns) sizes)
+  sizes-some k past within shaped so =
+      let all : k ≡ length columns = omega (arith, past, within) in
+      subst (λ n. All (λ size. 0 < size) (take n sizes)) all (subst (All (λ size. 0 < size)) (sym (so ∙ take_all k (map (λ c. c.size) columns) (omega (arith, past, length-map columns (λ c. c.size))))) (All-map (λ size. 0 < size) (λ c. c.size) columns (λ k d below. (shaped k d below).some)))
 
 -- where the first list finds no room, they do not all
 pub none-fits : (spaces : List ℕ) (n : ℕ) (ns : List ℕ) → is_some (lowest_for spaces n) ≡ false → fit_in_order spaces (n ∷ ns) ≡ false

@@ -22,7 +22,7 @@ use far_types::Refusal;
 use far_vector::FarVector;
 use std::alloc::Global;
 use std::marker::Model;
-pub use together::{push_numbers, unpush_numbers};
+pub use together::{may_push_numbers, push_numbers, unpush_numbers};
 
 /// A column of numbers, each of which may be missing. The numbers of a row group are the list of one object of the
 /// `Objects<Option<i64>, S>` that each call names; in places that are not yet used stands 0.
@@ -210,6 +210,13 @@ impl IntColumn {
         let _len = self.vector.len();
         let pieces = self.vector.pieces(objects, from, to)?;
         Ok(Lents::new(pieces, alive.flags(from, to)))
+    }
+
+    // How many places a row group has.
+    fn size(&self) -> usize
+        ensures { result ≡ self.now.size }
+    {
+        self.vector.size()
     }
 
     // Whether the next number begins a row group.

@@ -70,6 +70,13 @@ impl<T: Elem> FarVector<T> {
         self.len
     }
 
+    /// How many places a row group has. Takes no memory.
+    pub fn size(&self) -> usize
+        ensures { result ≡ self.now.size }
+    {
+        self.size
+    }
+
     /// The number of a row group's object, and `None` exactly where there is no such row group. Takes no memory.
     pub fn object(&self, group: u32) -> Option<u32>
         ensures { result ≡ slice_get self.now.objects group }

@@ -2,6 +2,7 @@
 ghost use Rattle.std.specs.Prelude.{◌≡◌, ◌⊎◌, ◌≤◌, ◌+◌, ◌-◌, ◌^◌, if◌then◌else◌, ℕ, List, length, map, take, true, None, Some, OnOk, IfErr, OnErr};
 ghost use Rattle.far_codec.specs.Reading.{ints_meaning};
 ghost use Rattle.far_scopes.specs.Movement.{AreClean, AreHere};
+ghost use Rattle.far_scopes.specs.Refusing.{refusal_in};
 ghost use Rattle.far_vector.specs.Effects.{unpushed};
 ghost use Rattle.far_columns.specs.Numbers.{number_lists, numbers_in};
 ghost use Rattle.far_columns.specs.NumbersTogether.{AreNumberColumns, all_begin, all_pushed, all_numbers_with, KeepsNumbers, all_pushed_in, push_numbers_refusal};
@@ -12,12 +13,35 @@ mod filling;
 mod groups;
 
 use super::IntColumn;
-use checking::{all_begin, all_here, all_writable, known_shapes};
+use checking::{all_begin, all_here, all_writable, groups_fit, known_shapes};
 use far_scopes::Objects;
 use far_store::FarRead;
 use far_types::Refusal;
 use filling::fill_places;
 use groups::{begin_groups, unbegin_groups};
+
+/// Whether the next places of at most 16 columns may get a number each. Takes no memory. After `Ok` a `push_numbers` can be
+/// refused for memory alone.
+///
+/// Refused as `push_numbers` is: where row groups begin with `RegionFull` (17) exactly where the new objects, placed one after
+/// the other, do not find room beside all that is there; elsewhere with `Absent` (16) exactly where some column's last object is
+/// away, naming the first such, else with `EditsUsedUp` (24) exactly where some last object was written as often as objects
+/// may be.
+pub fn may_push_numbers<S: FarRead>(
+    objects: &Objects<Option<i64>, S>,
+    columns: &[IntColumn],
+) -> Result<(), Refusal>
+    requires are { AreNumberColumns (number_lists S.content objects.now) columns.now }
+    requires few { length columns.now ≤ 16 }
+    ensures { refusal_in result ≡ push_numbers_refusal objects.now columns.now }
+{
+    known_shapes(columns);
+    if all_begin(columns) {
+        return groups_fit(objects, columns);
+    }
+    all_here(objects, columns)?;
+    all_writable(objects, columns)
+}
 
 /// Appends a number to each of several columns, to all or to none. Where the next places begin row groups an object is made
 /// for each column; else the last object of each is written in place.

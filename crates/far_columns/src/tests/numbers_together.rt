@@ -1,12 +1,12 @@
 // Numbers for several columns at once: worked examples.
-ghost use Rattle.std.specs.Prelude.{◌≡◌, ◌<◌, ◌∷◌, ℕ, pos, [], length, true, Some, IfOk, OnOk};
+ghost use Rattle.std.specs.Prelude.{◌≡◌, ◌<◌, ◌≤◌, ◌∷◌, ℕ, pos, [], length, true, Some, IfOk, OnOk};
 ghost use Rattle.far_vector.specs.Vector.{IsVector};
 ghost use Rattle.far_columns.specs.Numbers.{number_lists};
 ghost use Rattle.far_columns.specs.NumbersTogether.{NumberColumns, AreNumberColumns, all_begin, all_pushed};
 ghost use Rattle.far_columns.specs.NumbersBack.{AreBegunLast};
 
 use super::moving::send_away;
-use crate::{IntColumn, push_numbers, unpush_numbers};
+use crate::{IntColumn, may_push_numbers, push_numbers, unpush_numbers};
 use far_scopes::Objects;
 use far_store::{AgentStore, FarRead, FarStore};
 use far_types::Refusal;
@@ -64,11 +64,13 @@ fn are_at<S: FarRead>(
 }
 
 /// Two columns in row groups of two places: whether each number is at its place, in its own column, and each row group has
-/// its object, the first column's before the second's.
+/// its object, the first column's before the second's. That the numbers may be pushed is answered before.
 fn pushed_to_both<S: FarRead>(alloc: Global, _store: &S) -> Result<bool, Refusal> {
     let mut objects: Objects<Option<i64>, S> = Objects::new(alloc, 7, 2, 8, 9, 9)?;
     let mut columns = two_columns(alloc, &objects, 2)?;
+    may_push_numbers(&objects, &columns)?;
     push(&mut objects, &mut columns, &[Some(5), Some(-3)])?;
+    may_push_numbers(&objects, &columns)?;
     push(&mut objects, &mut columns, &[None, Some(7)])?;
     push(&mut objects, &mut columns, &[Some(9), None])?;
     let begun = columns[0].object(1) == Some(2) && columns[1].object(1) == Some(3);
@@ -80,15 +82,29 @@ fn pushed_to_both<S: FarRead>(alloc: Global, _store: &S) -> Result<bool, Refusal
     )
 }
 
+/// Why a number for each column is refused: as asked before, and as the call answers.
+fn refused<S: FarRead>(
+    objects: &mut Objects<Option<i64>, S>,
+    columns: &mut [IntColumn],
+    numbers: &[Option<i64>],
+) -> [Option<Refusal>; 2]
+    requires are { AreNumberColumns (number_lists S.content objects.old) columns.old }
+    requires few { length columns.old ≤ 16 }
+    ensures { AreNumberColumns (number_lists S.content objects.new) columns.new }
+{
+    let asked = may_push_numbers(objects, columns).err();
+    [asked, push(objects, columns, numbers).err()]
+}
+
 /// Room for one row group alone: why a number for each of two columns is refused, and how many objects there are, and
 /// numbers in the first column.
 fn refused_for_room<S: FarRead>(
     alloc: Global,
     _store: &S,
-) -> Result<(Option<Refusal>, u32, usize), Refusal> {
+) -> Result<([Option<Refusal>; 2], u32, usize), Refusal> {
     let mut objects: Objects<Option<i64>, S> = Objects::new(alloc, 7, 1, 3, 9, 9)?;
     let mut columns = two_columns(alloc, &objects, 2)?;
-    let refused = push(&mut objects, &mut columns, &[Some(5), Some(6)]).err();
+    let refused = refused(&mut objects, &mut columns, &[Some(5), Some(6)]);
     Ok((refused, objects.count(), columns[0].len()))
 }
 
@@ -96,12 +112,12 @@ fn refused_for_room<S: FarRead>(
 fn refused_for_writes<S: FarRead>(
     alloc: Global,
     _store: &S,
-) -> Result<(Option<Refusal>, bool), Refusal> {
+) -> Result<([Option<Refusal>; 2], bool), Refusal> {
     let mut objects: Objects<Option<i64>, S> = Objects::new(alloc, 7, 2, 8, 1, 9)?;
     let mut columns = two_columns(alloc, &objects, 4)?;
     push(&mut objects, &mut columns, &[Some(5), Some(6)])?;
     push(&mut objects, &mut columns, &[Some(7), Some(8)])?;
-    let refused = push(&mut objects, &mut columns, &[Some(9), Some(10)]).err();
+    let refused = refused(&mut objects, &mut columns, &[Some(9), Some(10)]);
     Ok((
         refused,
         are_at(&objects, &columns, 2, 1, [Some(7), Some(8)])?,
@@ -132,12 +148,12 @@ fn send_group_away<S: FarStore>(
 fn refused_away<S: FarStore>(
     alloc: Global,
     store: &S,
-) -> Result<(Option<Refusal>, usize), Refusal> {
+) -> Result<([Option<Refusal>; 2], usize), Refusal> {
     let mut objects: Objects<Option<i64>, S> = Objects::new(alloc, 7, 2, 8, 9, 9)?;
     let mut columns = two_columns(alloc, &objects, 4)?;
     push(&mut objects, &mut columns, &[Some(5), Some(6)])?;
     send_group_away(alloc, &mut objects, store, &columns[1], 0)?;
-    let refused = push(&mut objects, &mut columns, &[Some(7), Some(8)]).err();
+    let refused = refused(&mut objects, &mut columns, &[Some(7), Some(8)]);
     Ok((refused, columns[0].len()))
 }
 
@@ -220,7 +236,10 @@ fn each_column_gets_its_own_number(rt: HostRuntime) -> Result<(), Fail> {
 fn a_full_region_refuses_a_number_to_all_columns(rt: HostRuntime) -> Result<(), Fail> {
     let store = AgentStore::new(&rt, rt.alloc(), 4)?;
     let (refused, objects, numbers) = refused_for_room(rt.alloc(), &store)?;
-    assert_eq!(rt; refused, Some(Refusal::RegionFull));
+    assert_eq!(rt;
+        refused,
+        [Some(Refusal::RegionFull), Some(Refusal::RegionFull)]
+    );
     assert_eq!(rt; objects, 0);
     assert_eq!(rt; numbers, 0);
     Ok(())
@@ -230,7 +249,10 @@ fn a_full_region_refuses_a_number_to_all_columns(rt: HostRuntime) -> Result<(), 
 fn objects_written_out_refuse_a_number_to_all_columns(rt: HostRuntime) -> Result<(), Fail> {
     let store = AgentStore::new(&rt, rt.alloc(), 4)?;
     let (refused, kept) = refused_for_writes(rt.alloc(), &store)?;
-    assert_eq!(rt; refused, Some(Refusal::EditsUsedUp));
+    assert_eq!(rt;
+        refused,
+        [Some(Refusal::EditsUsedUp), Some(Refusal::EditsUsedUp)]
+    );
     assert!(rt; kept);
     Ok(())
 }
@@ -239,13 +261,11 @@ fn objects_written_out_refuse_a_number_to_all_columns(rt: HostRuntime) -> Result
 fn an_object_that_is_away_refuses_a_number_to_all_columns(rt: HostRuntime) -> Result<(), Fail> {
     let store = AgentStore::new(&rt, rt.alloc(), 4)?;
     let (refused, numbers) = refused_away(rt.alloc(), &store)?;
-    assert_eq!(rt;
-        refused,
-        Some(Refusal::Absent {
-            column: 1,
-            group: 0
-        })
-    );
+    let away = Some(Refusal::Absent {
+        column: 1,
+        group: 0,
+    });
+    assert_eq!(rt; refused, [away, away]);
     assert_eq!(rt; numbers, 1);
     Ok(())
 }

@@ -65,3 +65,23 @@ pub(super) fn all_writable<S: FarRead>(
     }
     Ok(())
 }
+
+// Whether new row groups, placed in order, find room.
+pub(super) fn groups_fit<S: FarRead>(
+    objects: &Objects<Option<i64>, S>,
+    columns: &[IntColumn],
+) -> Result<(), Refusal>
+    requires few { length columns.now ≤ 16 }
+    requires shaped { All IsShaped columns.now }
+    ensures { refusal_in result ≡ first_of (no_room_for_groups objects.now columns.now ∷ []) }
+{
+    let mut sizes = [0; 16];
+    for k in 0..columns.len() {
+        sizes[k] = columns[k].size();
+    }
+    if objects.fits_in_order(&sizes[..columns.len()]) {
+        Ok(())
+    } else {
+        Err(Refusal::RegionFull)
+    }
+}
