@@ -6,6 +6,7 @@ ghost use Rattle.far_rows.specs.Slots.{slots_from, kind_of};
 ghost use Rattle.far_rows.specs.Rows.{AreRows};
 ghost use Rattle.far_rows.specs.Opening.{empty_rows};
 
+mod asking;
 mod opening;
 mod pushing;
 mod reading;

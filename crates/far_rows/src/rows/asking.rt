@@ -1,0 +1,33 @@
+// Whether a row may be appended.
+ghost use Rattle.std.specs.Prelude.{◌≡◌, false, length};
+ghost use Rattle.far_scopes.specs.Refusing.{refusal_in};
+ghost use Rattle.far_columns.specs.RefusingTogether.{any_too_long};
+ghost use Rattle.far_rows.specs.Refusing.{push_refusal};
+
+use super::Rows;
+use crate::new_row::NewRow;
+use far_columns::{may_push_numbers, may_push_texts};
+use far_store::FarRead;
+use far_types::Refusal;
+
+impl<S: FarRead> Rows<S> {
+    /// Whether a row may be appended, whose texts have at most 4,096 bytes each. Takes no memory.
+    ///
+    /// Refused with `Absent` (16) exactly where the row group of the next place is begun and some object of it is away, naming
+    /// the first in the order of the columns; else with `ChunkFull` (11) exactly where the form of some column's texts would be
+    /// longer than one may be; else with `RegionFull` (17) exactly where new forms, or new objects of numbers, do not find
+    /// room beside all that is there; else with `EditsUsedUp` (24) exactly where the row group is begun and some object of it
+    /// was written as often as objects may be. Where it is not refused, `push` can be refused with `NoMemory` (1) alone.
+    pub fn may_push(&self, row: &NewRow) -> Result<(), Refusal>
+        requires numbers { length row.now.numbers ≡ length self.now.numbers }
+        requires texts { length row.now.texts ≡ length self.now.texts }
+        requires short { (any_too_long row.now.texts).0 ≡ false }
+        ensures { refusal_in result ≡ push_refusal S.content self.now row.now }
+    {
+        // It tells that a table has at most 16 columns.
+        let len = self.len();
+        self.here((len / self.size as usize) as u32)?;
+        may_push_texts(&self.text_objects, &self.texts, row.texts())?;
+        may_push_numbers(&self.number_objects, &self.numbers)
+    }
+}
