@@ -7,3 +7,5 @@ pub mod Filling
 pub mod Opening
 pub mod EmptySlots
 pub mod EmptyRows
+pub mod InUse
+pub mod Moved

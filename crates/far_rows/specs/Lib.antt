@@ -3,3 +3,4 @@ pub mod Slots
 pub mod Rows
 pub mod Refusing
 pub mod Opening
+pub mod Moving

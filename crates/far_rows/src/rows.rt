@@ -6,8 +6,8 @@ ghost use Rattle.far_rows.specs.Slots.{slots_from, kind_of};
 ghost use Rattle.far_rows.specs.Rows.{AreRows};
 ghost use Rattle.far_rows.specs.Opening.{empty_rows};
 
+mod moving;
 mod opening;
-
 mod pushing;
 
 use super::slot::Slot;
