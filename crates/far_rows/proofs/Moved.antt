@@ -1,6 +1,7 @@
 -- Rows whose objects moved: each has the list that it had, so the rows have the cells that they had.
 use Rattle.std.proofs.Common.{◌≡◌, ℕ, List, [], ◌∷◌, length, map, Option, refl, ap, ◌∙◌}
-use Rattle.std.specs.Prelude.{ℤ, Result, OnOk, OnErr}
+use Rattle.std.specs.Prelude.{ℤ, Result, OnOk, OnErr, None, Some, IsSomeAnd}
+use Rattle.far_scopes.specs.Effects.{arrived}
 use Rattle.far_types.specs.declared.refusal.Refusal.{Refusal}
 use Rattle.far_codec.specs.Reading.{ints_meaning}
 use Rattle.far_scopes.specs.Movement.{Movement, AreClean}
@@ -20,6 +21,14 @@ module _ {A B : Type 0} where
 -- objects of which there are as many once something is done are as many once that is done or refused
 pub as-many : {X K A : Type 0} (old new done : Movement X K) (result : Result A Refusal) → OnOk result (new ≡ done) → OnErr result (new ≡ old) → length done.entries ≡ length old.entries → length new.entries ≡ length old.entries
 as-many old new done result ok err same = by-outcome result ok err (λ e. ap (λ m. length m.entries) e ∙ same) (ap (λ m. length m.entries))
+
+-- so are they where an object comes back
+came : {X K : Type 0} (old new : Movement X K) (o : ℕ) (list : Option (List X)) → IsSomeAnd list (λ xs. new ≡ arrived old o xs) → length new.entries ≡ length old.entries
+came old new o (Some xs) is = ap (λ m. length m.entries) is
+came old new o None is = absurd is
+
+pub as-many-there : {X K A : Type 0} (old new : Movement X K) (o : ℕ) (list : Option (List X)) (result : Result A Refusal) → OnOk result (IsSomeAnd list (λ xs. new ≡ arrived old o xs)) → OnErr result (new ≡ old) → length new.entries ≡ length old.entries
+as-many-there old new o list result ok err = by-outcome result ok err (came old new o list) (ap (λ m. length m.entries))
 
 module _ {K : Type 0} (content : K → List ℕ) {r : Rows K} where
   pub numbers-moved : AreRows content r → (m : Movement (Option ℤ) K) → ((o : ℕ) → number_lists content m o ≡ number_lists content r.number_objects o) → length m.entries ≡ length r.number_objects.entries → AreClean ints_meaning content m → AreRows content (record r { number_objects = m })

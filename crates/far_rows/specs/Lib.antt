@@ -4,3 +4,4 @@ pub mod Rows
 pub mod Refusing
 pub mod Opening
 pub mod Moving
+pub mod Jobs

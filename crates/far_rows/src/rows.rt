@@ -6,6 +6,8 @@ ghost use Rattle.far_rows.specs.Slots.{slots_from, kind_of};
 ghost use Rattle.far_rows.specs.Rows.{AreRows};
 ghost use Rattle.far_rows.specs.Opening.{empty_rows};
 
+mod compacting;
+mod jobs;
 mod moving;
 mod opening;
 mod pushing;
