@@ -18,6 +18,7 @@ pub mod Alike
 pub mod NumbersTogether
 pub mod NumbersPushed
 pub mod NumbersBegun
+pub mod NumbersBack
 pub mod Checking
 pub mod Fullness
 pub mod MadeForms

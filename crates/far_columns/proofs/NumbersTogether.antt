@@ -14,6 +14,7 @@ use Rattle.far_scopes.specs.declared.entry.Entry.{Entry}
 use Rattle.far_scopes.specs.Memory.{at_of}
 use Rattle.far_scopes.specs.Movement.{Movement, ChangesObject}
 use Rattle.far_scopes.specs.Refusing.{write_refusal, no_room}
+use Rattle.far_scopes.proofs.Pins.{length-with}
 use Rattle.far_vector.specs.Vector.{Vector, IsShaped, AreApart, object_at}
 use Rattle.far_vector.specs.Effects.{is_full, pushed, pushed_in}
 use Rattle.far_vector.specs.Refusing.{push_refusal}
@@ -66,6 +67,10 @@ write-other old new o p changes same apart =
 
 pub changes-same : {K : Type 0} (m : Movement (Option ℤ) K) (v : Vector (Option ℤ)) (x : Option ℤ) → (pushed_in m v x).changes ≡ m.changes
 changes-same m v x = elim (cases_Bool (is_full v)) [ inl full ↦ rw full refl | inr begun ↦ rw begun refl ]
+
+-- a number more in a row group that is begun makes no object
+pub count-same : {K : Type 0} (m : Movement (Option ℤ) K) (v : Vector (Option ℤ)) (x : Option ℤ) → is_full v ≡ false → length (pushed_in m v x).entries ≡ length m.entries
+count-same m v x begun = rw begun (length-with m.entries (object_at v v.len) (λ entry. record entry { version = entry.version + 1 }))
 
 -- apart either way
 pub apart-turned : (v w : Vector (Option ℤ)) → AreApart v w → AreApart w v

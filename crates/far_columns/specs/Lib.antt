@@ -7,3 +7,4 @@ pub mod Numbers
 pub mod Together
 pub mod NumbersTogether
 pub mod RefusingTogether
+pub mod NumbersBack

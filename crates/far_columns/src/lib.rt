@@ -8,7 +8,7 @@ mod lent;
 mod text_column;
 
 pub use alive::Alive;
-pub use int_column::{IntColumn, push_numbers};
+pub use int_column::{IntColumn, push_numbers, unpush_numbers};
 pub use lent::{Lent, Lents};
 pub use text_column::{TextCell, TextCells, TextColumn, may_push_texts, push_texts};
 

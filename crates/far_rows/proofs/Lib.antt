@@ -1,4 +1,6 @@
 pub mod MoreCells
+pub mod OneCell
+pub mod CellsSet
 pub mod Beginning
 pub mod Grown
 pub mod GrownNumbers
@@ -9,3 +11,5 @@ pub mod EmptySlots
 pub mod EmptyRows
 pub mod InUse
 pub mod Moved
+pub mod Reading
+pub mod LentNumbers

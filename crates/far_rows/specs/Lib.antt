@@ -2,6 +2,8 @@ pub mod Cells
 pub mod Slots
 pub mod Rows
 pub mod Refusing
+pub mod Setting
+pub mod Lending
 pub mod Opening
 pub mod Moving
 pub mod Jobs

@@ -11,6 +11,7 @@ use Rattle.far_rows.specs.declared.slot.Slot.TheVariants as slot
 use Rattle.far_rows.specs.declared.object.Object.{Object}
 use Rattle.far_rows.specs.declared.object.Object.TheVariants as object
 use Rattle.far_rows.specs.Rows.{Rows, object_of}
+use Rattle.far_rows.specs.Refusing.{no_column}
 
 -- the object of this number, among those of a slot's kind
 abbrev pub object_in : Slot → ℕ → Object
@@ -54,7 +55,7 @@ module _ {K : Type 0} where
   module _ (r : Rows K) (column group : ℕ) where
     -- there is no such column, or no place of the row group is used
     abbrev pub object_refusal : Option Refusal
-    object_refusal = first_of ((not (nat_lt column (length r.slots)), refusal.NoColumn) ∷ (is_none (object_at r column group), refusal.OutOfRange) ∷ [])
+    object_refusal = first_of (no_column r column ∷ (is_none (object_at r column group), refusal.OutOfRange) ∷ [])
 
     abbrev pub pin_refusal : Option Refusal
     pin_refusal = option_or object_refusal (option_and_then (pin_refusal_of r) (object_at r column group))

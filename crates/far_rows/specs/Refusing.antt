@@ -1,15 +1,17 @@
 -- Why calls on rows are refused.
-use Rattle.std.specs.Prelude.{ℕ, ◌/◌, false, Bool, List, ◌∷◌, map, length, Option}
+use Rattle.std.specs.Prelude.{ℕ, ◌/◌, ◌||◌, nat_lt, not, false, Bool, List, [], ◌∷◌, map, length, Option, option_map, slice_get, is_none}
 use Rattle.std.specs.Option.{option_map_or, option_or}
 use Rattle.far_types.specs.declared.refusal.Refusal.{Refusal}
 use Rattle.far_types.specs.declared.refusal.Refusal.TheVariants as refusal
+use Rattle.far_types.specs.Bounds.{is_int, is_text}
 use Rattle.far_types.specs.FirstOf.{first_of}
 use Rattle.far_scopes.specs.Refusing.{absent}
 use Rattle.far_columns.specs.NumbersTogether.{push_numbers_refusal}
 use Rattle.far_columns.specs.RefusingTogether.{push_texts_refusal}
+use Rattle.far_vector.specs.Pieces.{touched}
 use Rattle.far_rows.specs.declared.slot.Slot.{Slot}
 use Rattle.far_rows.specs.declared.slot.Slot.TheVariants as slot
-use Rattle.far_rows.specs.Slots.{Values}
+use Rattle.far_rows.specs.Slots.{Values, kind_of}
 use Rattle.far_rows.specs.Rows.{Rows, object_of}
 
 module _ {K : Type 0} (r : Rows K) where
@@ -21,6 +23,41 @@ module _ {K : Type 0} (r : Rows K) where
   -- the columns of a row group, in order: its object is away
   abbrev pub absents : ℕ → List (Bool × Refusal)
   absents g = map (absent_at g) r.slots
+
+  -- there is no such place
+  abbrev pub no_row : ℕ → Bool × Refusal
+  no_row place = (not (nat_lt place (length r.alive)), refusal.NoRow)
+
+  -- the places `from` up to `to` are not all there
+  abbrev pub no_range : ℕ → ℕ → Bool × Refusal
+  no_range from to = (nat_lt to from || nat_lt (length r.alive) to, refusal.OutOfRange)
+
+  module _ (column : ℕ) where
+    -- there is no such column
+    abbrev pub no_column : Bool × Refusal
+    no_column = (is_none (slice_get r.slots column), refusal.NoColumn)
+
+    -- it is of texts
+    abbrev pub of_texts : Bool × Refusal
+    of_texts = (is_text (option_map kind_of (slice_get r.slots column)), refusal.WrongKind)
+
+    -- it is of numbers
+    abbrev pub of_numbers : Bool × Refusal
+    of_numbers = (is_int (option_map kind_of (slice_get r.slots column)), refusal.WrongKind)
+
+    -- its object of a row group is away
+    abbrev pub absent_in : ℕ → Bool × Refusal
+    absent_in g = option_map_or (absent_at g) (slice_get r.slots column) (false, refusal.StaleJob)
+
+  abbrev pub cell_refusal : ℕ → ℕ → Option Refusal
+  cell_refusal place column = first_of (no_column column ∷ no_row place ∷ absent_in column (place / r.size) ∷ [])
+
+  abbrev pub text_refusal : ℕ → ℕ → Option Refusal
+  text_refusal column place = first_of (no_column column ∷ of_numbers column ∷ no_row place ∷ absent_in column (place / r.size) ∷ [])
+
+  -- a part of a column of numbers, whose row groups are looked at in order
+  abbrev pub ints_refusal : ℕ → ℕ → ℕ → Option Refusal
+  ints_refusal column from to = first_of (no_column column ∷ of_texts column ∷ no_range from to ∷ map (absent_in column) (touched r.size from to))
 
 -- a row is refused where the object of some column in the row group of the next place is away, where a text or a number
 -- cannot be pushed; of numbers and texts alike 17 comes before 24, which arise where row groups are begun alone

@@ -11,6 +11,8 @@ mod jobs;
 mod moving;
 mod opening;
 mod pushing;
+mod reading;
+mod setting;
 
 use super::slot::Slot;
 use far_columns::{Alive, IntColumn, TextColumn};

@@ -1,11 +1,12 @@
 // Numbers for several columns at once: worked examples.
-ghost use Rattle.std.specs.Prelude.{◌≡◌, ◌<◌, ℕ, length, IfOk};
+ghost use Rattle.std.specs.Prelude.{◌≡◌, ◌<◌, ◌∷◌, ℕ, pos, [], length, true, Some, IfOk, OnOk};
 ghost use Rattle.far_vector.specs.Vector.{IsVector};
 ghost use Rattle.far_columns.specs.Numbers.{number_lists};
-ghost use Rattle.far_columns.specs.NumbersTogether.{NumberColumns, AreNumberColumns};
+ghost use Rattle.far_columns.specs.NumbersTogether.{NumberColumns, AreNumberColumns, all_begin, all_pushed};
+ghost use Rattle.far_columns.specs.NumbersBack.{AreBegunLast};
 
 use super::moving::send_away;
-use crate::{IntColumn, push_numbers};
+use crate::{IntColumn, push_numbers, unpush_numbers};
 use far_scopes::Objects;
 use far_store::{AgentStore, FarRead, FarStore};
 use far_types::Refusal;
@@ -20,7 +21,8 @@ fn two_columns<S: FarRead>(
     size: u32,
 ) -> Result<[IntColumn; 2], Refusal>
     requires { 0 < size }
-    ensures { IfOk result (λ columns. AreNumberColumns (number_lists S.content _objects.now) columns) }
+    ensures are { IfOk result (λ columns. AreNumberColumns (number_lists S.content _objects.now) columns) }
+    ensures empty { IfOk result (λ columns. columns ≡ record { column = 0; size = size; objects = []; len = 0; blank = Some (pos 0) } ∷ record { column = 1; size = size; objects = []; len = 0; blank = Some (pos 0) } ∷ []) }
 {
     Ok([
         IntColumn::new(alloc, 0, size)?,
@@ -35,7 +37,9 @@ fn push<S: FarRead>(
     numbers: &[Option<i64>],
 ) -> Result<(), Refusal>
     requires { AreNumberColumns (number_lists S.content objects.old) columns.old }
-    ensures { AreNumberColumns (number_lists S.content objects.new) columns.new }
+    ensures are { AreNumberColumns (number_lists S.content objects.new) columns.new }
+    ensures pushed { OnOk result (columns.new ≡ all_pushed (length objects.old.entries) columns.old) }
+    ensures last { OnOk result (all_begin columns.old ≡ true → AreBegunLast objects.new columns.new) }
 {
     if objects.count() >= 8 || columns.len() > 8 || numbers.len() != columns.len() {
         return Err(Refusal::TableFull);
@@ -165,6 +169,43 @@ fn repeated<S: FarRead>(alloc: Global, _store: &S) -> Result<bool, Refusal> {
     let mut columns = two_columns(alloc, &objects, 2)?;
     let kept = push_again(&mut objects, &mut columns, &[Some(5), Some(6)])?;
     Ok(kept && are_at(&objects, &columns, 1, 0, [Some(5), Some(6)])?)
+}
+
+/// Two columns whose row groups have one place, with one number each, so that the next places begin row groups.
+fn one_in_each<S: FarRead>(
+    alloc: Global,
+    objects: &mut Objects<Option<i64>, S>,
+    numbers: [Option<i64>; 2],
+) -> Result<[IntColumn; 2], Refusal>
+    ensures are { IfOk result (λ columns. AreNumberColumns (number_lists S.content objects.new) columns) }
+    ensures begin { IfOk result (λ columns. all_begin columns ≡ true) }
+    ensures two { IfOk result (λ columns. length columns ≡ 2) }
+{
+    let mut columns = two_columns(alloc, objects, 1)?;
+    push(objects, &mut columns, &numbers)?;
+    Ok(columns)
+}
+
+/// Numbers that begin row groups are taken back: whether the columns and the objects are as before, and whether other numbers
+/// get the same objects then.
+fn pushed_again_once_taken_back<S: FarRead>(alloc: Global, _store: &S) -> Result<bool, Refusal> {
+    let mut objects: Objects<Option<i64>, S> = Objects::new(alloc, 7, 2, 8, 9, 9)?;
+    let mut columns = one_in_each(alloc, &mut objects, [Some(5), Some(-3)])?;
+    push(&mut objects, &mut columns, &[Some(7), None])?;
+    unpush_numbers(&mut objects, &mut columns);
+    let back = objects.count() == 2 && columns[0].object(1).is_none();
+    let kept = are_at(&objects, &columns, 1, 0, [Some(5), Some(-3)])?;
+    push(&mut objects, &mut columns, &[Some(9), Some(11)])?;
+    let same = columns[0].object(1) == Some(2) && columns[1].object(1) == Some(3);
+    Ok(back && kept && same && are_at(&objects, &columns, 2, 1, [Some(9), Some(11)])?)
+}
+
+#[test]
+fn numbers_taken_back_give_back_their_objects(rt: HostRuntime) -> Result<(), Fail> {
+    let store = AgentStore::new(&rt, rt.alloc(), 4)?;
+    let same = pushed_again_once_taken_back(rt.alloc(), &store)?;
+    assert!(rt; same);
+    Ok(())
 }
 
 #[test]

@@ -43,7 +43,7 @@ pub fn push_texts<S: FarRead>(
     ensures pushed { OnOk result (columns.new ≡ all_pushed (length objects.old.entries) columns.old) }
     ensures begun { OnOk result (all_begin columns.old ≡ true → objects.new ≡ all_created objects.old columns.old (next_forms (lists_of S.content objects.old) (length objects.old.entries) columns.old texts.now)) }
     ensures replaced { OnOk result (all_begin columns.old ≡ false → AreReplaced objects.old (next_forms (lists_of S.content objects.old) (length objects.old.entries) columns.old texts.now) objects.new) }
-    ensures count { OnOk result (length objects.new.entries ≡ (if all_begin columns.old then length objects.old.entries + length columns.old else length objects.old.entries)) }
+    ensures count { OnOk result (length objects.new.entries ≡ length objects.old.entries + (if all_begin columns.old then length columns.old else 0)) }
     ensures lists { OnOk result (ChangesTo (lists_of S.content objects.old) (lists_of S.content objects.new) (next_forms (lists_of S.content objects.old) (length objects.old.entries) columns.old texts.now)) }
     ensures are { AreColumns (lists_of S.content objects.new) columns.new }
     ensures texts { OnOk result (map (texts_in (lists_of S.content objects.new)) columns.new ≡ all_texts_with (lists_of S.content objects.old) columns.old texts.now) }

@@ -61,7 +61,7 @@ fn push_values<S: FarRead>(
     requires texts_free { push_texts_refusal S.content text_objects.old texts.old row.now.texts ≡ None }
     ensures numbers_pushed { OnOk result (numbers.new ≡ all_pushed (length number_objects.old.entries) numbers.old) }
     ensures numbers_moved { OnOk result (number_objects.new ≡ all_pushed_in number_objects.old numbers.old row.now.numbers) }
-    ensures numbers_count { OnOk result (length number_objects.new.entries ≡ (if all_begin numbers.old then length number_objects.old.entries + length numbers.old else length number_objects.old.entries)) }
+    ensures numbers_count { OnOk result (length number_objects.new.entries ≡ length number_objects.old.entries + (if all_begin numbers.old then length numbers.old else 0)) }
     ensures numbers { OnOk result (map (numbers_in S.content number_objects.new) numbers.new ≡ all_numbers_with (number_lists S.content number_objects.old) numbers.old row.now.numbers) }
     ensures numbers_are { AreNumberColumns (number_lists S.content number_objects.new) numbers.new }
     ensures numbers_clean { AreClean ints_meaning S.content number_objects.old → AreClean ints_meaning S.content number_objects.new }
@@ -69,7 +69,7 @@ fn push_values<S: FarRead>(
     ensures texts_pushed { OnOk result (texts.new ≡ all_texts_pushed (length text_objects.old.entries) texts.old) }
     ensures texts_begun { OnOk result (all_texts_begin texts.old ≡ true → text_objects.new ≡ all_created text_objects.old texts.old (next_forms (lists_of S.content text_objects.old) (length text_objects.old.entries) texts.old row.now.texts)) }
     ensures texts_replaced { OnOk result (all_texts_begin texts.old ≡ false → AreReplaced text_objects.old (next_forms (lists_of S.content text_objects.old) (length text_objects.old.entries) texts.old row.now.texts) text_objects.new) }
-    ensures texts_count { OnOk result (length text_objects.new.entries ≡ (if all_texts_begin texts.old then length text_objects.old.entries + length texts.old else length text_objects.old.entries)) }
+    ensures texts_count { OnOk result (length text_objects.new.entries ≡ length text_objects.old.entries + (if all_texts_begin texts.old then length texts.old else 0)) }
     ensures texts { OnOk result (map (texts_in (lists_of S.content text_objects.new)) texts.new ≡ all_texts_with (lists_of S.content text_objects.old) texts.old row.now.texts) }
     ensures texts_are { AreColumns (lists_of S.content text_objects.new) texts.new }
     ensures texts_clean { AreClean (λ bytes. bytes) S.content text_objects.old → AreClean (λ bytes. bytes) S.content text_objects.new }

@@ -43,6 +43,24 @@ const BEGINS: Case = Case {
     letters: [0, 4097],
 };
 
+/// Sends the first object of the second of two columns away, where that is wanted, and leaves both what they are.
+fn send_away_if<S: FarStore>(
+    alloc: Global,
+    objects: &mut Objects<u8, S>,
+    store: &S,
+    columns: &[TextColumn],
+    wanted: bool,
+) -> Result<(), Refusal>
+    requires are { AreColumns (lists_of S.content objects.old) columns.now }
+    requires two { length columns.now ≡ 2 }
+    ensures { AreColumns (lists_of S.content objects.new) columns.now }
+{
+    if !wanted {
+        return Ok(());
+    }
+    send_second_away(alloc, objects, store, columns)
+}
+
 /// Why the texts of a case may not be pushed.
 fn due<S: FarStore>(alloc: Global, store: &S, case: Case) -> Result<Option<Refusal>, Refusal> {
     let segments = case.segments;
@@ -53,9 +71,7 @@ fn due<S: FarStore>(alloc: Global, store: &S, case: Case) -> Result<Option<Refus
     let mut columns = two_columns(alloc, &objects, if case.begun { 4 } else { 1 });
     let first = [letters(alloc, 50)?, letters(alloc, 50)?];
     push(alloc, &mut objects, &mut columns, &first)?;
-    if case.away {
-        send_second_away(alloc, &mut objects, store, &columns)?;
-    }
+    send_away_if(alloc, &mut objects, store, &columns, case.away)?;
     let texts = [
         letters(alloc, case.letters[0])?,
         letters(alloc, case.letters[1])?,

@@ -1,4 +1,4 @@
-use Rattle.std.proofs.Common.{◌≡◌, ℕ, ◌+◌, Bool, true, false, if◌then◌else◌, inl, length, map, None, Some, sym, ap, subst, ◌∙◌}
+use Rattle.std.proofs.Common.{◌≡◌, ℕ, ◌+◌, Bool, true, false, if◌then◌else◌, inl, length, map, None, Some, sym, ap, subst, ◌∙◌, arith}
 use Rattle.std.specs.Prelude.{slice_get, ◌⊎◌, All}
 use Rattle.std.proofs.lemmas.List.Sums.{AllPass-from_list_all, list_all-from_AllPass}
 use Rattle.far_types.specs.declared.refusal.Refusal.TheVariants.{NoMemory}
@@ -474,11 +474,11 @@ returns-then-all_begin-clause-count g c =
     let m = c.args.objects.now in
     let columns = c.args.columns.now in
     let begins : all_begin columns ≡ true = sym c.all_begin.ensures ∙ c.if-all_begin.true in
-    on-ok c.begin_groups.result c.begin_groups.ensures.count (λ count. count ∙ sym (ap (λ (b : Bool). if b then length m.entries + length columns else length m.entries) begins))
+    on-ok c.begin_groups.result c.begin_groups.ensures.count (λ count. count ∙ sym (ap (λ (b : Bool). length m.entries + (if b then length columns else 0)) begins))
 
 pub returns-clause-count : goal.returns-clause-count
 returns-clause-count g c =
     let m = c.args.objects.now in
     let columns = c.args.columns.now in
     let begins : all_begin columns ≡ false = sym c.all_begin.ensures ∙ c.if-all_begin.false in
-    on-ok c.extend_groups.result c.extend_groups.ensures.count (λ count. count ∙ sym (ap (λ (b : Bool). if b then length m.entries + length columns else length m.entries) begins))
+    on-ok c.extend_groups.result c.extend_groups.ensures.count (λ count. count ∙ omega arith ∙ sym (ap (λ (b : Bool). length m.entries + (if b then length columns else 0)) begins))

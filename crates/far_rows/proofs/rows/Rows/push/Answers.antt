@@ -91,7 +91,7 @@ invariant_of-self-in_default g c =
     let many : length numbers ≡ length columns = ap length pushed ∙ as-many-numbers first columns in
     let numbers_is = with_items_is c.self.inside.numbers numbers (many ∙ sym c.self.inside.numbers.ok.0) in
     let are = are-numbers size len columns (subst (All IsShaped) c.deref.ensures.value c.known_numbers.ensures) inv.even_numbers in
-    let count = done.numbers_count ∙ ap (λ cs. if all_begin cs then first + length cs else first) c.deref_mut.ensures.value in
+    let count = done.numbers_count ∙ ap (λ cs. first + (if all_begin cs then length cs else 0)) c.deref_mut.ensures.value in
     let texts_before = c.self.inside.texts.items in
     let first_text = length c.self.inside.text_objects.entries in
     let texts = c.push_values-pushed.new.texts in
@@ -99,7 +99,7 @@ invariant_of-self-in_default g c =
     let texts_many : length texts ≡ length texts_before = ap length texts_pushed ∙ as-many-texts first_text texts_before in
     let texts_is = with_items_is c.self.inside.texts texts (texts_many ∙ sym c.self.inside.texts.ok.0) in
     let texts_are = are-texts size len texts_before (subst (All HasGroups) c.deref-2.ensures.value c.known_texts.ensures) inv.even_texts in
-    let texts_count = done.texts_count ∙ ap (λ cs. if all_texts_begin cs then first_text + length cs else first_text) c.deref_mut-2.ensures.value in
+    let texts_count = done.texts_count ∙ ap (λ cs. first_text + (if all_texts_begin cs then length cs else 0)) c.deref_mut-2.ensures.value in
     let now = length c.push_values-pushed.new.number_objects.entries in
     let texts_now = length c.push_values-pushed.new.text_objects.entries in
     let rows : AreRows content record {

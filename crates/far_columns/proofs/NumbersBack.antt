@@ -1,0 +1,147 @@
+-- Row groups that several columns of numbers begin together, the first column's first, and taking them back, the first
+-- column's last.
+use Rattle.std.proofs.Common.{◌≡◌, ℕ, zero, suc, ℤ, ◌+◌, ◌-◌, ◌*◌, ◌/◌, ◌<◌, true, List, [], ◌∷◌, length, get_or, map, take, Option, Some, refl, sym, ap, subst, ◌∙◌, arith}
+use Rattle.std.specs.Prelude.{All, AllPairs, is_some}
+use Rattle.std.specs.Option.{option_and_then, option_map_or}
+use Rattle.std.proofs.lemmas.Bool.{eqb-true}
+use Rattle.std.proofs.lemmas.List.{length-take-le, get_or_push}
+use Rattle.std.proofs.lemmas.List.Elements.{All-cons, All-head, All-tail, All-map}
+use Rattle.std.proofs.lemmas.List.Kept.{AllPairs-cons}
+use Rattle.std.proofs.lemmas.Nat.{div-mul-add}
+use Rattle.far_scopes.specs.Memory.{at_of}
+use Rattle.far_scopes.specs.Movement.{Movement, ChangesObject, is_local, pins_of}
+use Rattle.far_scopes.specs.Effects.{uncreated}
+use Rattle.far_vector.specs.Vector.{Vector, IsShaped, IsVector, AreApart, IsUntouched, elements, object_at}
+use Rattle.far_vector.specs.Vectors.{AreVectors, ChangesVector}
+use Rattle.far_vector.specs.Effects.{is_full, pushed, pushed_in, unpushed}
+use Rattle.far_columns.specs.NumbersTogether.{NumberLists, NumberColumns, KeepsNumbers}
+use Rattle.far_columns.specs.NumbersBack.{KeepsBelow, IsBegun, AreBegunFrom, AreBegunLast, all_uncreated}
+use Rattle.far_columns.proofs.NumbersTogether.{pairs-head, pairs-tail, apart-turned}
+use Rattle.far_columns.proofs.NumbersBegun.{one-more, alone, last}
+
+-- all but the first
+pub beside-tail : (lists : NumberLists) (c : Vector (Option ℤ)) (rest : NumberColumns) → AreVectors lists (c ∷ rest) → AreVectors lists rest
+beside-tail lists c rest beside = record { each = All-tail (IsVector lists) c rest beside.each; apart = pairs-tail AreApart c rest beside.apart }
+
+map-same : {X Y : Type 0} (f h : X → Y) (xs : List X) → All (λ x. h x ≡ f x) xs → map h xs ≡ map f xs
+map-same f h [] same = refl
+map-same f h (x ∷ xs) same = ap (λ y. y ∷ map h xs) (All-head (λ x. h x ≡ f x) x xs same) ∙ ap (λ l. f x ∷ l) (map-same f h xs (All-tail (λ x. h x ≡ f x) x xs same))
+
+module _ (old mid new : NumberLists) (c c' : Vector (Option ℤ)) (rest rest' : NumberColumns) (beside : AreVectors old (c ∷ rest)) (after : AreVectors mid rest') (keeps : KeepsNumbers old mid rest rest') where
+  apart-first : All (λ r. AreApart r c) rest
+  apart-first k d below = apart-turned c (get_or rest k d) (pairs-head AreApart c rest beside.apart k d below)
+
+  -- the first once the others are changed
+  pub first-stays : IsVector mid c
+  first-stays = keeps.is c (All-head (IsVector old) c rest beside.each) apart-first
+
+  -- and once it is changed too
+  module _ (first : ChangesVector mid new c c') where
+    other : (k : ℕ) (d : Vector (Option ℤ)) → k < length rest' → IsUntouched mid new c' (get_or rest' k d)
+    other k d below = first.others (get_or rest' k d) (after.each k d below) (apart-turned (get_or rest' k d) c (keeps.apart c (All-head (IsVector old) c rest beside.each) apart-first k d below))
+
+    pub beside-back : AreVectors new (c' ∷ rest')
+    beside-back = record {
+      each = All-cons (IsVector new) c' rest' first.is (λ k d below. (other k d below).is);
+      apart = AllPairs-cons AreApart c' rest' (λ k d below. (other k d below).apart) after.apart;
+    }
+
+    -- the numbers but the last of each
+    pub numbers-back : elements new c' ≡ take (c.len - 1) (elements mid c) → map (elements mid) rest' ≡ map (λ d. take (d.len - 1) (elements old d)) rest → map (elements new) (c' ∷ rest') ≡ map (λ d. take (d.len - 1) (elements old d)) (c ∷ rest)
+    numbers-back here others =
+        ap (λ l. l ∷ map (elements new) rest') (here ∙ ap (take (c.len - 1)) (keeps.numbers c (All-head (IsVector old) c rest beside.each) apart-first))
+        ∙ ap (λ l. take (c.len - 1) (elements old c) ∷ l) (map-same (elements mid) (elements new) rest' (λ k d below. (other k d below).elements) ∙ others)
+
+    pub keeps-back : KeepsNumbers old new (c ∷ rest) (c' ∷ rest')
+    keeps-back = record {
+      is = λ w is apart. (first-of w is apart).is;
+      numbers = λ w is apart. (first-of w is apart).elements ∙ keeps.numbers w is (All-tail (λ r. AreApart r w) c rest apart);
+      apart = λ w is apart. All-cons (λ r. AreApart r w) c' rest' (first-of w is apart).apart (keeps.apart w is (All-tail (λ r. AreApart r w) c rest apart));
+    }
+      where
+        first-of : (w : Vector (Option ℤ)) → IsVector old w → All (λ r. AreApart r w) (c ∷ rest) → IsUntouched mid new c' w
+        first-of w is apart = first.others w (keeps.is w is (All-tail (λ r. AreApart r w) c rest apart)) (All-head (λ r. AreApart r w) c rest apart)
+
+-- with a number less each they are of one length and one size still
+pub even-back : (columns : NumberColumns) → AllPairs (λ c d. (c.size ≡ d.size) × (c.len ≡ d.len)) columns → AllPairs (λ c d. (c.size ≡ d.size) × (c.len ≡ d.len)) (map unpushed columns)
+even-back [] even = even
+even-back (c ∷ rest) even =
+    AllPairs-cons (λ c d. (c.size ≡ d.size) × (c.len ≡ d.len)) (unpushed c) (map unpushed rest)
+    (All-map (λ d. (c.size ≡ d.size) × (c.len - 1 ≡ d.len)) unpushed rest (λ k d below. let pair = pairs-head (λ c d. (c.size ≡ d.size) × (c.len ≡ d.len)) c rest even k d below in (pair.0, ap (λ l. l - 1) pair.1)))
+    (even-back rest (pairs-tail (λ c d. (c.size ≡ d.size) × (c.len ≡ d.len)) c rest even))
+
+module _ {K : Type 0} where
+  pub length-uncreated : (n : ℕ) (m : Movement (Option ℤ) K) → length (all_uncreated n m).entries ≡ length m.entries - n
+  length-uncreated zero m = omega arith
+  length-uncreated (suc n) m =
+      let entries = (all_uncreated n m).entries in
+      omega (arith, length-uncreated n m, length-take-le (length entries - 1) entries (omega arith))
+
+  module _ (n : ℕ) (m mid : Movement (Option ℤ) K) (keeps : KeepsBelow n m mid) (p : ℕ) (below : p < n) where
+    local-kept : is_local mid p ≡ is_local m p
+    local-kept = ap (λ word. is_some (option_and_then at_of word)) (keeps.words p below)
+
+    pins-kept : pins_of mid p ≡ pins_of m p
+    pins-kept = ap (λ entry. option_map_or (λ e. e.pins) entry 0) (keeps.entries p below)
+
+    -- a row group that is begun stays so, where its object keeps its word and its record
+    pub begun-kept : (c : Vector (Option ℤ)) → IsBegun m p c → IsBegun mid p c
+    begun-kept c begun = record { alone = begun.alone; last = begun.last; local = local-kept ∙ begun.local; unpinned = pins-kept ∙ begun.unpinned }
+
+  pub begun-count : (m : Movement (Option ℤ) K) (o : ℕ) (columns : NumberColumns) → AreBegunFrom m o columns → o + length columns ≡ length m.entries
+  begun-count m o [] is = omega (arith, is)
+  begun-count m o (c ∷ columns) begun = omega (arith, begun-count m (o + 1) columns begun.1)
+
+  -- those that are begun from some object on have the last objects
+  pub begun-last : (m : Movement (Option ℤ) K) (o : ℕ) (columns : NumberColumns) → AreBegunFrom m o columns → AreBegunLast m columns
+  begun-last m o columns begun =
+      let first : o ≡ length m.entries - length columns = omega (arith, begun-count m o columns begun) in
+      subst (λ n. AreBegunFrom m n columns) first begun
+
+  module _ (m : Movement (Option ℤ) K) (c : Vector (Option ℤ)) (rest : NumberColumns) (begun : AreBegunLast m (c ∷ rest)) where
+    -- all but the first are begun last too
+    pub rest-last : AreBegunLast m rest
+    rest-last = begun-last m (length m.entries - length (c ∷ rest) + 1) rest begun.1
+
+    -- and once they are taken back the first is
+    pub first-last : (mid : Movement (Option ℤ) K) → mid ≡ all_uncreated (length rest) m → KeepsBelow (length mid.entries) m mid → IsBegun mid (length mid.entries - 1) c
+    first-last mid is keeps =
+        let all = begun-count m (length m.entries - length (c ∷ rest)) (c ∷ rest) begun in
+        let left : length mid.entries ≡ length m.entries - length rest = ap (λ w. length w.entries) is ∙ length-uncreated (length rest) m in
+        let number : length m.entries - length (c ∷ rest) ≡ length mid.entries - 1 = omega (arith, all, left) in
+        begun-kept (length mid.entries) m mid keeps (length mid.entries - 1) (omega (arith, all, left)) c (subst (λ o. IsBegun m o c) number begun.0)
+
+-- the object of a row group that is begun
+pub object-begun : (c : Vector (Option ℤ)) (n : ℕ) → IsShaped c → is_full c ≡ true → object_at (pushed c n) c.len ≡ n
+object-begun c n shaped full =
+    let places : c.len ≡ length c.objects * c.size + 0 = omega (arith, eqb-true c.len (length c.objects * c.size) full) in
+    let group : length c.objects ≡ c.len / c.size = sym (ap (λ l. l / c.size) places ∙ div-mul-add (length c.objects) c.size 0 shaped.some) in
+    rw full (get_or_push c.objects n 0 (c.len / c.size) group)
+
+module _ {K : Type 0} (m mid new : Movement (Option ℤ) K) (c c' : Vector (Option ℤ)) (x : Option ℤ) (shaped : IsShaped c) (full : is_full c ≡ true) (is : c' ≡ pushed c (length m.entries)) (written : mid ≡ pushed_in m c x) (others : ChangesObject m mid (object_at c' c.len)) (keeps : KeepsBelow (length mid.entries) mid new) where
+  more : length mid.entries ≡ length m.entries + 1
+  more = one-more m mid c c' x full is written
+
+  object : object_at c' c.len ≡ length m.entries
+  object = ap (λ v. object_at v c.len) is ∙ object-begun c (length m.entries) shaped full
+
+  -- the objects that were there stay as they are
+  pub below-all : KeepsBelow (length m.entries) m new
+  below-all = record {
+    words = λ p below. keeps.words p (omega (arith, below, more)) ∙ others.words p (λ e. omega (arith, e, object, below));
+    entries = λ p below. keeps.entries p (omega (arith, below, more)) ∙ others.entries p (λ e. omega (arith, e, object, below));
+  }
+
+  -- the row group of the first is begun, and then those of the others
+  pub begun-all : (rest' : NumberColumns) → is_local mid (length m.entries) ≡ true → pins_of mid (length m.entries) ≡ 0 → AreBegunFrom new (length mid.entries) rest' → AreBegunFrom new (length m.entries) (c' ∷ rest')
+  begun-all rest' local unpinned begun =
+      let number : length mid.entries - 1 ≡ length m.entries = omega (arith, more) in
+      let first : IsBegun mid (length m.entries) c' = record { alone = alone m mid c c' x full is written; last = last m mid c c' x full is written ∙ ap Some number; local = local; unpinned = unpinned } in
+      (begun-kept (length mid.entries) mid new keeps (length m.entries) (omega (arith, more)) c' first, subst (λ o. AreBegunFrom new o rest') more begun)
+
+  -- taking all back gives what was there
+  pub undone-all : (rest rest' : NumberColumns) → (unpushed c' ≡ c) × (uncreated mid ≡ m) → (map unpushed rest' ≡ rest) × (all_uncreated (length rest) new ≡ mid) → (map unpushed (c' ∷ rest') ≡ c ∷ rest) × (all_uncreated (length (c ∷ rest)) new ≡ m)
+  undone-all rest rest' first others = (
+    ap (λ d. d ∷ map unpushed rest') first.0 ∙ ap (λ l. c ∷ l) others.0,
+    ap uncreated others.1 ∙ first.1,
+  )

@@ -1,0 +1,79 @@
+use Rattle.std.proofs.Common.{◌≡◌, ◌+◌, ℤ, false, length, Option, None, refl, ap, subst, ◌∙◌}
+use Rattle.std.specs.Prelude.{All}
+use Rattle.std.proofs.lemmas.List.Elements.{All-head, All-tail}
+use Rattle.far_scopes.specs.Movement.{ChangesObject}
+use Rattle.far_vector.specs.Vector.{Vector, IsShaped}
+use Rattle.far_vector.specs.Vectors.{AreVectors}
+use Rattle.far_vector.specs.Effects.{is_full}
+use Rattle.far_vector.specs.Refusing.{push_refusal}
+use Rattle.far_columns.specs.Numbers.{number_lists}
+use Rattle.far_columns.proofs.NumbersTogether.{none-refused, begun-same, begun-object, pushed-first, count-same}
+use Rattle.far_columns.proofs.NumbersPushed.{beside-rest, beside-all, keeps-all, numbers-all, free-rest}
+use Rattle.far_columns.proofs.int_column.together.filling.+fill_places.Goals as goal
+
+pub unreachable-requires-in_default-push : goal.unreachable-requires-in_default-push
+unreachable-requires-in_default-push g t c =
+    let free = All-head (λ v. push_refusal c.args.objects.now v ≡ None) c.in-Some.column.now c.in-Some.columns.now (subst (λ l. All (λ v. push_refusal c.args.objects.now v ≡ None) l) c.in-Some.ensures.cases.0 c.requires.free) in
+    let begun = All-head (λ (v : Vector (Option ℤ)). is_full v ≡ false) c.in-Some.column.now c.in-Some.columns.now (subst (λ l. All (λ (v : Vector (Option ℤ)). is_full v ≡ false) l) c.in-Some.ensures.cases.0 c.requires.begun) in
+    none-refused _ _ _ free begun c.in_default-push.ensures.refused
+
+pub fill_places-requires-clause-begun : goal.fill_places-requires-clause-begun
+fill_places-requires-clause-begun g t c κs within =
+    All-tail (λ (v : Vector (Option ℤ)). is_full v ≡ false) c.in-Some.column.now c.in-Some.columns.now (subst (λ l. All (λ (v : Vector (Option ℤ)). is_full v ≡ false) l) c.in-Some.ensures.cases.0 c.requires.begun)
+
+pub fill_places-requires-clause-shaped : goal.fill_places-requires-clause-shaped
+fill_places-requires-clause-shaped g t c κs within =
+    All-tail IsShaped c.in-Some.column.now c.in-Some.columns.now (subst (λ l. All IsShaped l) c.in-Some.ensures.cases.0 c.requires.shaped)
+
+pub fill_places-requires-clause-beside : goal.fill_places-requires-clause-beside
+fill_places-requires-clause-beside g t c κs within =
+    beside-rest (number_lists g.S.FarRead.content c.args.objects.now) (number_lists g.S.FarRead.content c.push.new.objects) c.in-Some.column.now c.push.new.self c.in-Some.columns.now
+    (subst (λ l. AreVectors (number_lists g.S.FarRead.content c.args.objects.now) l) c.in-Some.ensures.cases.0 c.requires.beside) record { is = c.push.ensures.is; others = c.push.ensures.apart }
+
+pub fill_places-requires-clause-free : goal.fill_places-requires-clause-free
+fill_places-requires-clause-free g t c κs within =
+    free-rest c.args.objects.now c.push.new.objects c.in-Some.column.now _ c.in-Some.columns.now c.in-Ok.ensures.written
+    (subst (λ o. ChangesObject c.args.objects.now c.push.new.objects o)
+    (begun-object c.in-Some.column.now c.push.new.self _ (All-head (λ (v : Vector (Option ℤ)). is_full v ≡ false) c.in-Some.column.now c.in-Some.columns.now (subst (λ l. All (λ (v : Vector (Option ℤ)). is_full v ≡ false) l) c.in-Some.ensures.cases.0 c.requires.begun)) c.in-Ok.ensures.pushed)
+    c.in-Ok.ensures.others)
+    (number_lists g.S.FarRead.content c.args.objects.now)
+    (subst (λ l. AreVectors (number_lists g.S.FarRead.content c.args.objects.now) l) c.in-Some.ensures.cases.0 c.requires.beside)
+    (subst (λ l. All IsShaped l) c.in-Some.ensures.cases.0 c.requires.shaped)
+    (subst (λ l. All (λ (v : Vector (Option ℤ)). is_full v ≡ false) l) c.in-Some.ensures.cases.0 c.requires.begun)
+    (subst (λ l. All (λ v. push_refusal c.args.objects.now v ≡ None) l) c.in-Some.ensures.cases.0 c.requires.free)
+
+pub returns-clause-pushed : goal.returns-clause-pushed
+returns-clause-pushed g t c = λ n.
+    let begun = All-head (λ (v : Vector (Option ℤ)). is_full v ≡ false) c.in-Some.column.now c.in-Some.columns.now (subst (λ l. All (λ (v : Vector (Option ℤ)). is_full v ≡ false) l) c.in-Some.ensures.cases.0 c.requires.begun) in
+    pushed-first n (n + 1) c.in-Some.column.now c.push.new.self c.in-Some.columns.now c.fill_places.new.columns c.args.columns.now c.in-Some.ensures.cases.0
+    (c.in-Ok.ensures.pushed ∙ begun-same c.in-Some.column.now (length c.args.objects.now.entries) n begun) (c.fill_places.ensures.pushed (n + 1)) refl
+
+pub returns-clause-numbers : goal.returns-clause-numbers
+returns-clause-numbers g t c =
+    let old = number_lists g.S.FarRead.content c.args.objects.now in
+    let mid = number_lists g.S.FarRead.content c.push.new.objects in
+    let new = number_lists g.S.FarRead.content c.fill_places.new.objects in
+    let beside = subst (λ l. AreVectors old l) c.in-Some.ensures.cases.0 c.requires.beside in
+    let all = numbers-all old mid c.in-Some.column.now c.push.new.self c.in-Some.columns.now beside record { is = c.push.ensures.is; others = c.push.ensures.apart } new c.fill_places.new.columns c.fill_places.ensures.beside c.fill_places.ensures.others
+    c.in-Some-split_first.number.now c.in-Some-split_first.numbers.now c.in-Ok.ensures.numbers c.fill_places.ensures.numbers in
+    rw (c.in-Some.ensures.cases.0, c.in-Some-split_first.ensures.cases.0) all
+
+pub returns-clause-beside : goal.returns-clause-beside
+returns-clause-beside g t c =
+    let old = number_lists g.S.FarRead.content c.args.objects.now in
+    beside-all old (number_lists g.S.FarRead.content c.push.new.objects) c.in-Some.column.now c.push.new.self c.in-Some.columns.now (subst (λ l. AreVectors old l) c.in-Some.ensures.cases.0 c.requires.beside) record { is = c.push.ensures.is; others = c.push.ensures.apart }
+    (number_lists g.S.FarRead.content c.fill_places.new.objects) c.fill_places.new.columns c.fill_places.ensures.beside c.fill_places.ensures.others
+
+pub returns-clause-others : goal.returns-clause-others
+returns-clause-others g t c =
+    let old = number_lists g.S.FarRead.content c.args.objects.now in
+    rw c.in-Some.ensures.cases.0 (keeps-all old (number_lists g.S.FarRead.content c.push.new.objects) c.in-Some.column.now c.push.new.self c.in-Some.columns.now (subst (λ l. AreVectors old l) c.in-Some.ensures.cases.0 c.requires.beside) record { is = c.push.ensures.is; others = c.push.ensures.apart }
+    (number_lists g.S.FarRead.content c.fill_places.new.objects) c.fill_places.new.columns c.fill_places.ensures.beside c.fill_places.ensures.others)
+
+pub returns-clause-clean : goal.returns-clause-clean
+returns-clause-clean g t c = λ clean. c.fill_places.ensures.clean (c.push.ensures.clean clean)
+
+pub returns-clause-count : goal.returns-clause-count
+returns-clause-count g t c =
+    let begun = All-head (λ (v : Vector (Option ℤ)). is_full v ≡ false) c.in-Some.column.now c.in-Some.columns.now (subst (λ l. All (λ (v : Vector (Option ℤ)). is_full v ≡ false) l) c.in-Some.ensures.cases.0 c.requires.begun) in
+    c.fill_places.ensures.count ∙ ap (λ w. length w.entries) c.in-Ok.ensures.written ∙ count-same c.args.objects.now c.in-Some.column.now c.in-Some-split_first.number.now begun

@@ -1,0 +1,67 @@
+// Whether several columns of numbers may get a number each.
+ghost use Rattle.std.specs.Prelude.{◌≡◌, ◌≤◌, ◌∷◌, [], length, false, None, All, OnOk};
+ghost use Rattle.far_types.specs.FirstOf.{first_of};
+ghost use Rattle.far_scopes.specs.Refusing.{refusal_in};
+ghost use Rattle.far_vector.specs.Vector.{IsShaped, IsVector};
+ghost use Rattle.far_vector.specs.Effects.{is_full};
+ghost use Rattle.far_vector.specs.Refusing.{push_refusal};
+ghost use Rattle.far_columns.specs.Numbers.{number_lists};
+ghost use Rattle.far_columns.specs.NumbersTogether.{all_begin, absents, some_written_out, no_room_for_groups};
+
+use crate::int_column::IntColumn;
+use far_scopes::Objects;
+use far_store::FarRead;
+use far_types::Refusal;
+
+// Whether row groups begin at the next places.
+pub(super) fn all_begin(columns: &[IntColumn]) -> bool
+    ensures { result ≡ all_begin columns.now }
+{
+    for column in columns {
+        if !column.begins_group() {
+            return false;
+        }
+    }
+    true
+}
+
+// What each column knows of itself.
+pub(super) fn known_shapes(columns: &[IntColumn])
+    ensures { All IsShaped columns.now }
+{
+    for column in columns {
+        let _len = column.len();
+    }
+}
+
+// Whether the objects of the last row groups are local; the refusal names the first that is away.
+pub(super) fn all_here<S: FarRead>(
+    objects: &Objects<Option<i64>, S>,
+    columns: &[IntColumn],
+) -> Result<(), Refusal>
+    requires each { All (IsVector (number_lists S.content objects.now)) columns.now }
+    requires begun { All (λ c. is_full c ≡ false) columns.now }
+    ensures { refusal_in result ≡ first_of (absents objects.now columns.now) }
+{
+    for column in columns {
+        column.next_is_here(objects)?;
+    }
+    Ok(())
+}
+
+// Whether the objects of the last row groups, which are local, may be written.
+pub(super) fn all_writable<S: FarRead>(
+    objects: &Objects<Option<i64>, S>,
+    columns: &[IntColumn],
+) -> Result<(), Refusal>
+    requires each { All (IsVector (number_lists S.content objects.now)) columns.now }
+    requires begun { All (λ c. is_full c ≡ false) columns.now }
+    requires here { first_of (absents objects.now columns.now) ≡ None }
+    ensures refused { refusal_in result ≡ first_of (some_written_out objects.now columns.now ∷ []) }
+    ensures free { OnOk result (All (λ c. push_refusal objects.now c ≡ None) columns.now) }
+{
+    for column in columns {
+        column.next_is_writable(objects)?;
+    }
+    Ok(())
+}

@@ -1,0 +1,46 @@
+// Numbers that several columns get within row groups that are begun.
+ghost use Rattle.std.specs.Prelude.{◌≡◌, ℕ, List, length, map, false, None, All};
+ghost use Rattle.far_codec.specs.Reading.{ints_meaning};
+ghost use Rattle.far_scopes.specs.Movement.{AreClean, AreHere};
+ghost use Rattle.far_vector.specs.Vector.{IsShaped};
+ghost use Rattle.far_vector.specs.Vectors.{AreVectors};
+ghost use Rattle.far_vector.specs.Effects.{is_full};
+ghost use Rattle.far_vector.specs.Refusing.{push_refusal};
+ghost use Rattle.far_columns.specs.Numbers.{number_lists, numbers_in};
+ghost use Rattle.far_columns.specs.NumbersTogether.{all_pushed, all_numbers_with, KeepsNumbers, all_pushed_in};
+
+use crate::int_column::IntColumn;
+use far_scopes::Objects;
+use far_store::FarRead;
+
+// Each column, whose last row group has a place that is not used and may be written, has a number more.
+pub(super) fn fill_places<S: FarRead>(
+    objects: &mut Objects<Option<i64>, S>,
+    columns: &mut [IntColumn],
+    numbers: &[Option<i64>],
+)
+    requires begun { All (λ c. is_full c ≡ false) columns.old }
+    requires beside { AreVectors (number_lists S.content objects.old) columns.old }
+    requires even { length numbers.now ≡ length columns.old }
+    requires free { All (λ c. push_refusal objects.old c ≡ None) columns.old }
+    requires shaped { All IsShaped columns.old }
+    ensures pushed { (n : ℕ) → columns.new ≡ all_pushed n columns.old }
+    ensures moved { objects.new ≡ all_pushed_in objects.old columns.old numbers.now }
+    ensures numbers { map (numbers_in S.content objects.new) columns.new ≡ all_numbers_with (number_lists S.content objects.old) columns.old numbers.now }
+    ensures count { length objects.new.entries ≡ length objects.old.entries }
+    ensures beside { AreVectors (number_lists S.content objects.new) columns.new }
+    ensures others { KeepsNumbers (number_lists S.content objects.old) (number_lists S.content objects.new) columns.old columns.new }
+    ensures clean { AreClean ints_meaning S.content objects.old → AreClean ints_meaning S.content objects.new }
+    ensures store { (name : List ℕ) → AreHere S.is_of name objects.old → AreHere S.is_of name objects.new }
+{
+    let Some((column, columns)) = columns.split_first_mut() else {
+        return;
+    };
+    let Some((number, numbers)) = numbers.split_first() else {
+        unreachable!()
+    };
+    let Ok(()) = column.push(objects, *number) else {
+        unreachable!()
+    };
+    fill_places(objects, columns, numbers);
+}

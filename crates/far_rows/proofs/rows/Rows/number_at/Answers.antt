@@ -1,0 +1,15 @@
+use Rattle.std.proofs.Common.{◌/◌, ◌<◌, [], ◌∷◌, length, sym, ap, subst, ◌∙◌}
+use Rattle.far_types.specs.FirstOf.{first_of}
+use Rattle.far_rows.specs.declared.slot.Slot.TheVariants as slot
+use Rattle.far_rows.specs.Rows.{Rows}
+use Rattle.far_rows.specs.Refusing.{absent_at}
+use Rattle.far_rows.proofs.Reading.{number-refused}
+use Rattle.far_rows.proofs.rows.Rows.number_at.Goals as goal
+
+pub returns-clause-refused : goal.returns-clause-refused
+returns-clause-refused g c =
+    let column = subst (λ (r : Rows g.row.S-Ticket.Denot). c.args.number < length r.numbers) (sym c.self.view_is) c.requires.column in
+    let place = subst (λ (r : Rows g.row.S-Ticket.Denot). c.args.place < length r.alive) (sym c.self.view_is) c.requires.place in
+    c.get.ensures.refused
+    ∙ number-refused g.S.FarRead.content _ c.self.invariant c.args.number c.args.place c.index-column.result.now column c.index-column.ensures place c.len-len.ensures.shaped
+    ∙ ap (λ (r : Rows g.row.S-Ticket.Denot). first_of (absent_at r (c.args.place / r.size) (slot.Number c.args.number) ∷ [])) c.self.view_is

@@ -1,0 +1,107 @@
+use Rattle.std.proofs.Common.{◌≡◌, ℕ, ◌+◌, ◌*◌, ◌<◌, List, [], ◌∷◌, length, map, get_or, set, Option, Some, sym, ap, subst, ◌∙◌, arith}
+use Rattle.std.specs.Prelude.{ℤ, All, option_map, slice_get, slice_set}
+use Rattle.std.specs.Option.{option_map_or}
+use Rattle.std.proofs.lemmas.Option.{slice_get-get_or, slice_get-map, get_or_from_slice_get}
+use Rattle.far_scopes.specs.Movement.{Movement, AreHere}
+use Rattle.far_scopes.proofs.Pins.{length-with}
+use Rattle.far_vector.specs.Vector.{Vector, IsVector, AreApart, IsUntouched, object_at}
+use Rattle.far_vector.specs.Effects.{range_written}
+use Rattle.far_columns.specs.Numbers.{number_lists, numbers_in}
+use Rattle.far_columns.specs.NumbersTogether.{NumberColumns}
+use Rattle.far_rows.specs.declared.slot.Slot.TheVariants as slot
+use Rattle.far_rows.specs.declared.new_cell.NewCell.TheVariants as new
+use Rattle.far_rows.specs.Rows.{AreRows, all_numbers}
+use Rattle.far_rows.specs.Setting.{set_in}
+use Rattle.far_rows.proofs.OneCell.{set-same, numbers-still, numbers-set}
+use Rattle.far_rows.proofs.rows.Rows.set_number.Goals as goal
+
+pub invariant_of-self : goal.invariant_of-self
+invariant_of-self g c =
+    let content = g.S.FarRead.content in
+    let columns : NumberColumns = c.self.inside.numbers.items in
+    let v : Vector (Option ℤ) = c.index_mut.result.now in
+    let m = c.self.inside.number_objects in
+    let now = c.set.new.objects in
+    let inv = c.self.invariant in
+    let done = c.in-Ok.ensures in
+    let within = subst (λ r. c.args.i < length r.numbers) (sym c.self.view_is) c.requires.within in
+    let at : slice_get columns c.args.i ≡ Some v = slice_get-get_or columns c.args.i v within ∙ ap Some (sym c.index_mut.ensures.value) in
+    let same : slice_set columns c.args.i c.set.new.self ≡ columns = ap (slice_set columns c.args.i) done.kept ∙ set-same columns c.args.i v at in
+    let is = subst (IsVector (number_lists content now)) done.kept done.is in
+    let apart = subst (λ d. (w : Vector (Option ℤ)) → IsVector (number_lists content m) w → AreApart v w → IsUntouched (number_lists content m) (number_lists content now) d w) done.kept done.apart in
+    let count : length now.entries ≡ length m.entries = ap (λ w. length w.entries) done.written ∙ length-with m.entries (object_at v c.args.place) (λ entry. record entry { version = entry.version + 1 }) in
+    let rows : AreRows content record {
+      slots = c.self.inside.slots.items;
+      size = c.self.inside.size;
+      numbers = columns;
+      texts = c.self.inside.texts.items;
+      number_objects = now;
+      text_objects = c.self.inside.text_objects;
+      alive = c.self.inside.alive;
+    } = record {
+      slots = inv.slots;
+      few = inv.few;
+      some = inv.some;
+      small = inv.small;
+      places = inv.places;
+      numbers = numbers-still (number_lists content m) (number_lists content now) columns inv.numbers c.args.i v at is apart;
+      texts = inv.texts;
+      even_numbers = inv.even_numbers;
+      even_texts = inv.even_texts;
+      number_objects = subst (λ n. All (λ (w : Vector (Option ℤ)). n ≡ length columns * length w.objects) columns) (sym count) inv.number_objects;
+      text_objects = inv.text_objects;
+      clean_numbers = done.clean inv.clean_numbers;
+      clean_texts = inv.clean_texts;
+    } in
+    rw same rows
+
+pub returns-clause-moved : goal.returns-clause-moved
+returns-clause-moved g c =
+    let columns : NumberColumns = c.self.inside.numbers.items in
+    let v : Vector (Option ℤ) = c.index_mut.result.now in
+    let m = c.self.inside.number_objects in
+    let place = c.args.place in
+    let done = c.in-Ok.ensures in
+    let within = subst (λ r. c.args.i < length r.numbers) (sym c.self.view_is) c.requires.within in
+    let at : slice_get columns c.args.i ≡ Some v = slice_get-get_or columns c.args.i v within ∙ ap Some (sym c.index_mut.ensures.value) in
+    let same : slice_set columns c.args.i c.set.new.self ≡ columns = ap (slice_set columns c.args.i) done.kept ∙ set-same columns c.args.i v at in
+    let put : Vector (Option ℤ) → Movement (Option ℤ) g.row.S-Ticket.Denot = λ w. range_written m w place (c.args.number ∷ []) in
+    let written : c.set.new.objects ≡ option_map_or put (slice_get columns c.args.i) m = done.written ∙ sym (ap (λ o. option_map_or put o m) at) in
+    (λ j. record {
+      slots = c.self.inside.slots.items;
+      size = c.self.inside.size;
+      numbers = same j;
+      texts = c.self.inside.texts.items;
+      number_objects = written j;
+      text_objects = c.self.inside.text_objects;
+      alive = c.self.inside.alive;
+    })
+    ∙ ap (λ r. set_in g.S.FarRead.content r place (slot.Number c.args.i) (new.Number c.args.number)) c.self.view_is
+
+pub returns-clause-numbers : goal.returns-clause-numbers
+returns-clause-numbers g c =
+    let content = g.S.FarRead.content in
+    let columns : NumberColumns = c.self.inside.numbers.items in
+    let v : Vector (Option ℤ) = c.index_mut.result.now in
+    let m = c.self.inside.number_objects in
+    let now = c.set.new.objects in
+    let place = c.args.place in
+    let number = c.args.number in
+    let i = c.args.i in
+    let inv = c.self.invariant in
+    let done = c.in-Ok.ensures in
+    let within = subst (λ r. i < length r.numbers) (sym c.self.view_is) c.requires.within in
+    let at : slice_get columns i ≡ Some v = slice_get-get_or columns i v within ∙ ap Some (sym c.index_mut.ensures.value) in
+    let same : slice_set columns i c.set.new.self ≡ columns = ap (slice_set columns i) done.kept ∙ set-same columns i v at in
+    let is = subst (IsVector (number_lists content now)) done.kept done.is in
+    let apart = subst (λ d. (w : Vector (Option ℤ)) → IsVector (number_lists content m) w → AreApart v w → IsUntouched (number_lists content m) (number_lists content now) d w) done.kept done.apart in
+    let was = map (numbers_in content m) columns in
+    let here : numbers_in content m v ≡ get_or was i [] = sym (get_or_from_slice_get was i (numbers_in content m v) [] (slice_get-map (numbers_in content m) columns i ∙ ap (option_map (numbers_in content m)) at)) in
+    let own : numbers_in content now v ≡ slice_set (get_or was i []) place number = ap (numbers_in content now) (sym done.kept) ∙ done.numbers ∙ ap (λ l. slice_set l place number) here in
+    ap (map (numbers_in content now)) same
+    ∙ numbers-set (number_lists content m) (number_lists content now) columns inv.numbers i v at is apart
+    ∙ ap (slice_set was i) own
+    ∙ ap (λ r. slice_set (all_numbers content r) i (slice_set (get_or (all_numbers content r) i []) place number)) c.self.view_is
+
+pub returns-clause-store : goal.returns-clause-store
+returns-clause-store g c = λ name here. c.in-Ok.ensures.store name (subst (λ r. AreHere g.S.FarRead.is_of name r.number_objects) (sym c.self.view_is) here)

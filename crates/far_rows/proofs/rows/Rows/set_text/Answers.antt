@@ -1,0 +1,118 @@
+use Rattle.std.proofs.Common.{◌≡◌, ℕ, ◌+◌, ◌*◌, ◌<◌, List, [], ◌∷◌, length, map, get_or, set, Option, None, Some, sym, ap, subst, ◌∙◌, arith}
+use Rattle.std.specs.Prelude.{All, option_map, slice_get, slice_set}
+use Rattle.std.specs.Option.{option_map_or, option_and_then}
+use Rattle.std.proofs.lemmas.Option.{slice_get-get_or, slice_get-map, get_or_from_slice_get}
+use Rattle.far_types.specs.declared.refusal.Refusal.{Refusal}
+use Rattle.far_codec.specs.TextForm.{texts_form}
+use Rattle.far_scopes.specs.Movement.{Movement, AreHere}
+use Rattle.far_scopes.specs.Effects.{with_entry}
+use Rattle.far_scopes.proofs.Pins.{length-with}
+use Rattle.far_columns.specs.Texts.{Texts, Lists, IsTextColumn, KeepsOthers, lists_of, texts_in, object_at}
+use Rattle.far_columns.specs.Changes.{group_with, set_in as text_set_in}
+use Rattle.far_columns.specs.Refusing.{set_refusal}
+use Rattle.far_columns.proofs.Setting.{by-outcome, on-ok, by-outcomes}
+use Rattle.far_rows.specs.declared.slot.Slot.TheVariants as slot
+use Rattle.far_rows.specs.declared.new_cell.NewCell.TheVariants as new
+use Rattle.far_rows.specs.Rows.{AreRows, all_texts}
+use Rattle.far_rows.specs.Setting.{set_in}
+use Rattle.far_rows.proofs.OneCell.{texts-still, texts-set, only-memory}
+use Rattle.far_rows.proofs.rows.Rows.set_text.Goals as goal
+
+pub set-requires-after_bounds : goal.set-requires-after_bounds
+set-requires-after_bounds g c κs within =
+    let columns : List Texts = c.self.inside.texts.items in
+    let below = subst (λ r. c.args.i < length r.texts) (sym c.self.view_is) c.requires.within in
+    subst (IsTextColumn (lists_of g.S.FarRead.content c.self.inside.text_objects)) (sym c.index.ensures) (c.self.invariant.texts.beside.each c.args.i c.index.result.now below)
+
+pub invariant_of-self : goal.invariant_of-self
+invariant_of-self g c =
+    let content = g.S.FarRead.content in
+    let columns : List Texts = c.self.inside.texts.items in
+    let v : Texts = c.index.result.now in
+    let m = c.self.inside.text_objects in
+    let now = c.set.new.objects in
+    let inv = c.self.invariant in
+    let within = subst (λ r. c.args.i < length r.texts) (sym c.self.view_is) c.requires.within in
+    let at : slice_get columns c.args.i ≡ Some v = slice_get-get_or columns c.args.i v within ∙ ap Some (sym c.index.ensures) in
+    let form : List ℕ = texts_form (group_with (lists_of content m) v c.args.place c.args.text.now) in
+    let with_len = with_entry m.entries (object_at v c.args.place) (λ entry. record entry { len = length form }) in
+    let counted : length (text_set_in content m v c.args.place c.args.text.now).entries ≡ length m.entries =
+    length-with with_len (object_at v c.args.place) (λ entry. record entry { version = entry.version + 1 })
+    ∙ length-with m.entries (object_at v c.args.place) (λ entry. record entry { len = length form }) in
+    let count : length now.entries ≡ length m.entries = by-outcome c.set.result c.set.ensures.set c.set.ensures.err (λ is. ap (λ w. length w.entries) is ∙ counted) (λ is. ap (λ w. length w.entries) is) in
+    record {
+      slots = inv.slots;
+      few = inv.few;
+      some = inv.some;
+      small = inv.small;
+      places = inv.places;
+      numbers = inv.numbers;
+      texts = texts-still (lists_of content m) (lists_of content now) columns inv.texts c.args.i v at c.set.ensures.is c.set.ensures.others;
+      even_numbers = inv.even_numbers;
+      even_texts = inv.even_texts;
+      number_objects = inv.number_objects;
+      text_objects = subst (λ n. All (λ (w : Texts). n ≡ length columns * length w.objects) columns) (sym count) inv.text_objects;
+      clean_numbers = inv.clean_numbers;
+      clean_texts = c.set.ensures.clean inv.clean_texts;
+    }
+
+pub returns-clause-moved : goal.returns-clause-moved
+returns-clause-moved g c =
+    let content = g.S.FarRead.content in
+    let columns : List Texts = c.self.inside.texts.items in
+    let v : Texts = c.index.result.now in
+    let m = c.self.inside.text_objects in
+    let within = subst (λ r. c.args.i < length r.texts) (sym c.self.view_is) c.requires.within in
+    let at : slice_get columns c.args.i ≡ Some v = slice_get-get_or columns c.args.i v within ∙ ap Some (sym c.index.ensures) in
+    let put : Texts → Movement ℕ g.row.S-Ticket.Denot = λ w. text_set_in content m w c.args.place c.args.text.now in
+    on-ok c.set.result c.set.ensures.set (λ is.
+    let written : c.set.new.objects ≡ option_map_or put (slice_get columns c.args.i) m = is ∙ sym (ap (λ o. option_map_or put o m) at) in
+    (λ j. record {
+      slots = c.self.inside.slots.items;
+      size = c.self.inside.size;
+      numbers = c.self.inside.numbers.items;
+      texts = columns;
+      number_objects = c.self.inside.number_objects;
+      text_objects = written j;
+      alive = c.self.inside.alive;
+    })
+    ∙ ap (λ r. set_in content r c.args.place (slot.Text c.args.i) (new.Text c.args.text.now)) c.self.view_is)
+
+pub returns-clause-texts : goal.returns-clause-texts
+returns-clause-texts g c =
+    let content = g.S.FarRead.content in
+    let columns : List Texts = c.self.inside.texts.items in
+    let v : Texts = c.index.result.now in
+    let m = c.self.inside.text_objects in
+    let now = c.set.new.objects in
+    let old_lists : Lists = lists_of content m in
+    let new_lists : Lists = lists_of content now in
+    let i = c.args.i in
+    let text = c.args.text.now in
+    let within = subst (λ r. i < length r.texts) (sym c.self.view_is) c.requires.within in
+    let at : slice_get columns i ≡ Some v = slice_get-get_or columns i v within ∙ ap Some (sym c.index.ensures) in
+    let was = map (texts_in old_lists) columns in
+    let here : texts_in old_lists v ≡ get_or was i [] = sym (get_or_from_slice_get was i (texts_in old_lists v) [] (slice_get-map (texts_in old_lists) columns i ∙ ap (option_map (texts_in old_lists)) at)) in
+    on-ok c.set.result c.set.ensures.texts (λ is.
+    texts-set old_lists new_lists columns c.self.invariant.texts i v at c.set.ensures.is c.set.ensures.others
+    ∙ ap (slice_set was i) (is ∙ ap (λ l. slice_set l c.args.place text) here)
+    ∙ ap (λ r. slice_set (all_texts content r) i (slice_set (get_or (all_texts content r) i []) c.args.place text)) c.self.view_is)
+
+pub returns-clause-store : goal.returns-clause-store
+returns-clause-store g c = λ name here. c.set.ensures.store name (subst (λ r. AreHere g.S.FarRead.is_of name r.text_objects) (sym c.self.view_is) here)
+
+pub returns-clause-memory : goal.returns-clause-memory
+returns-clause-memory g c =
+    let content = g.S.FarRead.content in
+    let columns : List Texts = c.self.inside.texts.items in
+    let v : Texts = c.index.result.now in
+    let m = c.self.inside.text_objects in
+    let text = c.args.text.now in
+    let within = subst (λ r. c.args.i < length r.texts) (sym c.self.view_is) c.requires.within in
+    let at : slice_get columns c.args.i ≡ Some v = slice_get-get_or columns c.args.i v within ∙ ap Some (sym c.index.ensures) in
+    let due : Texts → Option Refusal = λ w. set_refusal content m w c.args.place text in
+    let free : due v ≡ None =
+    sym (ap (option_and_then due) at)
+    ∙ ap (λ r. option_and_then (λ w. set_refusal content r.text_objects w c.args.place text) (slice_get r.texts c.args.i)) c.self.view_is
+    ∙ c.requires.free in
+    only-memory c.set.result (due v) free c.set.ensures.refused

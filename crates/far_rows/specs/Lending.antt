@@ -1,0 +1,18 @@
+-- Parts of columns of numbers that are lent.
+use Rattle.std.specs.Prelude.{ℕ, Bool, List, [], slice_get, slice_index_or, slice_range}
+use Rattle.std.specs.Option.{option_map_or}
+use Rattle.far_vector.specs.Pieces.{pieces_of}
+use Rattle.far_columns.specs.Numbers.{Numbers, with_flags}
+use Rattle.far_rows.specs.declared.slot.Slot.{Slot}
+use Rattle.far_rows.specs.declared.slot.Slot.TheVariants as slot
+use Rattle.far_rows.specs.Rows.{Rows, all_numbers}
+
+module _ {K : Type 0} (content : K → List ℕ) (r : Rows K) where
+  -- the numbers of a slot's column, which has none where it is of texts
+  abbrev pub numbers_of : Slot → Numbers
+  numbers_of (slot.Number i) = slice_index_or (all_numbers content r) i []
+  numbers_of (slot.Text i) = []
+
+  -- what is lent of a column: a piece for each row group that has some of the part, with the flags of its places
+  abbrev pub lent_ints : ℕ → ℕ → ℕ → List (Numbers × List Bool)
+  lent_ints column from to = option_map_or (λ s. with_flags (pieces_of (numbers_of s) r.size from to) (slice_range r.alive from to)) (slice_get r.slots column) []

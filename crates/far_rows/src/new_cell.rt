@@ -1,0 +1,30 @@
+// A cell that is to come.
+ghost use Rattle.std.specs.Prelude.{◌≡◌, true};
+ghost use Rattle.far_types.specs.Cells.{is_of_kind};
+ghost use Rattle.far_rows.specs.Setting.{cell_of, kind_in};
+
+use far_types::{Cell, Kind, Text};
+
+/// A value for a place of a column, a number or a text, each of which may be missing.
+#[derive(Drop, Debug)]
+pub enum NewCell {
+    Number(Option<i64>),
+    Text(Option<Text>),
+}
+
+impl NewCell {
+    /// The value of a cell for a column of this kind. Takes no memory.
+    pub fn new(kind: Kind, cell: Cell) -> NewCell
+        requires { is_of_kind kind cell ≡ true }
+        ensures cell { cell_of result ≡ cell }
+        ensures kind { kind_in result ≡ kind }
+    {
+        match (kind, cell) {
+            (Kind::Int, Cell::Int(number)) => NewCell::Number(Some(number)),
+            (Kind::Int, Cell::Missing) => NewCell::Number(None),
+            (Kind::Text, Cell::Text(text)) => NewCell::Text(Some(text)),
+            (Kind::Text, Cell::Missing) => NewCell::Text(None),
+            _ => unreachable!(),
+        }
+    }
+}

@@ -1,0 +1,209 @@
+// Which objects of a row group are local, and cells read in place.
+ghost use Rattle.std.specs.Prelude.{◌≡◌, ◌∷◌, ◌<◌, ◌/◌, [], length, false, slice_get, map, option_map, slice_index_or, slice_range, Some, All, IfOk};
+ghost use Rattle.std.specs.List.{flat_map};
+ghost use Rattle.std.specs.Option.{option_copied, option_map_or};
+ghost use Rattle.far_types.specs.declared.cell.Cell.TheVariants.{Missing};
+ghost use Rattle.far_types.specs.FirstOf.{first_of};
+ghost use Rattle.far_scopes.specs.Refusing.{refusal_in, absent};
+ghost use Rattle.far_vector.specs.Vector.{IsVector};
+ghost use Rattle.far_vector.specs.Pieces.{pieces_of, touched};
+ghost use Rattle.far_columns.specs.Numbers.{number_lists, with_flags};
+ghost use Rattle.far_columns.specs.Texts.{lists_of, IsTextColumn};
+ghost use Rattle.far_rows.specs.Cells.{int_cell, text_cell, lent_cell};
+ghost use Rattle.far_rows.specs.Slots.{IsWithin, column_in};
+ghost use Rattle.far_rows.specs.Rows.{all_numbers, all_texts, cells_of};
+ghost use Rattle.far_rows.specs.Refusing.{no_range, absent_at, absents, cell_refusal, text_refusal, ints_refusal};
+ghost use Rattle.far_rows.specs.Lending.{lent_ints, numbers_of};
+
+use super::Rows;
+use crate::cell_ref::CellRef;
+use crate::slot::Slot;
+use far_columns::{IntColumn, Lents, TextColumn};
+use far_scopes::Objects;
+use far_store::FarRead;
+use far_types::Refusal;
+
+impl<S: FarRead> Rows<S> {
+    /// Whether all objects of a row group are local. A row group of which no place is used has none. Takes no memory.
+    ///
+    /// Refused with `Absent` (16) exactly where one is away, naming the first in the order of the columns.
+    pub fn here(&self, group: u32) -> Result<(), Refusal>
+        ensures { refusal_in result ≡ first_of (absents self.now group) }
+    {
+        // It tells that each slot is that of a column.
+        let _len = self.len();
+        for slot in self.slots() {
+            self.is_here(*slot, group)?;
+        }
+        Ok(())
+    }
+
+    // Whether the object of a row group of a column is local, where there is one.
+    pub(super) fn is_here(&self, slot: Slot, group: u32) -> Result<(), Refusal>
+        requires { IsWithin (length self.now.numbers) (length self.now.texts) slot }
+        ensures { refusal_in result ≡ first_of (absent_at self.now group slot ∷ []) }
+    {
+        match slot {
+            Slot::Number(number) => {
+                numbers_are_here(&self.number_objects, &self.numbers[number], group)
+            }
+            Slot::Text(text) => texts_are_here(&self.text_objects, &self.texts[text], group),
+        }
+    }
+
+    /// A cell, lent where it lies. Takes no memory.
+    ///
+    /// Refused with `NoColumn` (4) exactly where there is no such column, else with `NoRow` (8) exactly past the places, else
+    /// with `Absent` (16) exactly where the object of the cell is away.
+    pub fn cell(&self, place: usize, column: usize) -> Result<CellRef<'_>, Refusal>
+        ensures cell { IfOk result (λ cell. option_map (λ cells. slice_index_or cells place Missing) (slice_get (cells_of S.content self.now) column) ≡ Some (lent_cell cell)) }
+        ensures refused { refusal_in result ≡ cell_refusal self.now place column }
+    {
+        let Some(slot) = self.slots.get(column) else {
+            return Err(Refusal::NoColumn);
+        };
+        if place >= self.alive.len() {
+            return Err(Refusal::NoRow);
+        }
+        match *slot {
+            Slot::Number(number) => Ok(lent_number(self.number_at(number, place)?)),
+            Slot::Text(text) => Ok(lent_text(self.text_at(text, place)?)),
+        }
+    }
+
+    /// The text of a place, lent in place; `None` where it is missing. Takes no memory.
+    ///
+    /// Refused with `NoColumn` (4) exactly where there is no such column, else with `WrongKind` (5) exactly where it is of
+    /// numbers, else with `NoRow` (8) exactly past the places, else with `Absent` (16) exactly where the object of the text is
+    /// away.
+    pub fn text(&self, column: usize, place: usize) -> Result<Option<&str>, Refusal>
+        ensures text { IfOk result (λ text. option_map (λ cells. slice_index_or cells place Missing) (slice_get (cells_of S.content self.now) column) ≡ Some (text_cell (option_copied text))) }
+        ensures refused { refusal_in result ≡ text_refusal self.now column place }
+    {
+        let Some(slot) = self.slots.get(column) else {
+            return Err(Refusal::NoColumn);
+        };
+        let Slot::Text(text) = *slot else {
+            return Err(Refusal::WrongKind);
+        };
+        if place >= self.alive.len() {
+            return Err(Refusal::NoRow);
+        }
+        self.text_at(text, place)
+    }
+
+    /// The numbers of the places `from` up to `to`, lent in place with the flags of their places, piece by piece: one for each
+    /// row group that has some of them. Takes no memory.
+    ///
+    /// Refused with `NoColumn` (4) exactly where there is no such column, else with `WrongKind` (5) exactly where it is of
+    /// texts, else with `OutOfRange` (14) exactly where `from` is above `to` or `to` is past the places, else with `Absent`
+    /// (16) exactly where the object of a row group with some of them is away, naming the first such.
+    pub fn ints(&self, column: usize, from: usize, to: usize) -> Result<Lents<'_, S>, Refusal>
+        ensures lent { IfOk result (λ lents. lents ≡ lent_ints S.content self.now column from to) }
+        ensures cells { IfOk result (λ lents. option_map (λ cells. slice_range cells from to) (slice_get (cells_of S.content self.now) column) ≡ Some (map int_cell (flat_map (λ lent. lent.0) lents))) }
+        ensures alive { IfOk result (λ lents. flat_map (λ lent. lent.1) lents ≡ slice_range self.now.alive from to) }
+        ensures even { IfOk result (λ lents. All (λ lent. length lent.1 ≡ length lent.0) lents) }
+        ensures refused { refusal_in result ≡ ints_refusal self.now column from to }
+    {
+        let Some(slot) = self.slots.get(column) else {
+            return Err(Refusal::NoColumn);
+        };
+        let Slot::Number(number) = *slot else {
+            return Err(Refusal::WrongKind);
+        };
+        self.ints_at(number, from, to)
+    }
+
+    // A part of a column of numbers, lent in place.
+    fn ints_at(&self, number: usize, from: usize, to: usize) -> Result<Lents<'_, S>, Refusal>
+        requires { number < length self.now.numbers }
+        ensures lent { IfOk result (λ lents. lents ≡ with_flags (pieces_of (numbers_of S.content self.now (Slot.Number number)) self.now.size from to) (slice_range self.now.alive from to)) }
+        ensures joined { IfOk result (λ lents. flat_map (λ lent. lent.0) lents ≡ slice_range (numbers_of S.content self.now (Slot.Number number)) from to) }
+        ensures alive { IfOk result (λ lents. flat_map (λ lent. lent.1) lents ≡ slice_range self.now.alive from to) }
+        ensures even { IfOk result (λ lents. All (λ lent. length lent.1 ≡ length lent.0) lents) }
+        ensures refused { refusal_in result ≡ first_of (no_range self.now from to ∷ map (λ g. absent_at self.now g (Slot.Number number)) (touched self.now.size from to)) }
+    {
+        let column = &self.numbers[number];
+        // It tells that there are as many numbers as it says.
+        let _len = column.len();
+        column.lent(&self.number_objects, &self.alive, from, to)
+    }
+
+    // The number of a place that is there.
+    fn number_at(&self, number: usize, place: usize) -> Result<Option<i64>, Refusal>
+        requires column { number < length self.now.numbers }
+        requires place { place < length self.now.alive }
+        ensures number { IfOk result (λ value. slice_index_or (column_in (all_numbers S.content self.now) (all_texts S.content self.now) (Slot.Number number)) place Missing ≡ int_cell value) }
+        ensures refused { refusal_in result ≡ first_of (absent_at self.now (place / self.now.size) (Slot.Number number) ∷ []) }
+    {
+        let column = &self.numbers[number];
+        // It tells that a row group is begun for each place.
+        let _len = column.len();
+        column.get(&self.number_objects, place)
+    }
+
+    // Likewise the text.
+    fn text_at(&self, text: usize, place: usize) -> Result<Option<&str>, Refusal>
+        requires column { text < length self.now.texts }
+        requires place { place < length self.now.alive }
+        ensures text { IfOk result (λ value. slice_index_or (column_in (all_numbers S.content self.now) (all_texts S.content self.now) (Slot.Text text)) place Missing ≡ text_cell (option_copied value)) }
+        ensures refused { refusal_in result ≡ first_of (absent_at self.now (place / self.now.size) (Slot.Text text) ∷ []) }
+    {
+        let column = &self.texts[text];
+        let _len = column.len();
+        column.text(&self.text_objects, place)
+    }
+}
+
+// Whether the object of a row group of a column of numbers is local, where there is one.
+fn numbers_are_here<S: FarRead>(
+    objects: &Objects<Option<i64>, S>,
+    column: &IntColumn,
+    group: u32,
+) -> Result<(), Refusal>
+    requires { IsVector (number_lists S.content objects.now) column.now }
+    ensures { refusal_in result ≡ first_of (option_map_or (absent objects.now) (slice_get column.now.objects group) (false, Refusal.StaleJob) ∷ []) }
+{
+    // It tells of all objects that one with a list is in use.
+    let _number = objects.number();
+    if let Some(o) = column.object(group) {
+        objects.lend(o)?;
+    }
+    Ok(())
+}
+
+// Likewise of a column of texts.
+fn texts_are_here<S: FarRead>(
+    objects: &Objects<u8, S>,
+    column: &TextColumn,
+    group: u32,
+) -> Result<(), Refusal>
+    requires { IsTextColumn (lists_of S.content objects.now) column.now }
+    ensures { refusal_in result ≡ first_of (option_map_or (absent objects.now) (slice_get column.now.objects group) (false, Refusal.StaleJob) ∷ []) }
+{
+    let _number = objects.number();
+    if let Some(o) = column.object(group as usize) {
+        objects.lend(o)?;
+    }
+    Ok(())
+}
+
+// A number that is read, as a cell.
+fn lent_number<'a>(number: Option<i64>) -> CellRef<'a>
+    ensures { lent_cell result ≡ int_cell number }
+{
+    match number {
+        Some(number) => CellRef::Int(number),
+        None => CellRef::Missing,
+    }
+}
+
+// A text that is lent, as a cell.
+fn lent_text(text: Option<&str>) -> CellRef<'_>
+    ensures { lent_cell result ≡ text_cell (option_copied text.entry) }
+{
+    match text {
+        Some(text) => CellRef::Text(text),
+        None => CellRef::Missing,
+    }
+}

@@ -1,0 +1,82 @@
+// The cell of a place is set.
+ghost use Rattle.std.specs.Prelude.{◌≡◌, [], ◌<◌, ℕ, List, length, map, None, Some, OnOk, OnErr, IfErr, IfSome, option_map, slice_get, slice_set, slice_index_or};
+ghost use Rattle.far_scopes.specs.Movement.{AreHere};
+ghost use Rattle.far_rows.specs.declared.slot.Slot.TheVariants as slot;
+ghost use Rattle.far_rows.specs.declared.new_cell.NewCell.TheVariants as new;
+ghost use Rattle.far_rows.specs.Slots.{kind_of};
+ghost use Rattle.far_rows.specs.Rows.{all_numbers, all_texts, cells_of};
+ghost use Rattle.far_rows.specs.Setting.{cell_of, kind_in, set_in, set_refusal, value_refusal, with_cell};
+
+use super::Rows;
+use crate::new_cell::NewCell;
+use crate::slot::Slot;
+use far_store::FarRead;
+use far_types::{Refusal, Text};
+use std::alloc::Global;
+
+impl<S: FarRead> Rows<S> {
+    // Puts a number, which is not refused, at a place of a column of numbers.
+    fn set_number(&mut self, place: usize, i: usize, number: Option<i64>)
+        requires within { i < length self.old.numbers }
+        requires free { value_refusal S.content self.old place (slot.Number i) (new.Number number) ≡ None }
+        ensures moved { self.new ≡ set_in S.content self.old place (slot.Number i) (new.Number number) }
+        ensures numbers { all_numbers S.content self.new ≡ slice_set (all_numbers S.content self.old) i (slice_set (slice_index_or (all_numbers S.content self.old) i []) place number) }
+        ensures store { (name : List ℕ) → AreHere S.is_of name self.old.number_objects → AreHere S.is_of name self.new.number_objects }
+    {
+        let Ok(()) = self.numbers[i].set(&mut self.number_objects, place, number) else {
+            unreachable!()
+        };
+    }
+
+    // Puts a text, which is not refused, at a place of a column of texts. Refused with `NoMemory` (1) alone.
+    fn set_text(
+        &mut self,
+        alloc: Global,
+        place: usize,
+        i: usize,
+        text: &Option<Text>,
+    ) -> Result<(), Refusal>
+        requires within { i < length self.old.texts }
+        requires free { value_refusal S.content self.old place (slot.Text i) (new.Text text.now) ≡ None }
+        ensures moved { OnOk result (self.new ≡ set_in S.content self.old place (slot.Text i) (new.Text text.now)) }
+        ensures texts { OnOk result (all_texts S.content self.new ≡ slice_set (all_texts S.content self.old) i (slice_set (slice_index_or (all_texts S.content self.old) i []) place text.now)) }
+        ensures store { (name : List ℕ) → AreHere S.is_of name self.old.text_objects → AreHere S.is_of name self.new.text_objects }
+        ensures memory { IfErr result (λ e. e ≡ Refusal.NoMemory) }
+        ensures err { OnErr result (self.new ≡ self.old) }
+    {
+        self.texts[i].set(alloc, &mut self.text_objects, place, text)
+    }
+
+    /// Puts a value in a column of a place; its row group's object is written, and a text's form is placed anew before the
+    /// old one is dropped.
+    ///
+    /// The value is one that `may_set` accepted. Refused with `NoMemory` (1) alone, and not for a number; then nothing is
+    /// changed.
+    pub fn set(
+        &mut self,
+        alloc: Global,
+        place: usize,
+        column: usize,
+        value: &NewCell,
+    ) -> Result<(), Refusal>
+        requires of_kind { option_map kind_of (slice_get self.old.slots column) ≡ Some (kind_in value.now) }
+        requires free { set_refusal S.content self.old place column value.now ≡ None }
+        ensures cells { OnOk result (cells_of S.content self.new ≡ with_cell (cells_of S.content self.old) column place (cell_of value.now)) }
+        ensures moved { OnOk result (IfSome (slice_get self.old.slots column) (λ s. self.new ≡ set_in S.content self.old place s value.now)) }
+        ensures number_store { (name : List ℕ) → AreHere S.is_of name self.old.number_objects → AreHere S.is_of name self.new.number_objects }
+        ensures text_store { (name : List ℕ) → AreHere S.is_of name self.old.text_objects → AreHere S.is_of name self.new.text_objects }
+        ensures memory { IfErr result (λ e. e ≡ Refusal.NoMemory) }
+        ensures err { OnErr result (self.new ≡ self.old) }
+    {
+        // It tells that each slot is that of a column.
+        let _len = self.len();
+        match (self.slots[column], value) {
+            (Slot::Number(i), NewCell::Number(number)) => {
+                self.set_number(place, i, *number);
+                Ok(())
+            }
+            (Slot::Text(i), NewCell::Text(text)) => self.set_text(alloc, place, i, text),
+            _ => unreachable!(),
+        }
+    }
+}

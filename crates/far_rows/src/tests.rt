@@ -1,0 +1,3 @@
+// What no clause says: that calls are served, and that worked examples come out as they should.
+mod filling;
+mod opening;
