@@ -1,5 +1,5 @@
 -- The objects of rows: which they are, how they change in place, and why that is refused.
-use Rattle.std.specs.Prelude.{ℕ, ◌<◌, nat_lt, not, [], ◌∷◌, length, Option, is_none, option_map, slice_get}
+use Rattle.std.specs.Prelude.{ℕ, ◌<◌, [], ◌∷◌, length, Option, is_none, option_map, slice_get}
 use Rattle.std.specs.Option.{option_and_then, option_or}
 use Rattle.far_types.specs.declared.refusal.Refusal.{Refusal}
 use Rattle.far_types.specs.declared.refusal.Refusal.TheVariants as refusal
