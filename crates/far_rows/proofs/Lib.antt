@@ -9,5 +9,7 @@ pub mod Filling
 pub mod Opening
 pub mod EmptySlots
 pub mod EmptyRows
+pub mod InUse
+pub mod Moved
 pub mod Reading
 pub mod LentNumbers

@@ -5,3 +5,5 @@ pub mod Refusing
 pub mod Setting
 pub mod Lending
 pub mod Opening
+pub mod Moving
+pub mod Jobs

@@ -7,6 +7,9 @@ ghost use Rattle.far_rows.specs.Rows.{AreRows};
 ghost use Rattle.far_rows.specs.Opening.{empty_rows};
 
 mod asking;
+mod compacting;
+mod jobs;
+mod moving;
 mod opening;
 mod pushing;
 mod reading;

@@ -1,0 +1,64 @@
+-- The objects of rows: which they are, how they change in place, and why that is refused.
+use Rattle.std.specs.Prelude.{ℕ, ◌<◌, [], ◌∷◌, length, Option, is_none, option_map, slice_get}
+use Rattle.std.specs.Option.{option_and_then, option_or}
+use Rattle.far_types.specs.declared.refusal.Refusal.{Refusal}
+use Rattle.far_types.specs.declared.refusal.Refusal.TheVariants as refusal
+use Rattle.far_types.specs.FirstOf.{first_of}
+use Rattle.far_scopes.specs.Effects.{pinned as pinned_in, unpinned as unpinned_in, touched as touched_in}
+use Rattle.far_scopes.specs.Refusing.{pin_refusal as pin_refusal_in, unpin_refusal as unpin_refusal_in}
+use Rattle.far_rows.specs.declared.slot.Slot.{Slot}
+use Rattle.far_rows.specs.declared.slot.Slot.TheVariants as slot
+use Rattle.far_rows.specs.declared.object.Object.{Object}
+use Rattle.far_rows.specs.declared.object.Object.TheVariants as object
+use Rattle.far_rows.specs.Rows.{Rows, object_of}
+use Rattle.far_rows.specs.Refusing.{no_column}
+
+-- the object of this number, among those of a slot's kind
+abbrev pub object_in : Slot → ℕ → Object
+object_in (slot.Number i) o = object.Number o
+object_in (slot.Text i) o = object.Text o
+
+module _ {K : Type 0} where
+  -- the object of a row group of a column; none where there is no such column, or no place of the row group is used
+  abbrev pub object_at : Rows K → ℕ → ℕ → Option Object
+  object_at r column group = option_and_then (λ s. option_map (object_in s) (object_of r s group)) (slice_get r.slots column)
+
+  -- there is such an object
+  abbrev pub IsInUse : Rows K → Object → Type 0
+  IsInUse r (object.Number o) = o < length r.number_objects.entries
+  IsInUse r (object.Text o) = o < length r.text_objects.entries
+
+  -- an object is pinned once more
+  abbrev pub pinned : Rows K → Object → Rows K
+  pinned r (object.Number o) = record r { number_objects = pinned_in r.number_objects o }
+  pinned r (object.Text o) = record r { text_objects = pinned_in r.text_objects o }
+
+  -- it is pinned once less
+  abbrev pub unpinned : Rows K → Object → Rows K
+  unpinned r (object.Number o) = record r { number_objects = unpinned_in r.number_objects o }
+  unpinned r (object.Text o) = record r { text_objects = unpinned_in r.text_objects o }
+
+  -- it is used: it is hot, and used last, if it is local
+  abbrev pub touched : Rows K → Object → Rows K
+  touched r (object.Number o) = record r { number_objects = touched_in r.number_objects o }
+  touched r (object.Text o) = record r { text_objects = touched_in r.text_objects o }
+
+  -- why an object may not be pinned, and why not unpinned
+  abbrev pub pin_refusal_of : Rows K → Object → Option Refusal
+  pin_refusal_of r (object.Number o) = pin_refusal_in r.number_objects o
+  pin_refusal_of r (object.Text o) = pin_refusal_in r.text_objects o
+
+  abbrev pub unpin_refusal_of : Rows K → Object → Option Refusal
+  unpin_refusal_of r (object.Number o) = unpin_refusal_in r.number_objects o
+  unpin_refusal_of r (object.Text o) = unpin_refusal_in r.text_objects o
+
+  module _ (r : Rows K) (column group : ℕ) where
+    -- there is no such column, or no place of the row group is used
+    abbrev pub object_refusal : Option Refusal
+    object_refusal = first_of (no_column r column ∷ (is_none (object_at r column group), refusal.OutOfRange) ∷ [])
+
+    abbrev pub pin_refusal : Option Refusal
+    pin_refusal = option_or object_refusal (option_and_then (pin_refusal_of r) (object_at r column group))
+
+    abbrev pub unpin_refusal : Option Refusal
+    unpin_refusal = option_or object_refusal (option_and_then (unpin_refusal_of r) (object_at r column group))

@@ -1,0 +1,10 @@
+// The objects of a table.
+
+/// An object of a table, by its number among those of numbers or among those of texts.
+#[derive(Clone, Copy, Debug, PartialEq, Eq)]
+pub enum Object {
+    /// Of numbers.
+    Number(u32),
+    /// Of the bytes of texts.
+    Text(u32),
+}

@@ -1,0 +1,46 @@
+// Segments of the local memory of the rows' objects that are compacted.
+ghost use Rattle.std.specs.Prelude.{◌≡◌, ◌<◌, ◌≤◌, ◌↔◌, ◌⊎◌, ℕ, List, length, OnOk, OnErr, IfErr, IsErrOf};
+ghost use Rattle.far_log.specs.Changes.{HasNoEmptyOther};
+ghost use Rattle.far_scopes.specs.Compaction.{IsCompacted};
+ghost use Rattle.far_scopes.specs.Movement.{AreHere};
+ghost use Rattle.far_rows.specs.Rows.{cells_of};
+
+use super::Rows;
+use far_store::FarRead;
+use far_types::Refusal;
+use std::alloc::Global;
+
+impl<S: FarRead> Rows<S> {
+    /// Compacts a segment of the objects of numbers: its parts lie in the lowest other segment without parts from then on,
+    /// one behind the other, those of hot objects first, and none of their objects is hot.
+    ///
+    /// Refused with `OutOfRange` (14) exactly where there is no such segment, with `RegionFull` (17) exactly where there is
+    /// one and no other is without parts, else with `NoMemory` (1) alone; then nothing is changed.
+    pub fn compact_numbers(&mut self, alloc: Global, segment: u32) -> Result<(), Refusal>
+        ensures compacted { OnOk result (IsCompacted self.old.number_objects.memory self.new.number_objects.memory segment) }
+        ensures kept { self.new ≡ record self.old { number_objects = record self.old.number_objects { memory = self.new.number_objects.memory } } }
+        ensures cells { cells_of S.content self.new ≡ cells_of S.content self.old }
+        ensures store { (name : List ℕ) → AreHere S.is_of name self.old.number_objects → AreHere S.is_of name self.new.number_objects }
+        ensures missing { IsErrOf result Refusal.OutOfRange ↔ (length self.old.number_objects.memory.room ≤ segment) }
+        ensures full { IsErrOf result Refusal.RegionFull ↔ ((segment < length self.old.number_objects.memory.room) × HasNoEmptyOther self.old.number_objects.memory.room segment) }
+        ensures refused { IfErr result (λ e. (e ≡ Refusal.OutOfRange) ⊎ ((e ≡ Refusal.RegionFull) ⊎ (e ≡ Refusal.NoMemory))) }
+        ensures err { OnErr result (self.new ≡ self.old) }
+    {
+        self.number_objects.compact(alloc, segment)
+    }
+
+    /// Compacts a segment of the objects of texts likewise. Refused as `compact_numbers` is, with `OutOfRange` (14),
+    /// `RegionFull` (17) and `NoMemory` (1).
+    pub fn compact_texts(&mut self, alloc: Global, segment: u32) -> Result<(), Refusal>
+        ensures compacted { OnOk result (IsCompacted self.old.text_objects.memory self.new.text_objects.memory segment) }
+        ensures kept { self.new ≡ record self.old { text_objects = record self.old.text_objects { memory = self.new.text_objects.memory } } }
+        ensures cells { cells_of S.content self.new ≡ cells_of S.content self.old }
+        ensures store { (name : List ℕ) → AreHere S.is_of name self.old.text_objects → AreHere S.is_of name self.new.text_objects }
+        ensures missing { IsErrOf result Refusal.OutOfRange ↔ (length self.old.text_objects.memory.room ≤ segment) }
+        ensures full { IsErrOf result Refusal.RegionFull ↔ ((segment < length self.old.text_objects.memory.room) × HasNoEmptyOther self.old.text_objects.memory.room segment) }
+        ensures refused { IfErr result (λ e. (e ≡ Refusal.OutOfRange) ⊎ ((e ≡ Refusal.RegionFull) ⊎ (e ≡ Refusal.NoMemory))) }
+        ensures err { OnErr result (self.new ≡ self.old) }
+    {
+        self.text_objects.compact(alloc, segment)
+    }
+}

@@ -1,0 +1,111 @@
+// Jobs on the objects of the rows that end. They are begun on the objects lent.
+ghost use Rattle.std.specs.Prelude.{◌≡◌, ◌≢◌, ◌↔◌, ◌⊎◌, ℕ, length, false, OnOk, OnErr, IfErr, IsErrOf, IsSomeAnd};
+ghost use Rattle.far_codec.specs.FarForm.{ints_form};
+ghost use Rattle.far_log.specs.Room.{fits_in};
+ghost use Rattle.far_scopes.specs.Effects.{departed, arrived};
+ghost use Rattle.far_scopes.specs.Movement.{AreHere, pins_of};
+ghost use Rattle.far_evacuator.specs.Acceptance.{IsCommittable, IsInstallable};
+ghost use Rattle.far_columns.specs.Texts.{lists_of};
+ghost use Rattle.far_columns.specs.Numbers.{number_lists};
+ghost use Rattle.far_rows.specs.Rows.{cells_of};
+ghost use Rattle.far_rows.specs.Jobs.{SpellsNumbers, SpellsTexts};
+
+use super::Rows;
+use far_evacuator::{Carried, Fetched, commit, install};
+use far_store::FarRead;
+use far_types::Refusal;
+use std::alloc::Global;
+
+impl<S: FarRead> Rows<S> {
+    /// Sends an object of numbers away whose far form was carried. Takes no memory.
+    ///
+    /// Refused with `StaleJob` (20) exactly where what it rests on does not hold any more (`IsCommittable`): it was begun on
+    /// other objects, the object is away, was written or away since, has used up its leavings, or is no longer what was
+    /// carried; else with `Pinned` (19) exactly where the object has a pin. Then nothing is changed.
+    pub fn commit_numbers(
+        &mut self,
+        store: &S,
+        carried: &Carried<Option<i64>, S>,
+    ) -> Result<(), Refusal>
+        requires here { AreHere S.is_of (S.name store.now) self.old.number_objects }
+        requires carried_here { S.is_of carried.now.ticket (S.name store.now) }
+        ensures committed { OnOk result (self.new ≡ record self.old { number_objects = departed self.old.number_objects carried.now.job.object carried.now.ticket }) }
+        ensures kept { self.new ≡ record self.old { number_objects = self.new.number_objects } }
+        ensures cells { cells_of S.content self.new ≡ cells_of S.content self.old }
+        ensures here { AreHere S.is_of (S.name store.now) self.new.number_objects }
+        ensures stale { IsErrOf result Refusal.StaleJob ↔ (¬ IsCommittable S.number_of ints_form self.old.number_objects carried.now) }
+        ensures pinned { IsErrOf result Refusal.Pinned ↔ (IsCommittable S.number_of ints_form self.old.number_objects carried.now × (pins_of self.old.number_objects carried.now.job.object ≢ 0)) }
+        ensures refused { IfErr result (λ e. (e ≡ Refusal.StaleJob) ⊎ (e ≡ Refusal.Pinned)) }
+        ensures err { OnErr result (self.new ≡ self.old) }
+    {
+        commit(&mut self.number_objects, store, carried)
+    }
+
+    /// Sends an object of texts away whose far form was carried. Takes no memory.
+    ///
+    /// Refused as `commit_numbers` is, with `StaleJob` (20) and `Pinned` (19).
+    pub fn commit_texts(&mut self, store: &S, carried: &Carried<u8, S>) -> Result<(), Refusal>
+        requires here { AreHere S.is_of (S.name store.now) self.old.text_objects }
+        requires carried_here { S.is_of carried.now.ticket (S.name store.now) }
+        ensures committed { OnOk result (self.new ≡ record self.old { text_objects = departed self.old.text_objects carried.now.job.object carried.now.ticket }) }
+        ensures kept { self.new ≡ record self.old { text_objects = self.new.text_objects } }
+        ensures cells { cells_of S.content self.new ≡ cells_of S.content self.old }
+        ensures here { AreHere S.is_of (S.name store.now) self.new.text_objects }
+        ensures stale { IsErrOf result Refusal.StaleJob ↔ (¬ IsCommittable S.number_of (λ bytes. bytes) self.old.text_objects carried.now) }
+        ensures pinned { IsErrOf result Refusal.Pinned ↔ (IsCommittable S.number_of (λ bytes. bytes) self.old.text_objects carried.now × (pins_of self.old.text_objects carried.now.job.object ≢ 0)) }
+        ensures refused { IfErr result (λ e. (e ≡ Refusal.StaleJob) ⊎ (e ≡ Refusal.Pinned)) }
+        ensures err { OnErr result (self.new ≡ self.old) }
+    {
+        commit(&mut self.text_objects, store, carried)
+    }
+
+    /// Brings an object of numbers back whose far form was read.
+    ///
+    /// Refused with `StaleJob` (20) exactly where what the fetch rests on does not hold any more (`IsInstallable`): it was
+    /// begun on other objects, or the object is local, or has been away again since; else with `RegionFull` (17) exactly
+    /// where no segment has the space; else with `NoMemory` (1) alone. Then nothing is changed.
+    pub fn install_numbers(
+        &mut self,
+        alloc: Global,
+        store: &S,
+        fetched: &Fetched<S>,
+    ) -> Result<(), Refusal>
+        requires here { AreHere S.is_of (S.name store.now) self.old.number_objects }
+        requires fetched_here { S.is_of fetched.now.job.ticket (S.name store.now) }
+        ensures installed { OnOk result (IsSomeAnd (number_lists S.content self.old.number_objects fetched.now.job.object) (λ list. self.new ≡ record self.old { number_objects = arrived self.old.number_objects fetched.now.job.object list })) }
+        ensures accepted { OnOk result (IsInstallable S.number_of SpellsNumbers self.old.number_objects fetched.now) }
+        ensures kept { self.new ≡ record self.old { number_objects = self.new.number_objects } }
+        ensures cells { cells_of S.content self.new ≡ cells_of S.content self.old }
+        ensures here { AreHere S.is_of (S.name store.now) self.new.number_objects }
+        ensures stale { IsErrOf result Refusal.StaleJob ↔ (¬ IsInstallable S.number_of SpellsNumbers self.old.number_objects fetched.now) }
+        ensures full { IsErrOf result Refusal.RegionFull ↔ (IsInstallable S.number_of SpellsNumbers self.old.number_objects fetched.now × IsSomeAnd (number_lists S.content self.old.number_objects fetched.now.job.object) (λ list. fits_in self.old.number_objects.memory.room (length list) ≡ false)) }
+        ensures refused { IfErr result (λ e. (e ≡ Refusal.StaleJob) ⊎ ((e ≡ Refusal.RegionFull) ⊎ (e ≡ Refusal.NoMemory))) }
+        ensures err { OnErr result (self.new ≡ self.old) }
+    {
+        install(alloc, &mut self.number_objects, store, fetched)
+    }
+
+    /// Brings an object of texts back whose far form was read.
+    ///
+    /// Refused as `install_numbers` is, with `StaleJob` (20), `RegionFull` (17) and `NoMemory` (1).
+    pub fn install_texts(
+        &mut self,
+        alloc: Global,
+        store: &S,
+        fetched: &Fetched<S>,
+    ) -> Result<(), Refusal>
+        requires here { AreHere S.is_of (S.name store.now) self.old.text_objects }
+        requires fetched_here { S.is_of fetched.now.job.ticket (S.name store.now) }
+        ensures installed { OnOk result (IsSomeAnd (lists_of S.content self.old.text_objects fetched.now.job.object) (λ list. self.new ≡ record self.old { text_objects = arrived self.old.text_objects fetched.now.job.object list })) }
+        ensures accepted { OnOk result (IsInstallable S.number_of SpellsTexts self.old.text_objects fetched.now) }
+        ensures kept { self.new ≡ record self.old { text_objects = self.new.text_objects } }
+        ensures cells { cells_of S.content self.new ≡ cells_of S.content self.old }
+        ensures here { AreHere S.is_of (S.name store.now) self.new.text_objects }
+        ensures stale { IsErrOf result Refusal.StaleJob ↔ (¬ IsInstallable S.number_of SpellsTexts self.old.text_objects fetched.now) }
+        ensures full { IsErrOf result Refusal.RegionFull ↔ (IsInstallable S.number_of SpellsTexts self.old.text_objects fetched.now × IsSomeAnd (lists_of S.content self.old.text_objects fetched.now.job.object) (λ list. fits_in self.old.text_objects.memory.room (length list) ≡ false)) }
+        ensures refused { IfErr result (λ e. (e ≡ Refusal.StaleJob) ⊎ ((e ≡ Refusal.RegionFull) ⊎ (e ≡ Refusal.NoMemory))) }
+        ensures err { OnErr result (self.new ≡ self.old) }
+    {
+        install(alloc, &mut self.text_objects, store, fetched)
+    }
+}

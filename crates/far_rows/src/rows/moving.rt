@@ -1,0 +1,125 @@
+// The objects of the rows, which are named by their columns and row groups.
+ghost use Rattle.std.specs.Prelude.{◌≡◌, ◌<◌, ℕ, List, length, Some, option_map, IfOk, IfSome, OnOk, OnErr, IsSomeAnd};
+ghost use Rattle.far_scopes.specs.Movement.{AreHere};
+ghost use Rattle.far_scopes.specs.Refusing.{refusal_in};
+ghost use Rattle.far_rows.specs.declared.slot.Slot.TheVariants as slot;
+ghost use Rattle.far_rows.specs.Rows.{cells_of, object_of};
+ghost use Rattle.far_rows.specs.Moving.{object_in, object_at, IsInUse, pinned, unpinned, touched, object_refusal, pin_refusal, unpin_refusal};
+
+use super::Rows;
+use crate::object::Object;
+use crate::slot::Slot;
+use far_scopes::Objects;
+use far_store::FarRead;
+use far_types::Refusal;
+
+impl<S: FarRead> Rows<S> {
+    /// The objects of numbers, lent for jobs to begin with. Takes no memory.
+    pub fn number_objects(&self) -> &Objects<Option<i64>, S>
+        ensures { result.now ≡ self.now.number_objects }
+    {
+        &self.number_objects
+    }
+
+    /// The objects of texts, lent likewise. Takes no memory.
+    pub fn text_objects(&self) -> &Objects<u8, S>
+        ensures { result.now ≡ self.now.text_objects }
+    {
+        &self.text_objects
+    }
+
+    /// The object of a row group of a column. Takes no memory.
+    ///
+    /// Refused with `NoColumn` (4) exactly where there is no such column, else with `OutOfRange` (14) exactly where no place
+    /// of the row group is used.
+    pub fn object(&self, column: usize, group: u32) -> Result<Object, Refusal>
+        ensures object { IfOk result (λ object. object_at self.now column group ≡ Some object) }
+        ensures in_use { IfOk result (λ object. IsInUse self.now object) }
+        ensures refused { refusal_in result ≡ object_refusal self.now column group }
+    {
+        let Some(slot) = self.slots.get(column) else {
+            return Err(Refusal::NoColumn);
+        };
+        let object = match *slot {
+            Slot::Number(number) => self.number_object(number, group),
+            Slot::Text(text) => self.text_object(text, group),
+        };
+        object.ok_or(Refusal::OutOfRange)
+    }
+
+    // The object of a row group of a column of numbers, which is known to be one of the objects.
+    fn number_object(&self, number: usize, group: u32) -> Option<Object>
+        requires { number < length self.now.numbers }
+        ensures object { result ≡ option_map (object_in (slot.Number number)) (object_of self.now (slot.Number number) group) }
+        ensures in_use { IfSome result (IsInUse self.now) }
+    {
+        let _number = self.number_objects.number();
+        Some(Object::Number(self.numbers[number].object(group)?))
+    }
+
+    // Likewise that of a column of texts.
+    fn text_object(&self, text: usize, group: u32) -> Option<Object>
+        requires { text < length self.now.texts }
+        ensures object { result ≡ option_map (object_in (slot.Text text)) (object_of self.now (slot.Text text) group) }
+        ensures in_use { IfSome result (IsInUse self.now) }
+    {
+        let _number = self.text_objects.number();
+        Some(Object::Text(self.texts[text].object(group as usize)?))
+    }
+
+    /// Pins the object of a row group of a column once more. Takes no memory.
+    ///
+    /// Refused with `NoColumn` (4) exactly where there is no such column; else with `OutOfRange` (14) exactly where no place
+    /// of the row group is used; else with `Absent` (16) exactly where the object is away; else with `EditsUsedUp` (24)
+    /// exactly where it has 65,535 pins. Then nothing is changed.
+    pub fn pin(&mut self, column: usize, group: u32) -> Result<(), Refusal>
+        ensures pinned { OnOk result (IsSomeAnd (object_at self.old column group) (λ object. self.new ≡ pinned self.old object)) }
+        ensures cells { cells_of S.content self.new ≡ cells_of S.content self.old }
+        ensures number_store { (name : List ℕ) → AreHere S.is_of name self.old.number_objects → AreHere S.is_of name self.new.number_objects }
+        ensures text_store { (name : List ℕ) → AreHere S.is_of name self.old.text_objects → AreHere S.is_of name self.new.text_objects }
+        ensures refused { refusal_in result ≡ pin_refusal self.old column group }
+        ensures err { OnErr result (self.new ≡ self.old) }
+    {
+        match self.object(column, group)? {
+            Object::Number(o) => self.number_objects.pin(o),
+            Object::Text(o) => self.text_objects.pin(o),
+        }
+    }
+
+    /// Pins the object of a row group of a column once less. Takes no memory.
+    ///
+    /// Refused with `NoColumn` (4) exactly where there is no such column; else with `OutOfRange` (14) exactly where no place
+    /// of the row group is used; else with `NotPinned` (18) exactly where the object has no pin. Then nothing is changed.
+    pub fn unpin(&mut self, column: usize, group: u32) -> Result<(), Refusal>
+        ensures unpinned { OnOk result (IsSomeAnd (object_at self.old column group) (λ object. self.new ≡ unpinned self.old object)) }
+        ensures cells { cells_of S.content self.new ≡ cells_of S.content self.old }
+        ensures number_store { (name : List ℕ) → AreHere S.is_of name self.old.number_objects → AreHere S.is_of name self.new.number_objects }
+        ensures text_store { (name : List ℕ) → AreHere S.is_of name self.old.text_objects → AreHere S.is_of name self.new.text_objects }
+        ensures refused { refusal_in result ≡ unpin_refusal self.old column group }
+        ensures err { OnErr result (self.new ≡ self.old) }
+    {
+        match self.object(column, group)? {
+            Object::Number(o) => self.number_objects.unpin(o),
+            Object::Text(o) => self.text_objects.unpin(o),
+        }
+    }
+
+    /// Uses the object of a row group of a column: it is hot and used last, if it is local. Takes no memory.
+    ///
+    /// Refused with `NoColumn` (4) exactly where there is no such column, else with `OutOfRange` (14) exactly where no place
+    /// of the row group is used; then nothing is changed.
+    pub fn touch(&mut self, column: usize, group: u32) -> Result<(), Refusal>
+        ensures touched { OnOk result (IsSomeAnd (object_at self.old column group) (λ object. self.new ≡ touched self.old object)) }
+        ensures cells { cells_of S.content self.new ≡ cells_of S.content self.old }
+        ensures number_store { (name : List ℕ) → AreHere S.is_of name self.old.number_objects → AreHere S.is_of name self.new.number_objects }
+        ensures text_store { (name : List ℕ) → AreHere S.is_of name self.old.text_objects → AreHere S.is_of name self.new.text_objects }
+        ensures refused { refusal_in result ≡ object_refusal self.old column group }
+        ensures err { OnErr result (self.new ≡ self.old) }
+    {
+        match self.object(column, group)? {
+            Object::Number(o) => self.number_objects.touch(o),
+            Object::Text(o) => self.text_objects.touch(o),
+        }
+        Ok(())
+    }
+}
