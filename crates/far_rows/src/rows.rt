@@ -52,7 +52,7 @@ impl<S: FarRead> Model for Rows<S> {
 
 impl<S: FarRead> Rows<S> {
     /// The rows of a table with this schema, before any row. The number tells the jobs of its objects from those of other
-    /// tables. All memory for cells is taken here.
+    /// tables. All memory for elements is taken here.
     ///
     /// Refused with `NoMemory` (1) alone.
     pub fn new(

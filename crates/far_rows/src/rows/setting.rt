@@ -1,5 +1,5 @@
 // The cell of a place is set.
-ghost use Rattle.std.specs.Prelude.{◌≡◌, [], ◌<◌, ℕ, ℤ, Option, List, length, map, false, None, Some, OnOk, OnErr, IfErr, IfSome, option_map, slice_get, slice_set, slice_index_or};
+ghost use Rattle.std.specs.Prelude.{◌≡◌, [], ◌<◌, ℕ, ℤ, Option, List, length, map, false, None, Some, OnOk, OnErr, IfErr, IsOk, IfSome, option_map, slice_get, slice_set, slice_index_or};
 ghost use Rattle.far_types.specs.Cells.{is_too_long};
 ghost use Rattle.far_scopes.specs.Movement.{AreHere};
 ghost use Rattle.far_scopes.specs.Refusing.{refusal_in};
@@ -13,16 +13,17 @@ use super::Rows;
 use crate::new_cell::NewCell;
 use crate::slot::Slot;
 use far_store::FarRead;
-use far_types::{Refusal, Text};
+use far_types::{Kind, Refusal, Text};
 use std::alloc::Global;
 
 impl<S: FarRead> Rows<S> {
     /// Whether a value may be put in a column of a place. Takes no memory.
     ///
     /// Refused with `Absent` (16) exactly where some object of the place's row group is away, naming the first in the order of
-    /// the columns; else with `ChunkFull` (11) exactly where it is a text whose form would be longer than one may be, else with `RegionFull` (17)
-    /// exactly where it is a text whose form finds no room beside the old one; else with `EditsUsedUp` (24) exactly where the
-    /// object was written as often as objects may be.
+    /// the columns; else with `ChunkFull` (11) exactly where it is a text whose form would be longer than one may be; else
+    /// with `RegionFull` (17) exactly where it is a text whose form finds no room beside the old one; else with
+    /// `EditsUsedUp` (24) exactly where the object was written as often as objects may be. Where it is not refused, `set`
+    /// can be refused with `NoMemory` (1) alone, and of a number not at all.
     pub fn may_set(&self, place: usize, column: usize, value: &NewCell) -> Result<(), Refusal>
         requires place { place < length self.now.alive }
         requires of_kind { option_map kind_of (slice_get self.now.slots column) ≡ Some (kind_in value.now) }
@@ -35,7 +36,7 @@ impl<S: FarRead> Rows<S> {
         match (self.slots[column], value) {
             (Slot::Number(i), NewCell::Number(_)) => {
                 self.numbers[i].may_set(&self.number_objects, place)
-            },
+            }
             (Slot::Text(i), NewCell::Text(text)) => {
                 self.texts[i].may_set(&self.text_objects, place, text)
             }
@@ -78,8 +79,8 @@ impl<S: FarRead> Rows<S> {
     /// Puts a value in a column of a place; its row group's object is written, and a text's form is placed anew before the
     /// old one is dropped.
     ///
-    /// The value is one that `may_set` accepted. Refused with `NoMemory` (1) alone, and not for a number; then nothing is
-    /// changed.
+    /// The value is one that `may_set` accepted. A number is not refused, and a text with `NoMemory` (1) alone; then nothing
+    /// is changed.
     pub fn set(
         &mut self,
         alloc: Global,
@@ -93,6 +94,7 @@ impl<S: FarRead> Rows<S> {
         ensures moved { OnOk result (IfSome (slice_get self.old.slots column) (λ s. self.new ≡ set_in S.content self.old place s value.now)) }
         ensures number_store { (name : List ℕ) → AreHere S.is_of name self.old.number_objects → AreHere S.is_of name self.new.number_objects }
         ensures text_store { (name : List ℕ) → AreHere S.is_of name self.old.text_objects → AreHere S.is_of name self.new.text_objects }
+        ensures number { kind_in value.now ≡ Kind.Int → IsOk result }
         ensures memory { IfErr result (λ e. e ≡ Refusal.NoMemory) }
         ensures err { OnErr result (self.new ≡ self.old) }
     {
