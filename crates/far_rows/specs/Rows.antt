@@ -1,10 +1,9 @@
 -- The rows of a table whose columns lie in objects that may be away.
-use Rattle.std.specs.Prelude.{◌≡◌, ℕ, ℤ, ◌+◌, ◌*◌, ◌<◌, ◌≤◌, ◌^◌, Bool, true, false, List, [], ◌∷◌, map, length, All, Option, slice_get, slice_index_or}
+use Rattle.std.specs.Prelude.{◌≡◌, ℕ, ℤ, ◌+◌, ◌*◌, ◌<◌, ◌≤◌, ◌^◌, Bool, true, false, List, map, length, All, Option, slice_get}
 use Rattle.std.specs.Option.{option_and_then}
 use Rattle.far_types.specs.declared.cell.Cell.{Cell}
 use Rattle.far_codec.specs.Reading.{ints_meaning}
 use Rattle.far_scopes.specs.Movement.{Movement, AreClean}
-use Rattle.far_vector.specs.Vector.{Vector}
 use Rattle.far_columns.specs.Texts.{Texts, lists_of, texts_in}
 use Rattle.far_columns.specs.Numbers.{Numbers, number_lists, numbers_in}
 use Rattle.far_columns.specs.NumbersTogether.{NumberColumns, AreNumberColumns}

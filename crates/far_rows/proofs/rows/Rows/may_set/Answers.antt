@@ -1,22 +1,18 @@
-use Rattle.std.proofs.Common.{◌≡◌, ℕ, ◌/◌, ◌<◌, List, length, get_or, Option, None, Some, sym, ap, subst, ◌∙◌, arith}
-use Rattle.std.specs.Prelude.{ℤ, option_map, slice_get}
+use Rattle.std.proofs.Common.{◌≡◌, ◌/◌, ◌<◌, length, get_or, Option, None, Some, sym, ap, subst, ◌∙◌}
+use Rattle.std.specs.Prelude.{ℤ, slice_get}
 use Rattle.std.specs.Option.{option_and_then, option_or}
-use Rattle.std.proofs.lemmas.Option.{slice_get-get_or, get_or_from_slice_get, same_Some}
+use Rattle.std.proofs.lemmas.Option.{slice_get-get_or, get_or_from_slice_get}
 use Rattle.std.proofs.lemmas.Result.{err_from_is_err_and}
-use Rattle.far_types.specs.declared.refusal.Refusal.{Refusal}
 use Rattle.far_types.specs.FirstOf.{first_of}
-use Rattle.far_scopes.specs.Refusing.{refusal_in}
 use Rattle.far_vector.specs.Vector.{Vector}
 use Rattle.far_vector.specs.Refusing.{set_refusal as number_refusal}
 use Rattle.far_columns.specs.Texts.{Texts, IsTextColumn, lists_of}
 use Rattle.far_columns.specs.Refusing.{set_refusal as text_refusal}
 use Rattle.far_rows.specs.declared.slot.Slot.{Slot}
 use Rattle.far_rows.specs.declared.slot.Slot.TheVariants as slot
-use Rattle.far_rows.specs.declared.new_cell.NewCell.{NewCell}
-use Rattle.far_rows.specs.declared.new_cell.NewCell.TheVariants as new
 use Rattle.far_rows.specs.Refusing.{absents}
-use Rattle.far_rows.specs.Slots.{IsWithin, kind_of}
-use Rattle.far_rows.specs.Setting.{kind_in, set_refusal, value_refusal}
+use Rattle.far_rows.specs.Slots.{IsWithin}
+use Rattle.far_rows.specs.Setting.{kind_in, value_refusal}
 use Rattle.far_rows.proofs.CellsSet.{slot-within}
 use Rattle.far_rows.proofs.rows.Rows.may_set.Goals as goal
 

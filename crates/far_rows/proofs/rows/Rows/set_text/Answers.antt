@@ -1,4 +1,4 @@
-use Rattle.std.proofs.Common.{◌≡◌, ℕ, ◌+◌, ◌*◌, ◌<◌, List, [], ◌∷◌, length, map, get_or, set, Option, None, Some, sym, ap, subst, ◌∙◌, arith}
+use Rattle.std.proofs.Common.{◌≡◌, ℕ, ◌+◌, ◌*◌, ◌<◌, List, [], length, map, get_or, Option, None, Some, sym, ap, subst, ◌∙◌}
 use Rattle.std.specs.Prelude.{All, option_map, slice_get, slice_set}
 use Rattle.std.specs.Option.{option_map_or, option_and_then}
 use Rattle.std.proofs.lemmas.Option.{slice_get-get_or, slice_get-map, get_or_from_slice_get}
@@ -7,13 +7,13 @@ use Rattle.far_codec.specs.TextForm.{texts_form}
 use Rattle.far_scopes.specs.Movement.{Movement, AreHere}
 use Rattle.far_scopes.specs.Effects.{with_entry}
 use Rattle.far_scopes.proofs.Pins.{length-with}
-use Rattle.far_columns.specs.Texts.{Texts, Lists, IsTextColumn, KeepsOthers, lists_of, texts_in, object_at}
+use Rattle.far_columns.specs.Texts.{Texts, Lists, IsTextColumn, lists_of, texts_in, object_at}
 use Rattle.far_columns.specs.Changes.{group_with, set_in as text_set_in}
 use Rattle.far_columns.specs.Refusing.{set_refusal}
-use Rattle.far_columns.proofs.Setting.{by-outcome, on-ok, by-outcomes}
+use Rattle.far_columns.proofs.Setting.{by-outcome, on-ok}
 use Rattle.far_rows.specs.declared.slot.Slot.TheVariants as slot
 use Rattle.far_rows.specs.declared.new_cell.NewCell.TheVariants as new
-use Rattle.far_rows.specs.Rows.{AreRows, all_texts}
+use Rattle.far_rows.specs.Rows.{all_texts}
 use Rattle.far_rows.specs.Setting.{set_in}
 use Rattle.far_rows.proofs.OneCell.{texts-still, texts-set, only-memory}
 use Rattle.far_rows.proofs.rows.Rows.set_text.Goals as goal
