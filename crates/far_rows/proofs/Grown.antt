@@ -1,8 +1,6 @@
 -- Columns that have a value more.
-use Rattle.std.proofs.Common.{◌≡◌, ℕ, ◌+◌, ◌*◌, Bool, true, false, if◌then◌else◌, List, [], ◌∷◌, ◌++◌, length, refl, sym, ap, ◌∙◌, arith}
+use Rattle.std.proofs.Common.{◌≡◌, ℕ, ◌+◌, List, [], ◌∷◌, length, refl, arith}
 use Rattle.std.specs.Prelude.{ℤ, Option, All}
-use Rattle.std.proofs.Math.Nat.{mul-add, mul-one}
-use Rattle.std.proofs.lemmas.List.{length_push}
 use Rattle.std.proofs.lemmas.List.Elements.{All-nil, All-cons, All-head, All-tail}
 use Rattle.far_vector.specs.Vector.{Vector}
 use Rattle.far_vector.specs.Effects.{pushed as number_pushed}

@@ -1,5 +1,5 @@
 -- Columns of numbers that have a number more.
-use Rattle.std.proofs.Common.{◌≡◌, inl, inr, ℕ, zero, ◌+◌, ◌*◌, ◌%◌, ◌<◌, Bool, true, false, if◌then◌else◌, List, [], ◌∷◌, ◌++◌, length, refl, sym, ap, subst, ◌∙◌, arith}
+use Rattle.std.proofs.Common.{◌≡◌, inl, inr, ℕ, zero, ◌+◌, ◌*◌, ◌%◌, ◌<◌, Bool, true, false, if◌then◌else◌, [], ◌∷◌, ◌++◌, length, refl, sym, ap, subst, ◌∙◌, arith}
 use Rattle.std.specs.Prelude.{ℤ, Option, All, slice_index_or}
 use Rattle.std.proofs.Math.Nat.{mul-add, mul-one}
 use Rattle.std.proofs.lemmas.Bool.{cases_eq, cases_lt, cases_Bool}
@@ -11,10 +11,10 @@ use Rattle.far_rows.proofs.Beginning.{IsNumbers, number-begins, number-begun, nu
 use Rattle.far_rows.proofs.Grown.{as-many-numbers, all-numbers}
 
 -- a column with a number more, as its last row group is full or not
-begun : (c : Vector (Option ℤ)) (o : ℕ) → is_full c ≡ true → pushed c o ≡ record c { objects = c.objects ++ o ∷ []; len = c.len + 1 }
+pub begun : (c : Vector (Option ℤ)) (o : ℕ) → is_full c ≡ true → pushed c o ≡ record c { objects = c.objects ++ o ∷ []; len = c.len + 1 }
 begun c o full = rw full refl
 
-longer : (c : Vector (Option ℤ)) (o : ℕ) → is_full c ≡ false → pushed c o ≡ record c { len = c.len + 1 }
+pub longer : (c : Vector (Option ℤ)) (o : ℕ) → is_full c ≡ false → pushed c o ≡ record c { len = c.len + 1 }
 longer c o full = rw full refl
 
 -- it has row groups of the size that it had, and a place more

@@ -1,9 +1,8 @@
 -- What columns hold once each has a value more.
-use Rattle.std.proofs.Common.{◌≡◌, ℕ, zero, suc, ◌<◌, List, [], ◌∷◌, ◌++◌, map, length, get_or, Option, None, refl, sym, ap, ◌∙◌, arith}
-use Rattle.std.specs.Prelude.{ℤ, All}
+use Rattle.std.proofs.Common.{◌≡◌, ℕ, zero, suc, ◌<◌, List, [], ◌∷◌, ◌++◌, map, length, get_or, Option, None, refl, ap, ◌∙◌, arith}
+use Rattle.std.specs.Prelude.{All}
 use Rattle.std.proofs.lemmas.List.{map-append}
 use Rattle.std.proofs.lemmas.List.Elements.{All-head, All-tail}
-use Rattle.far_types.specs.declared.cell.Cell.{Cell}
 use Rattle.far_vector.specs.Vector.{elements}
 use Rattle.far_columns.specs.Texts.{Texts, Lists, texts_in}
 use Rattle.far_columns.specs.Numbers.{Numbers}

@@ -6,7 +6,6 @@ use Rattle.far_types.specs.declared.refusal.Refusal.{Refusal}
 use Rattle.far_types.specs.declared.refusal.Refusal.TheVariants.{NoMemory}
 use Rattle.std.proofs.lemmas.Option.{none-some, slice_get_within, get_or_from_slice_get}
 use Rattle.std.proofs.lemmas.List.{set-get_or}
-use Rattle.far_scopes.specs.declared.entry.Entry.{Entry}
 use Rattle.far_vector.specs.Vector.{Vector, IsVector, AreApart, IsUntouched, elements}
 use Rattle.far_vector.specs.Vectors.{AreVectors, ChangesVector}
 use Rattle.far_vector.proofs.Together.{vectors-after, others-after}

@@ -1,22 +1,18 @@
-use Rattle.std.proofs.Common.{◌≡◌, ℕ, ◌/◌, ◌<◌, List, length, get_or, Option, None, Some, sym, ap, subst, ◌∙◌, arith}
-use Rattle.std.specs.Prelude.{ℤ, option_map, slice_get}
+use Rattle.std.proofs.Common.{◌≡◌, ◌/◌, ◌<◌, length, get_or, Option, None, Some, sym, ap, subst, ◌∙◌}
+use Rattle.std.specs.Prelude.{ℤ, slice_get}
 use Rattle.std.specs.Option.{option_and_then, option_or}
-use Rattle.std.proofs.lemmas.Option.{slice_get-get_or, get_or_from_slice_get, same_Some}
+use Rattle.std.proofs.lemmas.Option.{slice_get-get_or, get_or_from_slice_get}
 use Rattle.std.proofs.lemmas.Result.{err_from_is_err_and}
-use Rattle.far_types.specs.declared.refusal.Refusal.{Refusal}
 use Rattle.far_types.specs.FirstOf.{first_of}
-use Rattle.far_scopes.specs.Refusing.{refusal_in}
 use Rattle.far_vector.specs.Vector.{Vector}
 use Rattle.far_vector.specs.Refusing.{set_refusal as number_refusal}
 use Rattle.far_columns.specs.Texts.{Texts, IsTextColumn, lists_of}
 use Rattle.far_columns.specs.Refusing.{set_refusal as text_refusal}
 use Rattle.far_rows.specs.declared.slot.Slot.{Slot}
 use Rattle.far_rows.specs.declared.slot.Slot.TheVariants as slot
-use Rattle.far_rows.specs.declared.new_cell.NewCell.{NewCell}
-use Rattle.far_rows.specs.declared.new_cell.NewCell.TheVariants as new
 use Rattle.far_rows.specs.Refusing.{absents}
-use Rattle.far_rows.specs.Slots.{IsWithin, kind_of}
-use Rattle.far_rows.specs.Setting.{kind_in, set_refusal, value_refusal}
+use Rattle.far_rows.specs.Slots.{IsWithin}
+use Rattle.far_rows.specs.Setting.{kind_in, value_refusal}
 use Rattle.far_rows.proofs.CellsSet.{slot-within}
 use Rattle.far_rows.proofs.rows.Rows.may_set.Goals as goal
 
@@ -25,7 +21,7 @@ returns-in_err-here g c =
     let r = c.args.self.now in
     let p = err_from_is_err_and c.from_residual.result c.from_residual.ensures.1 in
     let later = option_and_then (λ s. value_refusal g.S.FarRead.content r c.args.place s c.args.value.now) (slice_get r.slots c.args.column) in
-    let due : Some c.in_err-here.field-0.0 ≡ first_of (absents r (c.args.place / r.size)) = c.in_err-here.ensures ∙ ap (λ rows. first_of (absents r (c.args.place / rows.size))) c.self.view_is in
+    let due : Some c.in_err-here.field-0.0 ≡ first_of (absents r (c.args.place / r.size)) = c.in_err-here.ensures.refused ∙ ap (λ rows. first_of (absents r (c.args.place / rows.size))) c.self.view_is in
     rw (p.1, p.2) (ap (λ o. option_or o later) due)
 
 pub returns-in-Number-Number : goal.returns-in-Number-Number
@@ -40,7 +36,7 @@ returns-in-Number-Number g c =
     let inside : IsWithin (length r.numbers) (length r.texts) s = subst (IsWithin (length r.numbers) (length r.texts)) (get_or_from_slice_get r.slots c.args.column s s at) (c.len-len.ensures.rows.slots.within c.args.column s below) in
     let read_column : v ≡ get_or r.numbers c.in-Number-Number.i v = c.index-in-Number-Number.ensures ∙ ap (λ rows. get_or rows.numbers c.in-Number-Number.i v) c.self.view_is in
     let column : slice_get r.numbers c.in-Number-Number.i ≡ Some v = slice_get-get_or r.numbers c.in-Number-Number.i v inside ∙ ap Some (sym read_column) in
-    let here : first_of (absents r (c.args.place / r.size)) ≡ None = sym (c.in_ok-here.ensures ∙ ap (λ rows. first_of (absents r (c.args.place / rows.size))) c.self.view_is) in
+    let here : first_of (absents r (c.args.place / r.size)) ≡ None = sym (c.in_ok-here.ensures.refused ∙ ap (λ rows. first_of (absents r (c.args.place / rows.size))) c.self.view_is) in
     let refused = λ (w : Vector (Option ℤ)). number_refusal r.number_objects w c.args.place in
     c.may_set.ensures
     ∙ ap (λ rows. number_refusal rows.number_objects v c.args.place) c.self.view_is
@@ -71,7 +67,7 @@ returns-in-Text-Text g c =
     let inside : IsWithin (length r.numbers) (length r.texts) s = subst (IsWithin (length r.numbers) (length r.texts)) (get_or_from_slice_get r.slots c.args.column s s at) (c.len-len.ensures.rows.slots.within c.args.column s below) in
     let read_column : v ≡ get_or r.texts c.in-Text-Text.i v = c.index-in-Text-Text.ensures ∙ ap (λ rows. get_or rows.texts c.in-Text-Text.i v) c.self.view_is in
     let column : slice_get r.texts c.in-Text-Text.i ≡ Some v = slice_get-get_or r.texts c.in-Text-Text.i v inside ∙ ap Some (sym read_column) in
-    let here : first_of (absents r (c.args.place / r.size)) ≡ None = sym (c.in_ok-here.ensures ∙ ap (λ rows. first_of (absents r (c.args.place / rows.size))) c.self.view_is) in
+    let here : first_of (absents r (c.args.place / r.size)) ≡ None = sym (c.in_ok-here.ensures.refused ∙ ap (λ rows. first_of (absents r (c.args.place / rows.size))) c.self.view_is) in
     let refused = λ (w : Texts). text_refusal content r.text_objects w c.args.place c.in-Text-Text.text in
     c.may_set-in-Text-Text.ensures
     ∙ ap (λ rows. text_refusal content rows.text_objects v c.args.place c.in-Text-Text.text) c.self.view_is

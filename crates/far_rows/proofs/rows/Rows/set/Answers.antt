@@ -1,4 +1,4 @@
-use Rattle.std.proofs.Common.{◌≡◌, ◌<◌, List, length, get_or, Option, Some, sym, ap, subst, ◌∙◌, arith}
+use Rattle.std.proofs.Common.{◌≡◌, ◌<◌, List, length, get_or, Some, sym, ap, subst, ◌∙◌, arith}
 use Rattle.std.specs.Prelude.{slice_get, IfSome}
 use Rattle.std.proofs.lemmas.Option.{slice_get-get_or, get_or_from_slice_get}
 use Rattle.std.proofs.lemmas.List.{length-map}
@@ -7,7 +7,6 @@ use Rattle.far_columns.specs.Texts.{lists_of, texts_in}
 use Rattle.far_columns.proofs.Setting.{on-ok, on-both}
 use Rattle.far_rows.specs.declared.slot.Slot.{Slot}
 use Rattle.far_rows.specs.declared.slot.Slot.TheVariants as slot
-use Rattle.far_rows.specs.Cells.{int_cell, text_cell}
 use Rattle.far_rows.specs.Slots.{IsWithin, columns_of}
 use Rattle.far_rows.specs.Rows.{all_numbers, all_texts, cells_of}
 use Rattle.far_rows.specs.Setting.{cell_of, kind_in, set_in, with_cell}
