@@ -1,6 +1,6 @@
 -- A table that is opened is one.
 use Rattle.std.proofs.Common.{◌≡◌, ℕ, ◌+◌, ◌*◌, ◌-◌, ℤ, List, [], ◌∷◌, length, get_or, replicate, Option, refl, sym, ap, ◌∙◌, arith}
-use Rattle.std.specs.Prelude.{All, AllPairs}
+use Rattle.std.specs.Prelude.{All, AllPairs, slice_get}
 use Rattle.std.proofs.lemmas.Option.{slice_get_past, none-some}
 use Rattle.std.proofs.lemmas.List.Elements.{All-nil, All-cons, All-weaker}
 use Rattle.far_types.specs.declared.cell.Kind.{Kind}
@@ -12,9 +12,10 @@ use Rattle.far_columns.specs.Texts as texts
 use Rattle.far_columns.specs.Texts.{Texts, Lists, IsTextColumn}
 use Rattle.far_columns.specs.NumbersTogether.{NumberLists, AreNumberColumns}
 use Rattle.far_columns.specs.Together.{AreColumns}
+use Rattle.far_rows.specs.Naming.{AreNamed}
 use Rattle.far_rows.specs.Rows.{AreRows}
 use Rattle.far_rows.specs.Opening.{numbers_from, texts_from, empty_rows}
-use Rattle.far_rows.proofs.EmptySlots.{slots-are, columns-count}
+use Rattle.far_rows.proofs.EmptySlots.{slots-are, columns-count, are-numbered}
 
 mul-zero : (n : ℕ) → n * 0 ≡ 0
 mul-zero n = omega arith
@@ -106,6 +107,9 @@ rows-are content schema limits number few are =
       even_texts = All-weaker (IsEmptyTexts size) (λ (c : Texts). (c.size ≡ size) × (c.len ≡ 0)) (λ c empty. (empty.even, empty.len)) (texts_from size limit 0 schema) texts;
       number_objects = All-weaker (IsEmptyNumbers size) _ (λ c empty. sym (no-objects (length (numbers_from size 0 schema)) c.objects empty.objects)) (numbers_from size 0 schema) numbers;
       text_objects = All-weaker (IsEmptyTexts size) _ (λ c empty. sym (no-objects (length (texts_from size limit 0 schema)) c.objects empty.objects)) (texts_from size limit 0 schema) texts;
+      numbered = are-numbered size limit schema;
+      number_names = All-weaker (IsEmptyNumbers size) (λ (c : Vector (Option ℤ)). AreNamed [] c.column c.objects) (λ c empty g o at. absurd (none-some o (sym (ap (λ os. slice_get os g) empty.objects) ∙ at))) (numbers_from size 0 schema) numbers;
+      text_names = All-weaker (IsEmptyTexts size) (λ (c : Texts). AreNamed [] c.column c.objects) (λ c empty g o at. absurd (none-some o (sym (ap (λ os. slice_get os g) empty.objects) ∙ at))) (texts_from size limit 0 schema) texts;
       clean_numbers = λ o clean. refl;
       clean_texts = λ o clean. refl;
     }

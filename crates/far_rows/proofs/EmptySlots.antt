@@ -1,6 +1,8 @@
 -- The slots of a schema are those of its columns, each once.
-use Rattle.std.proofs.Common.{◌≡◌, ◌≢◌, ℕ, ◌+◌, ◌≤◌, List, [], ◌∷◌, length, refl, arith}
-use Rattle.std.specs.Prelude.{All, AllPairs}
+use Rattle.std.proofs.Common.{◌≡◌, ◌≢◌, ℕ, zero, suc, ◌+◌, ◌≤◌, List, [], ◌∷◌, ◌++◌, length, map, Some, refl, sym, ap, ◌∙◌, arith}
+use Rattle.std.specs.Prelude.{All, AllPairs, slice_get}
+use Rattle.std.proofs.lemmas.Option.{none-some, same_Some}
+use Rattle.std.proofs.lemmas.List.{append_assoc, length_push}
 use Rattle.std.proofs.lemmas.List.Elements.{All-nil, All-cons, All-weaker}
 use Rattle.std.proofs.lemmas.List.Kept.{AllPairs-cons}
 use Rattle.far_types.specs.declared.cell.Kind.{Kind}
@@ -8,6 +10,7 @@ use Rattle.far_types.specs.declared.cell.Kind.TheVariants as kind
 use Rattle.far_rows.specs.declared.slot.Slot.{Slot}
 use Rattle.far_rows.specs.declared.slot.Slot.TheVariants as slot
 use Rattle.far_rows.specs.Slots.{AreSlots, IsWithin, slots_from}
+use Rattle.far_rows.specs.Naming.{number_in, AreNumbered}
 use Rattle.far_rows.specs.Opening.{numbers_from, texts_from}
 
 -- it lies behind so many columns of numbers, or so many of texts
@@ -63,3 +66,45 @@ module _ (size limit : ℕ) where
   columns-count n [] = refl
   columns-count n (kind.Int ∷ kinds) = let rest = columns-count (n + 1) kinds in omega arith
   columns-count n (kind.Text ∷ kinds) = let rest = columns-count (n + 1) kinds in omega arith
+
+-- the first that is behind some
+get-behind : (ns : List ℕ) (n : ℕ) (more : List ℕ) → slice_get (ns ++ n ∷ more) (length ns) ≡ Some n
+get-behind [] n more = refl
+get-behind (m ∷ ns) n more = get-behind ns n more
+
+module _ (size limit : ℕ) where
+  -- the numbers of the columns of these kinds, of which the first is the n-th
+  abbrev number_columns : ℕ → List Kind → List ℕ
+  number_columns n kinds = map (λ c. c.column) (numbers_from size n kinds)
+
+  abbrev text_columns : ℕ → List Kind → List ℕ
+  text_columns n kinds = map (λ c. c.column) (texts_from size limit n kinds)
+
+  -- each slot behind columns of these numbers is that of the next column
+  numbered-from : (ns ts : List ℕ) (n : ℕ) (kinds : List Kind) (a b : ℕ) → a ≡ length ns → b ≡ length ts → (k : ℕ) (s : Slot) → slice_get (slots_from a b kinds) k ≡ Some s → number_in (ns ++ number_columns n kinds) (ts ++ text_columns n kinds) s ≡ Some (n + k)
+  numbered-from ns ts n [] a b of_a of_b k s at = absurd (none-some s at)
+  numbered-from ns ts n (kind.Int ∷ kinds) a b of_a of_b zero s at =
+      let numbers = ns ++ number_columns n (kind.Int ∷ kinds) in
+      let texts = ts ++ text_columns n (kind.Int ∷ kinds) in
+      ap (number_in numbers texts) (sym (same_Some (slot.Number a) s at))
+      ∙ ap (slice_get numbers) of_a
+      ∙ get-behind ns n (number_columns (n + 1) kinds)
+      ∙ ap Some (omega arith)
+  numbered-from ns ts n (kind.Int ∷ kinds) a b of_a of_b (suc k) s at =
+      ap (λ numbers. number_in numbers (ts ++ text_columns (n + 1) kinds) s) (sym (append_assoc ns (n ∷ []) (number_columns (n + 1) kinds)))
+      ∙ numbered-from (ns ++ n ∷ []) ts (n + 1) kinds (a + 1) b (omega (arith, of_a, length_push ns n)) of_b k s at
+      ∙ ap Some (omega arith)
+  numbered-from ns ts n (kind.Text ∷ kinds) a b of_a of_b zero s at =
+      let numbers = ns ++ number_columns n (kind.Text ∷ kinds) in
+      let texts = ts ++ text_columns n (kind.Text ∷ kinds) in
+      ap (number_in numbers texts) (sym (same_Some (slot.Text b) s at))
+      ∙ ap (slice_get texts) of_b
+      ∙ get-behind ts n (text_columns (n + 1) kinds)
+      ∙ ap Some (omega arith)
+  numbered-from ns ts n (kind.Text ∷ kinds) a b of_a of_b (suc k) s at =
+      ap (λ texts. number_in (ns ++ number_columns (n + 1) kinds) texts s) (sym (append_assoc ts (n ∷ []) (text_columns (n + 1) kinds)))
+      ∙ numbered-from ns (ts ++ n ∷ []) (n + 1) kinds a (b + 1) of_a (omega (arith, of_b, length_push ts n)) k s at
+      ∙ ap Some (omega arith)
+
+  pub are-numbered : (kinds : List Kind) → AreNumbered (slots_from 0 0 kinds) (number_columns 0 kinds) (text_columns 0 kinds)
+  are-numbered kinds k s at = numbered-from [] [] 0 kinds 0 0 refl refl k s at ∙ ap Some (omega arith)

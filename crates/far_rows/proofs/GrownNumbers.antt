@@ -11,10 +11,10 @@ use Rattle.far_rows.proofs.Beginning.{IsNumbers, number-begins, number-begun, nu
 use Rattle.far_rows.proofs.Grown.{as-many-numbers, all-numbers}
 
 -- a column with a number more, as its last row group is full or not
-begun : (c : Vector (Option ℤ)) (o : ℕ) → is_full c ≡ true → pushed c o ≡ record c { objects = c.objects ++ o ∷ []; len = c.len + 1 }
+pub begun : (c : Vector (Option ℤ)) (o : ℕ) → is_full c ≡ true → pushed c o ≡ record c { objects = c.objects ++ o ∷ []; len = c.len + 1 }
 begun c o full = rw full refl
 
-longer : (c : Vector (Option ℤ)) (o : ℕ) → is_full c ≡ false → pushed c o ≡ record c { len = c.len + 1 }
+pub longer : (c : Vector (Option ℤ)) (o : ℕ) → is_full c ≡ false → pushed c o ≡ record c { len = c.len + 1 }
 longer c o full = rw full refl
 
 -- it has row groups of the size that it had, and a place more

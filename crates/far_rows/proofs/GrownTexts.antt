@@ -11,10 +11,10 @@ use Rattle.far_rows.proofs.Beginning.{IsTexts, text-begins, text-begun, texts-be
 use Rattle.far_rows.proofs.Grown.{as-many-texts, all-texts}
 
 -- a column with a number more, as its last row group is full or not
-begun : (c : Texts) (o : ℕ) → begins_group c ≡ true → pushed c o ≡ record c { objects = c.objects ++ o ∷ []; len = c.len + 1 }
+pub begun : (c : Texts) (o : ℕ) → begins_group c ≡ true → pushed c o ≡ record c { objects = c.objects ++ o ∷ []; len = c.len + 1 }
 begun c o full = rw full refl
 
-longer : (c : Texts) (o : ℕ) → begins_group c ≡ false → pushed c o ≡ record c { len = c.len + 1 }
+pub longer : (c : Texts) (o : ℕ) → begins_group c ≡ false → pushed c o ≡ record c { len = c.len + 1 }
 longer c o full = rw full refl
 
 -- it has row groups of the size that it had, and a place more

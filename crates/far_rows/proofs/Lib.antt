@@ -9,6 +9,11 @@ pub mod Filling
 pub mod Opening
 pub mod EmptySlots
 pub mod EmptyRows
+pub mod Names
+pub mod NamesPushed
+pub mod NumbersNamed
+pub mod TextsNamed
+pub mod AbsentNames
 pub mod InUse
 pub mod Moved
 pub mod Reading

@@ -1,38 +1,26 @@
 -- Rows whose objects moved: each has the list that it had, so the rows have the cells that they had.
-use Rattle.std.proofs.Common.{◌≡◌, ℕ, List, [], ◌∷◌, length, map, Option, refl, ap, ◌∙◌}
-use Rattle.std.specs.Prelude.{ℤ, Result, OnOk, OnErr, None, Some, IsSomeAnd}
-use Rattle.far_scopes.specs.Effects.{arrived}
-use Rattle.far_types.specs.declared.refusal.Refusal.{Refusal}
+use Rattle.std.proofs.Common.{◌≡◌, ℕ, List, [], ◌∷◌, map, get_or, Option, refl, sym, ap, subst, ◌∙◌}
+use Rattle.std.specs.Prelude.{ℤ}
+use Rattle.far_types.specs.declared.name.Name.{Name}
 use Rattle.far_codec.specs.Reading.{ints_meaning}
 use Rattle.far_scopes.specs.Movement.{Movement, AreClean}
 use Rattle.far_vector.proofs.Together.{vectors-stay, elements-stay}
 use Rattle.far_columns.specs.Texts.{lists_of, texts_in}
 use Rattle.far_columns.specs.Numbers.{number_lists, numbers_in}
 use Rattle.far_columns.proofs.Beside.{columns-stay, texts-stay}
-use Rattle.far_columns.proofs.Setting.{by-outcome}
 use Rattle.far_rows.specs.Slots.{columns_of}
+use Rattle.far_rows.specs.Naming.{names_of, AreNamed}
 use Rattle.far_rows.specs.Rows.{Rows, AreRows, cells_of, all_numbers, all_texts}
+use Rattle.far_rows.proofs.Names.{as-many}
 
 module _ {A B : Type 0} where
   same-map : (f g : A → B) → ((x : A) → f x ≡ g x) → (xs : List A) → map f xs ≡ map g xs
   same-map f g same [] = refl
   same-map f g same (x ∷ xs) = let here = same x in let there = same-map f g same xs in λ k. here k ∷ there k
 
--- objects of which there are as many once something is done are as many once that is done or refused
-pub as-many : {X K A : Type 0} (old new done : Movement X K) (result : Result A Refusal) → OnOk result (new ≡ done) → OnErr result (new ≡ old) → length done.entries ≡ length old.entries → length new.entries ≡ length old.entries
-as-many old new done result ok err same = by-outcome result ok err (λ e. ap (λ m. length m.entries) e ∙ same) (ap (λ m. length m.entries))
-
--- so are they where an object comes back
-came : {X K : Type 0} (old new : Movement X K) (o : ℕ) (list : Option (List X)) → IsSomeAnd list (λ xs. new ≡ arrived old o xs) → length new.entries ≡ length old.entries
-came old new o (Some xs) is = ap (λ m. length m.entries) is
-came old new o None is = absurd is
-
-pub as-many-there : {X K A : Type 0} (old new : Movement X K) (o : ℕ) (list : Option (List X)) (result : Result A Refusal) → OnOk result (IsSomeAnd list (λ xs. new ≡ arrived old o xs)) → OnErr result (new ≡ old) → length new.entries ≡ length old.entries
-as-many-there old new o list result ok err = by-outcome result ok err (came old new o list) (ap (λ m. length m.entries))
-
 module _ {K : Type 0} (content : K → List ℕ) {r : Rows K} where
-  pub numbers-moved : AreRows content r → (m : Movement (Option ℤ) K) → ((o : ℕ) → number_lists content m o ≡ number_lists content r.number_objects o) → length m.entries ≡ length r.number_objects.entries → AreClean ints_meaning content m → AreRows content (record r { number_objects = m })
-  numbers-moved are m lists many clean = record {
+  pub numbers-moved : AreRows content r → (m : Movement (Option ℤ) K) → ((o : ℕ) → number_lists content m o ≡ number_lists content r.number_objects o) → names_of m ≡ names_of r.number_objects → AreClean ints_meaning content m → AreRows content (record r { number_objects = m })
+  numbers-moved are m lists names clean = record {
     slots = are.slots;
     few = are.few;
     some = are.some;
@@ -45,14 +33,17 @@ module _ {K : Type 0} (content : K → List ℕ) {r : Rows K} where
     texts = are.texts;
     even_numbers = are.even_numbers;
     even_texts = are.even_texts;
-    number_objects = λ k c within. many ∙ are.number_objects k c within;
+    number_objects = λ k c within. as-many r.number_objects m names ∙ are.number_objects k c within;
     text_objects = are.text_objects;
+    numbered = are.numbered;
+    number_names = λ k c within. subst (λ (ns : List Name). AreNamed ns (get_or r.numbers k c).column (get_or r.numbers k c).objects) (sym names) (are.number_names k c within);
+    text_names = are.text_names;
     clean_numbers = clean;
     clean_texts = are.clean_texts;
   }
 
-  pub texts-moved : AreRows content r → (m : Movement ℕ K) → ((o : ℕ) → lists_of content m o ≡ lists_of content r.text_objects o) → length m.entries ≡ length r.text_objects.entries → AreClean (λ bytes. bytes) content m → AreRows content (record r { text_objects = m })
-  texts-moved are m lists many clean = record {
+  pub texts-moved : AreRows content r → (m : Movement ℕ K) → ((o : ℕ) → lists_of content m o ≡ lists_of content r.text_objects o) → names_of m ≡ names_of r.text_objects → AreClean (λ bytes. bytes) content m → AreRows content (record r { text_objects = m })
+  texts-moved are m lists names clean = record {
     slots = are.slots;
     few = are.few;
     some = are.some;
@@ -66,7 +57,10 @@ module _ {K : Type 0} (content : K → List ℕ) {r : Rows K} where
     even_numbers = are.even_numbers;
     even_texts = are.even_texts;
     number_objects = are.number_objects;
-    text_objects = λ k c within. many ∙ are.text_objects k c within;
+    text_objects = λ k c within. as-many r.text_objects m names ∙ are.text_objects k c within;
+    numbered = are.numbered;
+    number_names = are.number_names;
+    text_names = λ k c within. subst (λ (ns : List Name). AreNamed ns (get_or r.texts k c).column (get_or r.texts k c).objects) (sym names) (are.text_names k c within);
     clean_numbers = are.clean_numbers;
     clean_texts = clean;
   }

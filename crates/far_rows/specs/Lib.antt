@@ -1,5 +1,6 @@
 pub mod Cells
 pub mod Slots
+pub mod Naming
 pub mod Rows
 pub mod Refusing
 pub mod Setting

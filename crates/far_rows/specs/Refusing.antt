@@ -1,5 +1,5 @@
 -- Why calls on rows are refused.
-use Rattle.std.specs.Prelude.{ℕ, ◌/◌, ◌||◌, nat_lt, not, false, Bool, List, [], ◌∷◌, map, length, Option, option_map, slice_get, is_none}
+use Rattle.std.specs.Prelude.{ℕ, ◌+◌, ◌/◌, ◌||◌, nat_lt, not, false, Bool, List, [], ◌∷◌, map, length, Option, option_map, slice_get, is_none}
 use Rattle.std.specs.Option.{option_map_or, option_or}
 use Rattle.far_types.specs.declared.refusal.Refusal.{Refusal}
 use Rattle.far_types.specs.declared.refusal.Refusal.TheVariants as refusal
@@ -23,6 +23,12 @@ module _ {K : Type 0} (r : Rows K) where
   -- the columns of a row group, in order: its object is away
   abbrev pub absents : ℕ → List (Bool × Refusal)
   absents g = map (absent_at g) r.slots
+
+  -- the columns of these slots likewise, of which the first is the n-th of the table: the refusal names the column and the
+  -- row group
+  abbrev pub named_absents : ℕ → ℕ → List Slot → List (Bool × Refusal)
+  named_absents g n [] = []
+  named_absents g n (s ∷ slots) = ((absent_at g s).0, refusal.Absent n g) ∷ named_absents g (n + 1) slots
 
   -- there is no such place
   abbrev pub no_row : ℕ → Bool × Refusal

@@ -12,7 +12,7 @@ ghost use Rattle.far_columns.specs.Texts.{lists_of, IsTextColumn};
 ghost use Rattle.far_rows.specs.Cells.{int_cell, text_cell, lent_cell};
 ghost use Rattle.far_rows.specs.Slots.{IsWithin, column_in};
 ghost use Rattle.far_rows.specs.Rows.{all_numbers, all_texts, cells_of};
-ghost use Rattle.far_rows.specs.Refusing.{no_range, absent_at, absents, cell_refusal, text_refusal, ints_refusal};
+ghost use Rattle.far_rows.specs.Refusing.{no_range, absent_at, absents, named_absents, cell_refusal, text_refusal, ints_refusal};
 ghost use Rattle.far_rows.specs.Lending.{lent_ints, numbers_of};
 
 use super::Rows;
@@ -26,9 +26,11 @@ use far_types::Refusal;
 impl<S: FarRead> Rows<S> {
     /// Whether all objects of a row group are local. A row group of which no place is used has none. Takes no memory.
     ///
-    /// Refused with `Absent` (16) exactly where one is away, naming the first in the order of the columns.
+    /// Refused with `Absent` (16) exactly where one is away, naming the first in the order of the columns by the column and the
+    /// row group.
     pub fn here(&self, group: u32) -> Result<(), Refusal>
-        ensures { refusal_in result ≡ first_of (absents self.now group) }
+        ensures refused { refusal_in result ≡ first_of (absents self.now group) }
+        ensures names { refusal_in result ≡ first_of (named_absents self.now group 0 self.now.slots) }
     {
         // It tells that each slot is that of a column.
         let _len = self.len();

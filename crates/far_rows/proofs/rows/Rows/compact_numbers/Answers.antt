@@ -1,9 +1,10 @@
-use Rattle.std.proofs.Common.{length, ap}
+use Rattle.std.proofs.Common.{ap}
+use Rattle.far_rows.specs.Naming.{names_of}
 use Rattle.far_rows.proofs.Moved.{numbers-moved, number-cells}
 use Rattle.far_rows.proofs.rows.Rows.compact_numbers.Goals as goal
 
 pub invariant_of-self : goal.invariant_of-self
-invariant_of-self g c = numbers-moved g.S.FarRead.content c.self.invariant c.compact.new.self c.compact.ensures.lists (ap (λ m. length m.entries) c.compact.ensures.kept) (c.compact.ensures.clean c.self.invariant.clean_numbers)
+invariant_of-self g c = numbers-moved g.S.FarRead.content c.self.invariant c.compact.new.self c.compact.ensures.lists (ap names_of c.compact.ensures.kept) (c.compact.ensures.clean c.self.invariant.clean_numbers)
 
 pub returns-clause-cells : goal.returns-clause-cells
 returns-clause-cells g c = number-cells g.S.FarRead.content c.self.view_is c.compact.new.self c.compact.ensures.lists

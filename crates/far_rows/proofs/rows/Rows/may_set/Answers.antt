@@ -21,7 +21,7 @@ returns-in_err-here g c =
     let r = c.args.self.now in
     let p = err_from_is_err_and c.from_residual.result c.from_residual.ensures.1 in
     let later = option_and_then (λ s. value_refusal g.S.FarRead.content r c.args.place s c.args.value.now) (slice_get r.slots c.args.column) in
-    let due : Some c.in_err-here.field-0.0 ≡ first_of (absents r (c.args.place / r.size)) = c.in_err-here.ensures ∙ ap (λ rows. first_of (absents r (c.args.place / rows.size))) c.self.view_is in
+    let due : Some c.in_err-here.field-0.0 ≡ first_of (absents r (c.args.place / r.size)) = c.in_err-here.ensures.refused ∙ ap (λ rows. first_of (absents r (c.args.place / rows.size))) c.self.view_is in
     rw (p.1, p.2) (ap (λ o. option_or o later) due)
 
 pub returns-in-Number-Number : goal.returns-in-Number-Number
@@ -36,7 +36,7 @@ returns-in-Number-Number g c =
     let inside : IsWithin (length r.numbers) (length r.texts) s = subst (IsWithin (length r.numbers) (length r.texts)) (get_or_from_slice_get r.slots c.args.column s s at) (c.len-len.ensures.rows.slots.within c.args.column s below) in
     let read_column : v ≡ get_or r.numbers c.in-Number-Number.i v = c.index-in-Number-Number.ensures ∙ ap (λ rows. get_or rows.numbers c.in-Number-Number.i v) c.self.view_is in
     let column : slice_get r.numbers c.in-Number-Number.i ≡ Some v = slice_get-get_or r.numbers c.in-Number-Number.i v inside ∙ ap Some (sym read_column) in
-    let here : first_of (absents r (c.args.place / r.size)) ≡ None = sym (c.in_ok-here.ensures ∙ ap (λ rows. first_of (absents r (c.args.place / rows.size))) c.self.view_is) in
+    let here : first_of (absents r (c.args.place / r.size)) ≡ None = sym (c.in_ok-here.ensures.refused ∙ ap (λ rows. first_of (absents r (c.args.place / rows.size))) c.self.view_is) in
     let refused = λ (w : Vector (Option ℤ)). number_refusal r.number_objects w c.args.place in
     c.may_set.ensures
     ∙ ap (λ rows. number_refusal rows.number_objects v c.args.place) c.self.view_is
@@ -67,7 +67,7 @@ returns-in-Text-Text g c =
     let inside : IsWithin (length r.numbers) (length r.texts) s = subst (IsWithin (length r.numbers) (length r.texts)) (get_or_from_slice_get r.slots c.args.column s s at) (c.len-len.ensures.rows.slots.within c.args.column s below) in
     let read_column : v ≡ get_or r.texts c.in-Text-Text.i v = c.index-in-Text-Text.ensures ∙ ap (λ rows. get_or rows.texts c.in-Text-Text.i v) c.self.view_is in
     let column : slice_get r.texts c.in-Text-Text.i ≡ Some v = slice_get-get_or r.texts c.in-Text-Text.i v inside ∙ ap Some (sym read_column) in
-    let here : first_of (absents r (c.args.place / r.size)) ≡ None = sym (c.in_ok-here.ensures ∙ ap (λ rows. first_of (absents r (c.args.place / rows.size))) c.self.view_is) in
+    let here : first_of (absents r (c.args.place / r.size)) ≡ None = sym (c.in_ok-here.ensures.refused ∙ ap (λ rows. first_of (absents r (c.args.place / rows.size))) c.self.view_is) in
     let refused = λ (w : Texts). text_refusal content r.text_objects w c.args.place c.in-Text-Text.text in
     c.may_set-in-Text-Text.ensures
     ∙ ap (λ rows. text_refusal content rows.text_objects v c.args.place c.in-Text-Text.text) c.self.view_is

@@ -1,12 +1,12 @@
-use Rattle.std.proofs.Common.{◌≡◌, ◌≢◌, ◌+◌, ◌*◌, ◌/◌, ◌%◌, ◌<◌, ◌^◌, Bool, true, if◌then◌else◌, List, length, map, sym, ap, subst, ◌∙◌, arith}
+use Rattle.std.proofs.Common.{◌≡◌, ◌≢◌, ◌+◌, ◌*◌, ◌/◌, ◌%◌, ◌<◌, ◌^◌, Bool, true, false, if◌then◌else◌, List, length, map, sym, ap, subst, ◌∙◌, arith}
 use Rattle.std.specs.Prelude.{All}
 use Rattle.std.proofs.lemmas.Bool.{eqb-true, eqb-false}
 use Rattle.std.proofs.lemmas.List.{with_items_is, length_push, length-map}
 use Rattle.far_vector.specs.Vector.{IsShaped}
 use Rattle.far_columns.specs.Texts.{Lists, HasGroups, lists_of, texts_in}
 use Rattle.far_columns.specs.Numbers.{number_lists, numbers_in}
-use Rattle.far_columns.specs.NumbersTogether.{all_begin, all_pushed, all_numbers_with, push_numbers_refusal}
-use Rattle.far_columns.specs.Together.{all_begin as all_texts_begin, all_pushed as all_texts_pushed, all_texts_with}
+use Rattle.far_columns.specs.NumbersTogether.{all_begin, all_pushed, all_pushed_in, all_numbers_with, push_numbers_refusal}
+use Rattle.far_columns.specs.Together.{AreReplaced, all_begin as all_texts_begin, all_created, all_pushed as all_texts_pushed, all_texts_with, next_forms}
 use Rattle.far_columns.specs.RefusingTogether.{push_texts_refusal}
 use Rattle.far_types.specs.FirstOf.{first_of}
 use Rattle.far_rows.specs.Refusing.{absents}
@@ -15,6 +15,9 @@ use Rattle.far_rows.proofs.MoreCells.{all_with, numbers-with, texts-with, column
 use Rattle.far_rows.proofs.Grown.{as-many-numbers, as-many-texts, all-numbers, all-texts}
 use Rattle.far_rows.proofs.GrownNumbers.{even-grown, count-grown}
 use Rattle.far_rows.proofs.GrownTexts.{even-grown as texts-even-grown, count-grown as texts-count-grown}
+use Rattle.far_rows.proofs.NumbersNamed.{IsNamed, same-numbers, numbers-named}
+use Rattle.far_rows.proofs.TextsNamed.{IsNamed as IsTextNamed, same-numbers as texts-same-numbers, texts-named}
+use Rattle.far_rows.specs.Naming.{names_of, AreNumbered}
 use Rattle.far_rows.specs.Rows.{AreRows, cells_of}
 use Rattle.far_rows.specs.Slots.{AreSlots, columns_of, row_of, with_row}
 use Rattle.std.specs.Vec.{with_items}
@@ -102,6 +105,16 @@ invariant_of-self-in_default g c =
     let texts_count = done.texts_count ∙ ap (λ cs. first_text + (if all_texts_begin cs then length cs else 0)) c.deref_mut-2.ensures.value in
     let now = length c.push_values-pushed.new.number_objects.entries in
     let texts_now = length c.push_values-pushed.new.text_objects.entries in
+    let lists : Lists = lists_of content c.self.inside.text_objects in
+    let values = c.args.row.now in
+    let numbers_even : length values.numbers ≡ length columns = c.requires.numbers ∙ ap (λ r. length r.numbers) (sym c.self.view_is) in
+    let texts_even : length values.texts ≡ length texts_before = c.requires.texts ∙ ap (λ r. length r.texts) (sym c.self.view_is) in
+    let before = c.self.inside.text_objects in
+    let after = c.push_values-pushed.new.text_objects in
+    let moved : c.push_values-pushed.new.number_objects ≡ all_pushed_in c.self.inside.number_objects columns values.numbers =
+    done.numbers_moved ∙ ap (λ cs. all_pushed_in c.self.inside.number_objects cs values.numbers) c.deref_mut.ensures.value in
+    let texts_begun = subst (λ cs. all_texts_begin cs ≡ true → after ≡ all_created before cs (next_forms lists first_text cs values.texts)) c.deref_mut-2.ensures.value done.texts_begun in
+    let texts_replaced = subst (λ cs. all_texts_begin cs ≡ false → AreReplaced before (next_forms lists first_text cs values.texts) after) c.deref_mut-2.ensures.value done.texts_replaced in
     let rows : AreRows content record {
       slots = c.self.inside.slots.items;
       size = size;
@@ -126,6 +139,15 @@ invariant_of-self-in_default g c =
           (count-grown size len inv.some (length columns) first now columns are count inv.number_objects first));
       text_objects = subst (λ n. All (λ v. texts_now ≡ n * length v.objects) texts) (sym texts_many) (subst (All (λ v. texts_now ≡ length texts_before * length v.objects)) (sym texts_pushed)
           (texts-count-grown size len inv.some (length texts_before) first_text texts_now texts_before texts_are texts_count inv.text_objects first_text));
+      numbered = subst (λ cs. AreNumbered c.self.inside.slots.items (map (λ v. v.column) numbers) (map (λ v. v.column) cs)) (sym texts_pushed)
+          (subst (λ cs. AreNumbered c.self.inside.slots.items (map (λ v. v.column) cs) (map (λ v. v.column) (all_texts_pushed first_text texts_before))) (sym pushed)
+          (subst (λ ns. AreNumbered c.self.inside.slots.items ns (map (λ v. v.column) (all_texts_pushed first_text texts_before))) (sym (same-numbers first columns))
+          (subst (AreNumbered c.self.inside.slots.items (map (λ v. v.column) columns)) (sym (texts-same-numbers first_text texts_before)) inv.numbered)));
+      number_names = subst (All (IsNamed (names_of c.push_values-pushed.new.number_objects))) (sym pushed)
+          (subst (λ m. All (IsNamed (names_of m)) (all_pushed first columns)) (sym moved)
+          (numbers-named size len columns inv.some are c.self.inside.number_objects values.numbers numbers_even inv.number_names));
+      text_names = subst (All (IsTextNamed (names_of after))) (sym texts_pushed)
+          (texts-named lists size len texts_before inv.some texts_are before after values.texts texts_even texts_begun texts_replaced inv.text_names);
       clean_numbers = c.push_values-pushed.ensures.numbers_clean inv.clean_numbers;
       clean_texts = c.push_values-pushed.ensures.texts_clean inv.clean_texts;
     } in

@@ -1,17 +1,18 @@
-use Rattle.std.proofs.Common.{◌≡◌, ◌+◌, ◌*◌, ◌<◌, [], ◌∷◌, length, map, get_or, Option, Some, sym, ap, subst, ◌∙◌}
+use Rattle.std.proofs.Common.{◌≡◌, ◌*◌, ◌<◌, [], ◌∷◌, length, map, get_or, Option, Some, sym, ap, subst, ◌∙◌}
 use Rattle.std.specs.Prelude.{ℤ, All, option_map, slice_get, slice_set}
 use Rattle.std.specs.Option.{option_map_or}
 use Rattle.std.proofs.lemmas.Option.{slice_get-get_or, slice_get-map, get_or_from_slice_get}
 use Rattle.far_scopes.specs.Movement.{Movement, AreHere}
-use Rattle.far_scopes.proofs.Pins.{length-with}
 use Rattle.far_vector.specs.Vector.{Vector, IsVector, AreApart, IsUntouched, object_at}
 use Rattle.far_vector.specs.Effects.{range_written}
 use Rattle.far_columns.specs.Numbers.{number_lists, numbers_in}
 use Rattle.far_columns.specs.NumbersTogether.{NumberColumns}
 use Rattle.far_rows.specs.declared.slot.Slot.TheVariants as slot
 use Rattle.far_rows.specs.declared.new_cell.NewCell.TheVariants as new
+use Rattle.far_rows.specs.Naming.{names_of, AreNamed}
 use Rattle.far_rows.specs.Rows.{AreRows, all_numbers}
 use Rattle.far_rows.specs.Setting.{set_in}
+use Rattle.far_rows.proofs.Names.{as-many, names-written}
 use Rattle.far_rows.proofs.OneCell.{set-same, numbers-still, numbers-set}
 use Rattle.far_rows.proofs.rows.Rows.set_number.Goals as goal
 
@@ -29,7 +30,7 @@ invariant_of-self g c =
     let same : slice_set columns c.args.i c.set.new.self ≡ columns = ap (slice_set columns c.args.i) done.kept ∙ set-same columns c.args.i v at in
     let is = subst (IsVector (number_lists content now)) done.kept done.is in
     let apart = subst (λ d. (w : Vector (Option ℤ)) → IsVector (number_lists content m) w → AreApart v w → IsUntouched (number_lists content m) (number_lists content now) d w) done.kept done.apart in
-    let count : length now.entries ≡ length m.entries = ap (λ w. length w.entries) done.written ∙ length-with m.entries (object_at v c.args.place) (λ entry. record entry { version = entry.version + 1 }) in
+    let names : names_of now ≡ names_of m = ap names_of done.written ∙ names-written m (object_at v c.args.place) in
     let rows : AreRows content record {
       slots = c.self.inside.slots.items;
       size = c.self.inside.size;
@@ -48,8 +49,11 @@ invariant_of-self g c =
       texts = inv.texts;
       even_numbers = inv.even_numbers;
       even_texts = inv.even_texts;
-      number_objects = subst (λ n. All (λ (w : Vector (Option ℤ)). n ≡ length columns * length w.objects) columns) (sym count) inv.number_objects;
+      number_objects = subst (λ n. All (λ (w : Vector (Option ℤ)). n ≡ length columns * length w.objects) columns) (sym (as-many m now names)) inv.number_objects;
       text_objects = inv.text_objects;
+      numbered = inv.numbered;
+      number_names = subst (λ ns. All (λ (w : Vector (Option ℤ)). AreNamed ns w.column w.objects) columns) (sym names) inv.number_names;
+      text_names = inv.text_names;
       clean_numbers = done.clean inv.clean_numbers;
       clean_texts = inv.clean_texts;
     } in

@@ -1,20 +1,20 @@
-use Rattle.std.proofs.Common.{◌≡◌, ℕ, ◌+◌, ◌*◌, ◌<◌, List, [], length, map, get_or, Option, None, Some, sym, ap, subst, ◌∙◌}
+use Rattle.std.proofs.Common.{◌≡◌, ℕ, ◌*◌, ◌<◌, List, [], length, map, get_or, Option, None, Some, sym, ap, subst, ◌∙◌}
 use Rattle.std.specs.Prelude.{All, option_map, slice_get, slice_set}
 use Rattle.std.specs.Option.{option_map_or, option_and_then}
 use Rattle.std.proofs.lemmas.Option.{slice_get-get_or, slice_get-map, get_or_from_slice_get}
 use Rattle.far_types.specs.declared.refusal.Refusal.{Refusal}
 use Rattle.far_codec.specs.TextForm.{texts_form}
 use Rattle.far_scopes.specs.Movement.{Movement, AreHere}
-use Rattle.far_scopes.specs.Effects.{with_entry}
-use Rattle.far_scopes.proofs.Pins.{length-with}
 use Rattle.far_columns.specs.Texts.{Texts, Lists, IsTextColumn, lists_of, texts_in, object_at}
 use Rattle.far_columns.specs.Changes.{group_with, set_in as text_set_in}
 use Rattle.far_columns.specs.Refusing.{set_refusal}
-use Rattle.far_columns.proofs.Setting.{by-outcome, on-ok}
+use Rattle.far_columns.proofs.Setting.{on-ok}
 use Rattle.far_rows.specs.declared.slot.Slot.TheVariants as slot
 use Rattle.far_rows.specs.declared.new_cell.NewCell.TheVariants as new
+use Rattle.far_rows.specs.Naming.{names_of, AreNamed}
 use Rattle.far_rows.specs.Rows.{all_texts}
 use Rattle.far_rows.specs.Setting.{set_in}
+use Rattle.far_rows.proofs.Names.{as-many, names-replaced, still-named}
 use Rattle.far_rows.proofs.OneCell.{texts-still, texts-set, only-memory}
 use Rattle.far_rows.proofs.rows.Rows.set_text.Goals as goal
 
@@ -35,11 +35,7 @@ invariant_of-self g c =
     let within = subst (λ r. c.args.i < length r.texts) (sym c.self.view_is) c.requires.within in
     let at : slice_get columns c.args.i ≡ Some v = slice_get-get_or columns c.args.i v within ∙ ap Some (sym c.index.ensures) in
     let form : List ℕ = texts_form (group_with (lists_of content m) v c.args.place c.args.text.now) in
-    let with_len = with_entry m.entries (object_at v c.args.place) (λ entry. record entry { len = length form }) in
-    let counted : length (text_set_in content m v c.args.place c.args.text.now).entries ≡ length m.entries =
-    length-with with_len (object_at v c.args.place) (λ entry. record entry { version = entry.version + 1 })
-    ∙ length-with m.entries (object_at v c.args.place) (λ entry. record entry { len = length form }) in
-    let count : length now.entries ≡ length m.entries = by-outcome c.set.result c.set.ensures.set c.set.ensures.err (λ is. ap (λ w. length w.entries) is ∙ counted) (λ is. ap (λ w. length w.entries) is) in
+    let names : names_of now ≡ names_of m = still-named m now (text_set_in content m v c.args.place c.args.text.now) c.set.result c.set.ensures.set c.set.ensures.err (names-replaced m (object_at v c.args.place) form) in
     record {
       slots = inv.slots;
       few = inv.few;
@@ -51,7 +47,10 @@ invariant_of-self g c =
       even_numbers = inv.even_numbers;
       even_texts = inv.even_texts;
       number_objects = inv.number_objects;
-      text_objects = subst (λ n. All (λ (w : Texts). n ≡ length columns * length w.objects) columns) (sym count) inv.text_objects;
+      text_objects = subst (λ n. All (λ (w : Texts). n ≡ length columns * length w.objects) columns) (sym (as-many m now names)) inv.text_objects;
+      numbered = inv.numbered;
+      number_names = inv.number_names;
+      text_names = subst (λ ns. All (λ (w : Texts). AreNamed ns w.column w.objects) columns) (sym names) inv.text_names;
       clean_numbers = inv.clean_numbers;
       clean_texts = c.set.ensures.clean inv.clean_texts;
     }

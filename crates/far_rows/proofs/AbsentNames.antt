@@ -1,0 +1,71 @@
+-- An object that is away is told by its column and its row group.
+use Rattle.std.proofs.Common.{◌≡◌, ℕ, zero, suc, ◌+◌, Bool, true, false, List, [], ◌∷◌, map, Option, None, Some, refl, sym, ap, ◌∙◌, arith}
+use Rattle.std.specs.Prelude.{ℤ, All, cond, option_map, slice_get}
+use Rattle.std.specs.Option.{option_map_or, option_and_then}
+use Rattle.std.proofs.lemmas.Option.{none-some, same_Some, slice_get-map}
+use Rattle.far_types.specs.declared.name.Name.{Name}
+use Rattle.far_types.specs.declared.refusal.Refusal.{Refusal}
+use Rattle.far_types.specs.declared.refusal.Refusal.TheVariants as refusal
+use Rattle.far_types.specs.FirstOf.{first_of}
+use Rattle.far_scopes.specs.declared.entry.Entry.{Entry}
+use Rattle.far_scopes.specs.Movement.{Movement, entry_of}
+use Rattle.far_scopes.specs.Refusing.{absent}
+use Rattle.far_vector.specs.Vector.{Vector}
+use Rattle.far_columns.specs.Texts.{Texts}
+use Rattle.far_rows.specs.declared.slot.Slot.{Slot}
+use Rattle.far_rows.specs.declared.slot.Slot.TheVariants as slot
+use Rattle.far_rows.specs.Naming.{names_of, AreNamed}
+use Rattle.far_rows.specs.Rows.{Rows, AreRows}
+use Rattle.far_rows.specs.Refusing.{absent_at, absents, named_absents}
+
+-- the refusal of an object with this name
+told-by : {K : Type 0} (entry : Option (Entry K)) (name : Name) → option_map (λ e. e.name) entry ≡ Some name → option_map_or (λ e. refusal.Absent e.name.column e.name.group) entry refusal.StaleJob ≡ refusal.Absent name.column name.group
+told-by None name is = absurd (none-some name is)
+told-by (Some e) name is = ap (λ (n : Name). refusal.Absent n.column n.group) (same_Some e.name name is)
+
+told : {X K : Type 0} (m : Movement X K) (o : ℕ) (name : Name) → slice_get (names_of m) o ≡ Some name → (absent m o).1 ≡ refusal.Absent name.column name.group
+told m o name is = told-by (entry_of m o) name (sym (slice_get-map (λ e. e.name) m.entries o) ∙ is)
+
+-- the object of a row group is away, where there is one: the refusal names its column and the row group
+told-of : {X K : Type 0} (m : Movement X K) (column g : ℕ) (objects : List ℕ) → AreNamed (names_of m) column objects → (o : Option ℕ) → slice_get objects g ≡ o
+    → (option_map_or (absent m) o (false, refusal.StaleJob)).0 ≡ true → (option_map_or (absent m) o (false, refusal.StaleJob)).1 ≡ refusal.Absent column g
+told-of m column g objects named None at away = absurd cc
+told-of m column g objects named (Some o) at away = told m o record { column = column; group = g } (named g o at)
+
+-- a column that is there knows its number and has named objects
+number-known : {C : Type 0} (P : C → Type 0) (column_of : C → ℕ) (columns : List C) (i k : ℕ) → slice_get (map column_of columns) i ≡ Some k → All P columns → (c : C) × (slice_get columns i ≡ Some c) × (column_of c ≡ k) × P c
+number-known P column_of [] i k at all = absurd (none-some k at)
+number-known P column_of (c ∷ columns) zero k at all = (c, refl, same_Some (column_of c) k at, all 0 c (omega arith))
+number-known P column_of (c ∷ columns) (suc i) k at all = number-known P column_of columns i k at (λ j d below. all (suc j) d (omega (arith, below)))
+
+module _ {K : Type 0} (content : K → List ℕ) (r : Rows K) (are : AreRows content r) (g : ℕ) where
+  pub away-named : (k : ℕ) (s : Slot) → slice_get r.slots k ≡ Some s → (absent_at r g s).0 ≡ true → (absent_at r g s).1 ≡ refusal.Absent k g
+  away-named k (slot.Number i) at away =
+      let known = number-known (λ (d : Vector (Option ℤ)). AreNamed (names_of r.number_objects) d.column d.objects) (λ d. d.column) r.numbers i k (are.numbered k (slot.Number i) at) are.number_names in
+      let c = known.0 in
+      let case : Option (Vector (Option ℤ)) → Bool × Refusal = λ d. option_map_or (absent r.number_objects) (option_and_then (λ (v : Vector (Option ℤ)). slice_get v.objects g) d) (false, refusal.StaleJob) in
+      let is : absent_at r g (slot.Number i) ≡ case (Some c) = ap case known.1 in
+      ap (λ (p : Bool × Refusal). p.1) is
+      ∙ told-of r.number_objects c.column g c.objects known.3 (slice_get c.objects g) refl (sym (ap (λ (p : Bool × Refusal). p.0) is) ∙ away)
+      ∙ ap (λ n. refusal.Absent n g) known.2
+  away-named k (slot.Text i) at away =
+      let known = number-known (λ (d : Texts). AreNamed (names_of r.text_objects) d.column d.objects) (λ d. d.column) r.texts i k (are.numbered k (slot.Text i) at) are.text_names in
+      let c = known.0 in
+      let case : Option Texts → Bool × Refusal = λ d. option_map_or (absent r.text_objects) (option_and_then (λ (v : Texts). slice_get v.objects g) d) (false, refusal.StaleJob) in
+      let is : absent_at r g (slot.Text i) ≡ case (Some c) = ap case known.1 in
+      ap (λ (p : Bool × Refusal). p.1) is
+      ∙ told-of r.text_objects c.column g c.objects known.3 (slice_get c.objects g) refl (sym (ap (λ (p : Bool × Refusal). p.0) is) ∙ away)
+      ∙ ap (λ n. refusal.Absent n g) known.2
+
+  first-named : (slots : List Slot) (n : ℕ) → ((k : ℕ) (s : Slot) → slice_get slots k ≡ Some s → (absent_at r g s).0 ≡ true → (absent_at r g s).1 ≡ refusal.Absent (n + k) g) → first_of (map (absent_at r g) slots) ≡ first_of (named_absents r g n slots)
+  first-named [] n named = refl
+  first-named (s ∷ slots) n named =
+      let rest = first-named slots (n + 1) (λ k t at away. named (suc k) t at away ∙ ap (λ j. refusal.Absent j g) (omega arith)) in
+      one-more (absent_at r g s) (refusal.Absent n g) (first_of (map (absent_at r g) slots)) (first_of (named_absents r g (n + 1) slots)) (λ away. named 0 s refl away ∙ ap (λ j. refusal.Absent j g) (omega arith)) rest where
+        one-more : (case : Bool × Refusal) (e : Refusal) (later last : Option Refusal) → (case.0 ≡ true → case.1 ≡ e) → later ≡ last → cond case.0 (Some case.1) later ≡ cond case.0 (Some e) last
+        one-more (true, f) e later last due same = ap Some (due refl)
+        one-more (false, f) e later last due same = same
+
+  -- the first column whose object of a row group is away is told by its number and that of the row group
+  pub absents-named : first_of (absents r g) ≡ first_of (named_absents r g 0 r.slots)
+  absents-named = first-named r.slots 0 (λ k s at away. away-named k s at away ∙ ap (λ j. refusal.Absent j g) (omega arith))

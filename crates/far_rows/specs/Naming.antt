@@ -1,0 +1,23 @@
+-- How the objects of a table are named: by the column and the row group.
+use Rattle.std.specs.Prelude.{◌≡◌, ℕ, List, map, Option, Some, slice_get}
+use Rattle.far_types.specs.declared.name.Name.{Name}
+use Rattle.far_scopes.specs.Movement.{Movement}
+use Rattle.far_rows.specs.declared.slot.Slot.{Slot}
+use Rattle.far_rows.specs.declared.slot.Slot.TheVariants as slot
+
+-- the name of each object
+abbrev pub names_of : {X K : Type 0} → Movement X K → List Name
+names_of m = map (λ entry. entry.name) m.entries
+
+-- the objects of a column's row groups bear its number and theirs
+abbrev pub AreNamed : List Name → ℕ → List ℕ → Type 0
+AreNamed names column objects = (g o : ℕ) → slice_get objects g ≡ Some o → slice_get names o ≡ Some record { column = column; group = g }
+
+-- the number of a slot's column, where those of numbers and those of texts have these
+abbrev pub number_in : List ℕ → List ℕ → Slot → Option ℕ
+number_in numbers texts (slot.Number i) = slice_get numbers i
+number_in numbers texts (slot.Text i) = slice_get texts i
+
+-- the number of each slot's column is its place among the slots
+abbrev pub AreNumbered : List Slot → List ℕ → List ℕ → Type 0
+AreNumbered slots numbers texts = (k : ℕ) (s : Slot) → slice_get slots k ≡ Some s → number_in numbers texts s ≡ Some k
