@@ -30,7 +30,7 @@ use Rattle.far_rows.proofs.Reading.{all-read, absent-number, numbers-read}
 
 -- of several objects the first that is away
 module _ {X K : Type 0} (m : Movement X K) (os : List ℕ) where
-  abbrev absent-of : ℕ → Bool × Refusal
+  abbrev pub absent-of : ℕ → Bool × Refusal
   absent-of g = option_map_or (absent m) (slice_get os g) (false, refusal.StaleJob)
 
   first-here : (o : ℕ) (rest : List ℕ) (cases : List (Bool × Refusal)) → first_absent m rest ≡ first_of cases → first_absent m (o ∷ rest) ≡ first_of (absent m o ∷ cases)

@@ -18,3 +18,4 @@ pub mod InUse
 pub mod Moved
 pub mod Reading
 pub mod LentNumbers
+pub mod LentTexts

@@ -81,7 +81,7 @@ module _ {K : Type 0} (content : K → List ℕ) (r : Rows K) (are : AreRows con
   pub numbers-read : (i : ℕ) (c : Vector (Option ℤ)) → i < length r.numbers → c ≡ get_or r.numbers i c → get_or (all_numbers content r) i [] ≡ numbers_in content r.number_objects c
   numbers-read i c within read = map-read (numbers_in content r.number_objects) r.numbers i c [] within read
 
-  text-cells : (i : ℕ) (c : Texts) → i < length r.texts → c ≡ get_or r.texts i c → get_or (all_texts content r) i [] ≡ texts_in (lists_of content r.text_objects) c
+  pub text-cells : (i : ℕ) (c : Texts) → i < length r.texts → c ≡ get_or r.texts i c → get_or (all_texts content r) i [] ≡ texts_in (lists_of content r.text_objects) c
   text-cells i c within read = map-read (texts_in (lists_of content r.text_objects)) r.texts i c [] within read
 
   pub cell-of-text : (i place : ℕ) (c : Texts) (value : Option (List ℕ)) → i < length r.texts → c ≡ get_or r.texts i c → slice_get (texts_in (lists_of content r.text_objects) c) place ≡ Some value → get_or (column_in (all_numbers content r) (all_texts content r) (slot.Text i)) place cell.Missing ≡ text_cell value

@@ -65,6 +65,10 @@ module _ {K : Type 0} (r : Rows K) where
   abbrev pub ints_refusal : ℕ → ℕ → ℕ → Option Refusal
   ints_refusal column from to = first_of (no_column column ∷ of_texts column ∷ no_range from to ∷ map (absent_in column) (touched r.size from to))
 
+  -- likewise of texts
+  abbrev pub texts_refusal : ℕ → ℕ → ℕ → Option Refusal
+  texts_refusal column from to = first_of (no_column column ∷ of_numbers column ∷ no_range from to ∷ map (absent_in column) (touched r.size from to))
+
 -- a row is refused where the object of some column in the row group of the next place is away, where a text or a number
 -- cannot be pushed; of numbers and texts alike 17 comes before 24, which arise where row groups are begun alone
 abbrev pub push_refusal : {K : Type 0} → (K → List ℕ) → Rows K → Values → Option Refusal

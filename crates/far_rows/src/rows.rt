@@ -9,6 +9,7 @@ ghost use Rattle.far_rows.specs.Opening.{empty_rows};
 mod asking;
 mod compacting;
 mod jobs;
+mod lending;
 mod moving;
 mod opening;
 mod pushing;

@@ -1,0 +1,90 @@
+// Parts of columns, lent in place with the flags of their places.
+ghost use Rattle.std.specs.Prelude.{◌≡◌, ◌∷◌, ◌<◌, length, slice_get, map, option_map, slice_range, Some, All, IfOk};
+ghost use Rattle.std.specs.List.{flat_map, zip};
+ghost use Rattle.far_types.specs.FirstOf.{first_of};
+ghost use Rattle.far_scopes.specs.Refusing.{refusal_in};
+ghost use Rattle.far_vector.specs.Pieces.{pieces_of, touched};
+ghost use Rattle.far_columns.specs.Numbers.{with_flags};
+ghost use Rattle.far_rows.specs.Cells.{int_cell, text_cell};
+ghost use Rattle.far_rows.specs.Rows.{cells_of};
+ghost use Rattle.far_rows.specs.Refusing.{no_range, absent_at, ints_refusal, texts_refusal};
+ghost use Rattle.far_rows.specs.Lending.{lent_ints, lent_texts, numbers_of, texts_of};
+
+use super::Rows;
+use crate::slot::Slot;
+use far_columns::{Lents, TextCells};
+use far_store::FarRead;
+use far_types::Refusal;
+
+impl<S: FarRead> Rows<S> {
+    /// The numbers of the places `from` up to `to`, lent in place with the flags of their places, piece by piece: one for each
+    /// row group that has some of them. Takes no memory.
+    ///
+    /// Refused with `NoColumn` (4) exactly where there is no such column, else with `WrongKind` (5) exactly where it is of
+    /// texts, else with `OutOfRange` (14) exactly where `from` is above `to` or `to` is past the places, else with `Absent`
+    /// (16) exactly where the object of a row group with some of them is away, naming the first such.
+    pub fn ints(&self, column: usize, from: usize, to: usize) -> Result<Lents<'_, S>, Refusal>
+        ensures lent { IfOk result (λ lents. lents ≡ lent_ints S.content self.now column from to) }
+        ensures cells { IfOk result (λ lents. option_map (λ cells. slice_range cells from to) (slice_get (cells_of S.content self.now) column) ≡ Some (map int_cell (flat_map (λ lent. lent.0) lents))) }
+        ensures alive { IfOk result (λ lents. flat_map (λ lent. lent.1) lents ≡ slice_range self.now.alive from to) }
+        ensures even { IfOk result (λ lents. All (λ lent. length lent.1 ≡ length lent.0) lents) }
+        ensures refused { refusal_in result ≡ ints_refusal self.now column from to }
+    {
+        let Some(slot) = self.slots.get(column) else {
+            return Err(Refusal::NoColumn);
+        };
+        let Slot::Number(number) = *slot else {
+            return Err(Refusal::WrongKind);
+        };
+        self.ints_at(number, from, to)
+    }
+
+    // A part of a column of numbers, lent in place.
+    fn ints_at(&self, number: usize, from: usize, to: usize) -> Result<Lents<'_, S>, Refusal>
+        requires { number < length self.now.numbers }
+        ensures lent { IfOk result (λ lents. lents ≡ with_flags (pieces_of (numbers_of S.content self.now (Slot.Number number)) self.now.size from to) (slice_range self.now.alive from to)) }
+        ensures joined { IfOk result (λ lents. flat_map (λ lent. lent.0) lents ≡ slice_range (numbers_of S.content self.now (Slot.Number number)) from to) }
+        ensures alive { IfOk result (λ lents. flat_map (λ lent. lent.1) lents ≡ slice_range self.now.alive from to) }
+        ensures even { IfOk result (λ lents. All (λ lent. length lent.1 ≡ length lent.0) lents) }
+        ensures refused { refusal_in result ≡ first_of (no_range self.now from to ∷ map (λ g. absent_at self.now g (Slot.Number number)) (touched self.now.size from to)) }
+    {
+        let column = &self.numbers[number];
+        // It tells that there are as many numbers as it says.
+        let _len = column.len();
+        column.lent(&self.number_objects, &self.alive, from, to)
+    }
+
+    /// The texts of the places `from` up to `to`, in order, lent in place, each with the flag of its place. Takes no memory.
+    ///
+    /// Refused with `NoColumn` (4) exactly where there is no such column, else with `WrongKind` (5) exactly where it is of
+    /// numbers, else with `OutOfRange` (14) exactly where `from` is above `to` or `to` is past the places, else with `Absent`
+    /// (16) exactly where the object of a row group with some of them is away, naming the first such.
+    pub fn texts(&self, column: usize, from: usize, to: usize) -> Result<TextCells<'_, S>, Refusal>
+        ensures lent { IfOk result (λ lent. lent ≡ lent_texts S.content self.now column from to) }
+        ensures cells { IfOk result (λ lent. option_map (λ cells. slice_range cells from to) (slice_get (cells_of S.content self.now) column) ≡ Some (map (λ t. text_cell t.0) lent)) }
+        ensures alive { IfOk result (λ lent. map (λ t. t.1) lent ≡ slice_range self.now.alive from to) }
+        ensures refused { refusal_in result ≡ texts_refusal self.now column from to }
+    {
+        let Some(slot) = self.slots.get(column) else {
+            return Err(Refusal::NoColumn);
+        };
+        let Slot::Text(text) = *slot else {
+            return Err(Refusal::WrongKind);
+        };
+        self.texts_at(text, from, to)
+    }
+
+    // A part of a column of texts, lent in place.
+    fn texts_at(&self, text: usize, from: usize, to: usize) -> Result<TextCells<'_, S>, Refusal>
+        requires { text < length self.now.texts }
+        ensures lent { IfOk result (λ lent. lent ≡ zip (slice_range (texts_of S.content self.now (Slot.Text text)) from to) (slice_range self.now.alive from to)) }
+        ensures texts { IfOk result (λ lent. map (λ t. t.0) lent ≡ slice_range (texts_of S.content self.now (Slot.Text text)) from to) }
+        ensures alive { IfOk result (λ lent. map (λ t. t.1) lent ≡ slice_range self.now.alive from to) }
+        ensures refused { refusal_in result ≡ first_of (no_range self.now from to ∷ map (λ g. absent_at self.now g (Slot.Text text)) (touched self.now.size from to)) }
+    {
+        let column = &self.texts[text];
+        // It tells that a row group is begun for each place.
+        let _len = column.len();
+        column.texts(&self.text_objects, &self.alive, from, to)
+    }
+}
