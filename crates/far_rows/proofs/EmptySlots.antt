@@ -50,6 +50,11 @@ once-from a b (kind.Text ∷ kinds) =
     (All-weaker (IsBehind a (b + 1)) (λ t. slot.Text b ≢ t) (text-other a b) (slots_from a (b + 1) kinds) (all-behind a (b + 1) kinds))
     (once-from a (b + 1) kinds)
 
+length-from : (a b : ℕ) (kinds : List Kind) → length (slots_from a b kinds) ≡ length kinds
+length-from a b [] = refl
+length-from a b (kind.Int ∷ kinds) = let rest = length-from (a + 1) b kinds in omega arith
+length-from a b (kind.Text ∷ kinds) = let rest = length-from a (b + 1) kinds in omega arith
+
 module _ (size limit : ℕ) where
   within-from : (a b n p q : ℕ) (kinds : List Kind) → p ≡ a + length (numbers_from size n kinds) → q ≡ b + length (texts_from size limit n kinds) → All (IsWithin p q) (slots_from a b kinds)
   within-from a b n p q [] numbers texts = All-nil (IsWithin p q)
@@ -58,14 +63,14 @@ module _ (size limit : ℕ) where
   within-from a b n p q (kind.Text ∷ kinds) numbers texts =
       All-cons (IsWithin p q) (slot.Text b) (slots_from a (b + 1) kinds) (omega arith) (within-from a (b + 1) (n + 1) p q kinds numbers (omega arith))
 
-  pub slots-are : (kinds : List Kind) → AreSlots (slots_from 0 0 kinds) (length (numbers_from size 0 kinds)) (length (texts_from size limit 0 kinds))
-  slots-are kinds = record { within = within-from 0 0 0 _ _ kinds (omega arith) (omega arith); once = once-from 0 0 kinds }
-
   -- there are as many columns of numbers and of texts as kinds
   pub columns-count : (n : ℕ) (kinds : List Kind) → length (numbers_from size n kinds) + length (texts_from size limit n kinds) ≡ length kinds
   columns-count n [] = refl
   columns-count n (kind.Int ∷ kinds) = let rest = columns-count (n + 1) kinds in omega arith
   columns-count n (kind.Text ∷ kinds) = let rest = columns-count (n + 1) kinds in omega arith
+
+  pub slots-are : (kinds : List Kind) → AreSlots (slots_from 0 0 kinds) (length (numbers_from size 0 kinds)) (length (texts_from size limit 0 kinds))
+  slots-are kinds = record { within = within-from 0 0 0 _ _ kinds (omega arith) (omega arith); once = once-from 0 0 kinds; count = length-from 0 0 kinds ∙ sym (columns-count 0 kinds) }
 
 -- the first that is behind some
 get-behind : (ns : List ℕ) (n : ℕ) (more : List ℕ) → slice_get (ns ++ n ∷ more) (length ns) ≡ Some n

@@ -69,8 +69,8 @@ module _ {K : Type 0} (r : Rows K) where
   abbrev pub texts_refusal : ℕ → ℕ → ℕ → Option Refusal
   texts_refusal column from to = first_of (no_column column ∷ of_numbers column ∷ no_range from to ∷ map (absent_in column) (touched r.size from to))
 
--- a row is refused where the object of some column in the row group of the next place is away, where a text or a number
--- cannot be pushed; of numbers and texts alike 17 comes before 24, which arise where row groups are begun alone
+-- why a row of these values may not be appended: the object of some column in the row group of the next place is away;
+-- else as the columns of texts are refused, and else as those of numbers
 abbrev pub push_refusal : {K : Type 0} → (K → List ℕ) → Rows K → Values → Option Refusal
 push_refusal content r values =
     option_or (first_of (absents r (length r.alive / r.size))) (option_or (push_texts_refusal content r.text_objects r.texts values.texts) (push_numbers_refusal r.number_objects r.numbers))

@@ -1,5 +1,5 @@
 -- Where each column of a table lies: among its columns of numbers, or among those of texts.
-use Rattle.std.specs.Prelude.{◌≢◌, ℕ, ◌+◌, ◌<◌, List, [], ◌∷◌, ◌++◌, map, All, AllPairs, Option, Some, None, ℤ, slice_index_or, slice_set}
+use Rattle.std.specs.Prelude.{◌≡◌, ◌≢◌, length, ℕ, ◌+◌, ◌<◌, List, [], ◌∷◌, ◌++◌, map, All, AllPairs, Option, Some, None, ℤ, slice_index_or, slice_set}
 use Rattle.far_types.specs.declared.cell.Cell.{Cell}
 use Rattle.far_types.specs.Cells.{number_in, text_in}
 use Rattle.far_types.specs.declared.cell.Kind.{Kind}
@@ -23,10 +23,11 @@ abbrev pub IsWithin : ℕ → ℕ → Slot → Type 0
 IsWithin numbers texts (slot.Number i) = i < numbers
 IsWithin numbers texts (slot.Text i) = i < texts
 
--- the slots are those of so many columns of numbers and so many of texts, each of them once
+-- the slots are those of so many columns of numbers and so many of texts, each of them once: as many as there are columns
 pub record AreSlots (slots : List Slot) (numbers texts : ℕ) : Type 0 where
   pub within : All (IsWithin numbers texts) slots
   pub once : AllPairs (λ s t. s ≢ t) slots
+  pub count : length slots ≡ numbers + texts
 
 -- the values of a row, by kind: those of its columns of numbers, and those of its columns of texts
 pub record Values : Type 0 where

@@ -8,7 +8,9 @@ use far_types::{Cell, Kind, Text};
 /// A value for a place of a column, a number or a text, each of which may be missing.
 #[derive(Drop, Debug)]
 pub enum NewCell {
+    /// For a column of numbers.
     Number(Option<i64>),
+    /// For a column of texts.
     Text(Option<Text>),
 }
 

@@ -1,5 +1,5 @@
 // A row that is to come.
-ghost use Rattle.std.specs.Prelude.{◌≡◌, true, length, map, IfOk, IfErr};
+ghost use Rattle.std.specs.Prelude.{◌≡◌, None, replicate, true, length, map, IfOk, IfErr};
 ghost use Rattle.far_types.specs.Edits.{kinds_fit};
 ghost use Rattle.far_types.specs.Cells.{is_of_kind};
 ghost use Rattle.far_rows.specs.Cells.{int_cell, text_cell};
@@ -31,6 +31,7 @@ impl NewRow {
     pub fn new(alloc: Global, numbers: usize, texts: usize) -> Result<NewRow, Refusal>
         ensures numbers { IfOk result (λ row. length row.numbers ≡ numbers) }
         ensures texts { IfOk result (λ row. length row.texts ≡ texts) }
+        ensures missing { IfOk result (λ row. row ≡ record { numbers = replicate numbers None; texts = replicate texts None }) }
         ensures memory { IfErr result (λ e. e ≡ Refusal.NoMemory) }
     {
         Ok(NewRow {
@@ -85,6 +86,7 @@ impl NewRow {
 // A list of so many values, all missing.
 fn nothing<T: Drop>(alloc: Global, count: usize) -> Result<Vec<Option<T>>, Refusal>
     ensures count { IfOk result (λ values. length values.items ≡ count) }
+    ensures missing { IfOk result (λ values. values.items ≡ replicate count None) }
     ensures memory { IfErr result (λ e. e ≡ Refusal.NoMemory) }
 {
     let mut values = Vec::with_capacity(alloc, count)?;

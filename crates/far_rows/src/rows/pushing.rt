@@ -100,7 +100,8 @@ impl<S: FarRead> Rows<S> {
     /// Appends a row, which is alive: each column gets its value. Where the place is the first of a row group, an object is
     /// made for each column; else the last object of each is written, all texts before a number.
     ///
-    /// The row is one that `may_push` accepted. Refused with `NoMemory` (1) alone; then nothing is changed.
+    /// The row is one that `may_push` accepted, and there are fewer than 2^24 places. Refused with `NoMemory` (1) alone; then
+    /// nothing is changed.
     pub fn push(&mut self, alloc: Global, row: &NewRow) -> Result<(), Refusal>
         requires numbers { length row.now.numbers ≡ length self.old.numbers }
         requires texts { length row.now.texts ≡ length self.old.texts }
