@@ -1,3 +1,5 @@
 // What no clause says: that calls are served, and that worked examples come out as they should.
+mod desk;
 mod filling;
 mod opening;
+mod pushing;

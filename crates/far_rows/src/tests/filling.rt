@@ -9,7 +9,7 @@ use far_types::{Cell, Kind, Refusal, Row, Text};
 use std::alloc::Global;
 use std::test::Fail;
 
-fn number_cell(number: Option<i64>) -> Cell
+pub fn number_cell(number: Option<i64>) -> Cell
     ensures { is_of_kind Kind.Int result ≡ true }
 {
     match number {
@@ -18,7 +18,7 @@ fn number_cell(number: Option<i64>) -> Cell
     }
 }
 
-fn text_cell(alloc: Global, text: Option<&str>) -> Result<Cell, Refusal>
+pub fn text_cell(alloc: Global, text: Option<&str>) -> Result<Cell, Refusal>
     ensures { IfOk result (λ cell. is_of_kind Kind.Text cell ≡ true) }
 {
     match text {
