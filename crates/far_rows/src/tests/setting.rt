@@ -4,7 +4,7 @@ use super::filling::{number_cell, text_cell};
 use super::pushing::{ROWS, fill, letters};
 use crate::NewCell;
 use far_store::{AgentStore, FarStore};
-use far_types::{Kind, Refusal};
+use far_types::{Kind, Limits, Refusal};
 use std::alloc::Global;
 use std::process::Abort;
 use std::test::Fail;
@@ -132,6 +132,46 @@ fn set_too_long<S: FarStore>(rt: &impl Abort, alloc: Global, store: &S) -> Resul
     are(rt, &desk, &ROWS)
 }
 
+/// Two forms take all room for texts.
+fn set_without_room<S: FarStore>(rt: &impl Abort, alloc: Global, store: &S) -> Result<(), Fail> {
+    let limits = Limits {
+        text_segments: 2,
+        ..LIMITS
+    };
+    let mut desk = Desk::new(alloc, store, limits)?;
+    let long = letters(alloc, 45)?;
+    let values = ([Some(long.as_str()), Some(long.as_str())], [None, None]);
+    desk.push(alloc, values)?;
+    let value = text(alloc, Some("a"))?;
+    assert_eq!(rt; desk.may_set(0, 2, &value), Err(Refusal::RegionFull));
+    assert_eq!(rt; desk.values(0), Ok(values));
+    Ok(())
+}
+
+/// Objects that may be written twice.
+fn set_too_often<S: FarStore>(rt: &impl Abort, alloc: Global, store: &S) -> Result<(), Fail> {
+    let limits = Limits { edits: 2, ..LIMITS };
+    let mut desk = Desk::new(alloc, store, limits)?;
+    desk.push(alloc, ROWS[0])?;
+    for value in [8, 9] {
+        put(alloc, &mut desk, Set::Number(0, 1, Some(value)))?;
+        put(alloc, &mut desk, Set::Text(0, 0, Some("b")))?;
+    }
+    assert_eq!(rt;
+        desk.may_set(0, 1, &number(None)),
+        Err(Refusal::EditsUsedUp)
+    );
+    let missing = text(alloc, None)?;
+    assert_eq!(rt; desk.may_set(0, 0, &missing), Err(Refusal::EditsUsedUp));
+    assert_eq!(rt; desk.may_set(0, 2, &missing), Ok(()));
+    assert_eq!(rt; desk.may_push(alloc, ROWS[1]), Err(Refusal::EditsUsedUp));
+    assert_eq!(rt;
+        desk.values(0),
+        Ok(([Some("b"), Some("")], [Some(9), None]))
+    );
+    Ok(())
+}
+
 #[test]
 fn a_cell_that_is_set_reads_back_and_the_others_stay(rt: HostRuntime) -> Result<(), Fail> {
     let store = AgentStore::new(&rt, rt.alloc(), 4)?;
@@ -148,4 +188,16 @@ fn a_cleared_place_keeps_its_cells(rt: HostRuntime) -> Result<(), Fail> {
 fn a_text_whose_form_is_too_long_is_not_set(rt: HostRuntime) -> Result<(), Fail> {
     let store = AgentStore::new(&rt, rt.alloc(), 4)?;
     set_too_long(&rt, rt.alloc(), &store)
+}
+
+#[test]
+fn a_text_without_room_beside_the_old_one_is_not_set(rt: HostRuntime) -> Result<(), Fail> {
+    let store = AgentStore::new(&rt, rt.alloc(), 4)?;
+    set_without_room(&rt, rt.alloc(), &store)
+}
+
+#[test]
+fn an_object_is_written_as_often_as_there_may_be_edits(rt: HostRuntime) -> Result<(), Fail> {
+    let store = AgentStore::new(&rt, rt.alloc(), 4)?;
+    set_too_often(&rt, rt.alloc(), &store)
 }
