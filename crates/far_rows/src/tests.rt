@@ -5,3 +5,4 @@ mod moving;
 mod opening;
 mod pushing;
 mod setting;
+mod walk;
