@@ -1,0 +1,51 @@
+//! All that is known of objects, in one number. Its making allocates nothing, so no refused allocation is met in it.
+ghost use Rattle.std.specs.Prelude.{◌<◌, length};
+
+use crate::Element;
+use far_scopes::Objects;
+use far_store::FarRead;
+
+/// A number that all goes into that is known of objects: their lists, words and records, whether lists of up to 64 elements
+/// fit, and which goes away first. Allocates nothing.
+pub fn digest_of<T: Element, S: FarRead>(objects: &Objects<T, S>) -> u64 {
+    let mut digest = with_optional(0, objects.coldest().map(u64::from));
+    for len in 0..65 {
+        digest = with(digest, u64::from(objects.fits(len)));
+    }
+    for o in 0..objects.count() {
+        digest = with_object(digest, objects, o);
+    }
+    digest
+}
+
+fn with_object<T: Element, S: FarRead>(digest: u64, objects: &Objects<T, S>, o: u32) -> u64
+    requires { o < length objects.now.entries }
+{
+    let mut digest = with(digest, objects.word(o).bits());
+    digest = with(digest, objects.version(o));
+    digest = with(digest, objects.leavings(o));
+    digest = with(digest, u64::from(objects.pins(o)));
+    digest = with(digest, u64::from(objects.ticket(o).is_some()));
+    digest = with(digest, objects.len(o) as u64);
+    if let Ok(list) = objects.lend(o) {
+        for element in list {
+            digest = with(digest, element.number());
+        }
+    }
+    digest
+}
+
+/// The digest once this number went into it.
+pub fn with(digest: u64, number: u64) -> u64 {
+    digest
+        .wrapping_mul(1_099_511_628_211)
+        .wrapping_add(number ^ 0x5555)
+}
+
+/// The digest once this number, or that there is none, went into it.
+pub fn with_optional(digest: u64, number: Option<u64>) -> u64 {
+    match number {
+        Some(number) => with(with(digest, 1), number),
+        None => with(digest, 2),
+    }
+}

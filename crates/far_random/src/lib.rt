@@ -1,0 +1,39 @@
+#![tactic(auto)]
+//! Numbers for tests that make random calls. They follow from a seed, so a test that fails once fails each time.
+ghost use Rattle.std.specs.Prelude.{◌<◌, ◌≤◌};
+
+/// Numbers that follow from a seed: Knuth's linear congruential generator (MMIX), of which the upper 31 bits are used.
+#[derive(Drop)]
+pub struct Draws {
+    state: u64,
+}
+
+impl Draws {
+    /// The numbers that follow from this seed.
+    pub fn new(seed: u64) -> Draws {
+        Draws { state: seed }
+    }
+
+    /// The next number below `bound`; 0 if that is 0.
+    pub fn below(&mut self, bound: u32) -> u32
+        ensures { 0 < bound → result < bound }
+    {
+        self.state = self
+            .state
+            .wrapping_mul(6_364_136_223_846_793_005)
+            .wrapping_add(1_442_695_040_888_963_407);
+        if bound == 0 {
+            0
+        } else {
+            (self.state >> 33) as u32 % bound
+        }
+    }
+
+    /// An index of a list of `len` elements, or the one behind its last.
+    pub fn index_or_end(&mut self, len: usize) -> usize
+        ensures { result ≤ len }
+    {
+        let len = u32::try_from(len).unwrap_or(u32::MAX);
+        self.below(len.saturating_add(1)) as usize
+    }
+}
