@@ -1,28 +1,90 @@
 #![tactic(auto)]
-//! Runs the scripts of the folder `examples`, and says whether each gives the replies that stand beside it.
+//! Runs the scripts of the folder it is started in, and says of each whether it gives the replies that stand beside it and
+//! ends as it should. `NAME.txt` is a script and `NAME.out` what it prints.
 
-use far_shell::run_script;
+use far_shell::{ShellFault, run_script};
 use std::{fs, io};
 
-/// Whether the script in one file gives what stands in the other.
-fn agrees(rt: &HostRuntime, script: &str, replies: &str) -> io::Result<bool> {
-    let script = fs::read(rt, script)?;
-    let wanted = fs::read(rt, replies)?;
+/// Scripts that are run to their end.
+const WHOLE: [&str; 33] = [
+    "first_run",
+    "bakery",
+    "a_key_gets_the_extremes_of_the_rows_left",
+    "a_key_without_rows_goes",
+    "a_line_that_is_no_command",
+    "a_load_and_a_listing",
+    "a_load_ends_at_a_refusal",
+    "a_minimum_stays_until_its_last_holder_goes",
+    "a_row_group_is_scanned_once",
+    "a_row_group_made_after_the_registration",
+    "a_second_opening",
+    "a_sum_wider_than_a_cell",
+    "a_text_object_fits_a_segment",
+    "a_wrong_kind_comes_before_a_wrong_width",
+    "aggregates_that_cannot_be_had",
+    "an_edit_before_the_scan_is_counted_once",
+    "cells_without_a_value",
+    "empty_answers",
+    "empty_lines_and_carriage_returns",
+    "extrema_of_several_row_groups",
+    "fields_behind_one_space",
+    "filters_of_both_kinds",
+    "keys_are_printed_as_records",
+    "kinds_of_tests",
+    "limits_of_places_and_edits",
+    "numbers_of_aggregates_are_used_again",
+    "quotes",
+    "refusals_of_edits",
+    "texts_are_measured_by_their_far_form",
+    "the_longest_line_of_limits",
+    "thirty_two_aggregates",
+    "totals_follow_edits",
+    "words_behind_one_space",
+];
+
+/// Scripts whose first line opens no table.
+const BAD_STARTS: [&str; 9] = [
+    "a_byte_order_mark",
+    "a_command_before_the_table",
+    "a_space_behind_the_kinds",
+    "an_unknown_kind",
+    "empty_lines_alone",
+    "no_line",
+    "row_groups_without_a_place",
+    "seventeen_columns",
+    "some_limits_alone",
+];
+
+/// Scripts that are no text, or end within a load: what stands before that is answered.
+const FAULTY_INPUTS: [&str; 3] = [
+    "a_byte_that_is_no_text",
+    "a_load_that_ends_early",
+    "a_load_with_a_byte_that_is_no_text",
+];
+
+/// Whether the script of this name prints its replies and ends with this fault, or with none.
+fn agrees(rt: &HostRuntime, name: &str, due: Option<ShellFault>) -> io::Result<bool> {
+    let script = fs::read(rt, format!(in rt.alloc(); "{name}.txt")?.as_str())?;
+    let replies = fs::read(rt, format!(in rt.alloc(); "{name}.out")?.as_str())?;
     let mut given = Vec::new(rt.alloc());
     let outcome = run_script(rt, script.as_slice(), &mut given);
-    Ok(outcome.is_ok() && given == wanted)
+    Ok(given == replies && outcome.err() == due)
 }
 
-fn main(rt: HostRuntime) -> io::Result<()> {
-    for (script, replies) in [
-        ("first_run.txt", "first_run.out"),
-        ("bakery.txt", "bakery.out"),
-    ] {
-        if agrees(&rt, script, replies)? {
-            println!(rt; "{script}: as written")?;
+/// Runs scripts that end with one fault, or with none.
+fn run_all(rt: &HostRuntime, names: &[&str], due: Option<ShellFault>) -> io::Result<()> {
+    for name in names {
+        if agrees(rt, name, due)? {
+            println!(rt; "{name}: as written")?;
         } else {
-            println!(rt; "{script}: other replies than {replies}")?;
+            println!(rt; "{name}: other replies, or another end")?;
         }
     }
     Ok(())
+}
+
+fn main(rt: HostRuntime) -> io::Result<()> {
+    run_all(&rt, &WHOLE, None)?;
+    run_all(&rt, &BAD_STARTS, Some(ShellFault::BadStart))?;
+    run_all(&rt, &FAULTY_INPUTS, Some(ShellFault::Input))
 }

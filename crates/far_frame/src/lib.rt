@@ -23,8 +23,6 @@ mod row_ref;
 pub mod rows;
 mod scans;
 pub mod step;
-#[cfg(test)]
-mod tests;
 mod text_column;
 mod text_form;
 mod unbuilt;

@@ -194,6 +194,3 @@ impl Rows {
         }
     }
 }
-
-#[cfg(test)]
-mod tests;

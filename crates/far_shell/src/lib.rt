@@ -22,6 +22,3 @@ mod words;
 
 pub use fault::ShellFault;
 pub use script::run_script;
-
-#[cfg(test)]
-mod tests;

@@ -1,0 +1,110 @@
+//! Scripts whose reader or writer ends them. What a script of its own shows stands in far_examples.
+use far_shell::{ShellFault, run_script};
+use std::io::{self, Read, Write};
+use std::test::Fail;
+
+/// Two lines, and their replies.
+const FIRST: &[u8] = b"schema 4 int\ninsert 1\n";
+
+const REPLIES: &[u8] = b"ok\nplace 0\n";
+
+/// Two lines, and then as many bytes of lines of a million letters, a few at a time; one of its reads fails.
+#[derive(Drop, Clone, Copy)]
+struct Source {
+    first: &'static [u8],
+    more: usize,
+    at_a_time: usize,
+    /// Which read fails, counted from 1; 0 for none.
+    fails_in: u32,
+}
+
+impl Source {
+    fn next(&mut self) -> Option<u8> {
+        if let Some((next, rest)) = self.first.split_first() {
+            self.first = rest;
+            return Some(*next);
+        }
+        self.more = self.more.checked_sub(1)?;
+        Some(if self.more % 1_000_000 == 0 {
+            b'\n'
+        } else {
+            b'a'
+        })
+    }
+}
+
+impl Read for Source {
+    fn read(&mut self, buf: &mut [u8]) -> io::Result<usize> {
+        if self.fails_in == 1 {
+            return Err(io::ErrorKind::Other.into());
+        }
+        self.fails_in = self.fails_in.saturating_sub(1);
+        let room = buf.len().min(self.at_a_time);
+        for i in 0..room {
+            match self.next() {
+                Some(byte) => buf[i] = byte,
+                None => return Ok(i),
+            }
+        }
+        Ok(room)
+    }
+}
+
+fn with_more(more: usize, at_a_time: usize, fails_in: u32) -> Source {
+    Source {
+        first: FIRST,
+        more,
+        at_a_time,
+        fails_in,
+    }
+}
+
+/// How a script of this source ends, if its first two lines are answered.
+fn end_of(rt: &HostRuntime, source: Source) -> Option<Result<(), ShellFault>> {
+    let mut given = Vec::new(rt.alloc());
+    let outcome = run_script(rt, source, &mut given);
+    given.as_slice().starts_with(REPLIES).then_some(outcome)
+}
+
+#[test]
+fn the_bounds_of_bytes_and_reads_are_kept(rt: HostRuntime) {
+    let cases = [
+        (with_more(16_777_194, 65_536, 0), Ok(())),
+        (with_more(16_777_195, 65_536, 0), Err(ShellFault::Input)),
+        (with_more(1_048_553, 1, 0), Ok(())),
+        (with_more(1_048_554, 1, 0), Err(ShellFault::Input)),
+        (with_more(100, 8, 9), Err(ShellFault::Input)),
+    ];
+    for (source, due) in cases {
+        let more = source.more;
+        assert!(rt; end_of(&rt, source) == Some(due), "{more} bytes more");
+    }
+}
+
+/// A writer that takes some bytes and then fails.
+#[derive(Drop)]
+struct Sink {
+    room: usize,
+}
+
+impl Write for Sink {
+    fn write(&mut self, buf: &[u8]) -> io::Result<usize> {
+        if self.room == 0 {
+            return Err(io::ErrorKind::Other.into());
+        }
+        let count = buf.len().min(self.room);
+        self.room -= count;
+        Ok(count)
+    }
+
+    fn flush(&mut self) -> io::Result<()> {
+        Ok(())
+    }
+}
+
+#[test]
+fn a_failing_write_ends_a_script(rt: HostRuntime) {
+    let mut sink = Sink { room: 2 };
+    let outcome = run_script(&rt, FIRST, &mut sink);
+    assert!(rt; outcome == Err(ShellFault::Output));
+}

@@ -1,0 +1,5 @@
+#![tactic(auto)]
+//! Tests of the script language: what no script shows.
+
+#[cfg(test)]
+mod ends;
