@@ -185,10 +185,16 @@ fn is_reply(reply: &Reply, due: Due) -> bool {
     }
 }
 
+/// Whether a call that is repeated where memory was refused has the reply that is due.
+fn is_served(alloc: Global, world: &mut World, call: Call, due: Due) -> Result<bool, Refusal> {
+    let reply = repeated(alloc, world, call)?;
+    Ok(is_reply(&reply, due))
+}
+
 /// The first call that has another reply than is due.
 fn first_other(alloc: Global, world: &mut World) -> Result<Option<usize>, Refusal> {
     for (at, (call, due)) in CALLS.iter().enumerate() {
-        if !is_reply(&repeated(alloc, world, *call)?, *due) {
+        if !is_served(alloc, world, *call, *due)? {
             return Ok(Some(at));
         }
     }

@@ -1,5 +1,5 @@
 //! Rows are read as they were pushed, set and cleared.
-ghost use Rattle.std.specs.Prelude.{◌≡◌, ◌≤◌, ◌+◌, [], ◌∷◌, length, true, IfOk, OnOk};
+ghost use Rattle.std.specs.Prelude.{◌≡◌, ◌<◌, ◌≤◌, ◌+◌, [], ◌∷◌, length, true, IfOk, OnOk};
 ghost use Rattle.far_types.specs.declared.cell.Kind.TheVariants.{Int, Text as Texts};
 ghost use Rattle.far_types.specs.Cells.{is_of_kind};
 ghost use Rattle.far_types.specs.Edits.{kinds_fit};
@@ -134,15 +134,10 @@ fn over_two(alloc: Global) -> Result<Spec, Refusal> {
     })
 }
 
-/// Whether one row gives this text as its key and this number as its value, or nothing.
-fn gives(
-    alloc: Global,
-    number: Option<i64>,
-    letters: Option<&str>,
-    due: Option<(&str, i64)>,
-) -> Result<bool, Refusal> {
-    let mut rows = no_rows(alloc)?;
-    push(alloc, &mut rows, number, letters)?;
+/// Whether place 0 gives this text as its key and this number as its value, or nothing.
+fn gives(alloc: Global, rows: &Rows, due: Option<(&str, i64)>) -> Result<bool, Refusal>
+    requires { 0 < length rows.now.places }
+{
     let pair = rows.pair(&over_two(alloc)?, 0)?;
     Ok(match (&pair, due) {
         (Some((Some(Key::Text(key)), value)), Some((text, number))) => {
@@ -151,6 +146,16 @@ fn gives(
         (None, None) => true,
         _ => false,
     })
+}
+
+/// A row alone.
+fn one_row(alloc: Global, number: Option<i64>, letters: Option<&str>) -> Result<Rows, Refusal>
+    ensures kinds { IfOk result (λ rows. rows.kinds ≡ Int ∷ Texts ∷ []) }
+    ensures places { IfOk result (λ rows. length rows.places ≡ 1) }
+{
+    let mut rows = no_rows(alloc)?;
+    push(alloc, &mut rows, number, letters)?;
+    Ok(rows)
 }
 
 #[test]
@@ -162,19 +167,17 @@ fn a_row_that_is_kept_and_folded_gives_its_pair(rt: HostRuntime) -> Result<(), F
         (Some(9), None, None),
     ];
     for (number, letters, due) in cases {
-        assert!(rt; gives(rt.alloc(), number, letters, due)?, "{number:?}");
+        let rows = one_row(rt.alloc(), number, letters)?;
+        assert!(rt; gives(rt.alloc(), &rows, due)?, "{number:?}");
     }
     Ok(())
 }
 
 #[test]
 fn a_removed_row_gives_no_pair(rt: HostRuntime) -> Result<(), Fail> {
-    let alloc = rt.alloc();
-    let mut rows = two_rows(alloc)?;
-    let spec = over_two(alloc)?;
-    let is_given = rows.pair(&spec, 0)?.is_some();
+    let mut rows = one_row(rt.alloc(), Some(5), Some("north"))?;
     rows.clear(0);
-    assert!(rt; is_given && rows.pair(&spec, 0)?.is_none());
+    assert!(rt; gives(rt.alloc(), &rows, None)?);
     Ok(())
 }
 
@@ -201,28 +204,44 @@ fn overfills(alloc: Global, rows: &Rows, group: u32, letters: &str) -> Result<bo
 }
 
 #[test]
-fn a_text_object_is_at_most_as_long_as_a_segment(rt: HostRuntime) -> Result<(), Fail> {
-    let alloc = rt.alloc();
-    let mut rows = no_rows(alloc)?;
-    assert!(rt; overfills(alloc, &rows, 4, LONGER)? && !overfills(alloc, &rows, 4, LONG)?);
-    push(alloc, &mut rows, Some(1), Some(LONG))?;
-    assert!(rt; overfills(alloc, &rows, 4, "")?);
-    // The next row group has an object of its own.
-    assert!(rt; !overfills(alloc, &rows, 1, LONG)?);
-    // A removed row keeps its text.
-    rows.clear(0);
-    assert!(rt; overfills(alloc, &rows, 4, "")?);
+fn a_first_text_is_at_most_as_long_as_a_segment(rt: HostRuntime) -> Result<(), Fail> {
+    let rows = no_rows(rt.alloc())?;
+    assert!(rt; !overfills(rt.alloc(), &rows, 4, LONG)?);
+    assert!(rt; overfills(rt.alloc(), &rows, 4, LONGER)?);
     Ok(())
 }
 
 #[test]
+fn a_row_group_has_a_text_object_of_its_own(rt: HostRuntime) -> Result<(), Fail> {
+    let rows = one_row(rt.alloc(), Some(1), Some(LONG))?;
+    assert!(rt; overfills(rt.alloc(), &rows, 4, "")?);
+    assert!(rt; !overfills(rt.alloc(), &rows, 1, LONG)?);
+    Ok(())
+}
+
+#[test]
+fn a_removed_row_keeps_its_text(rt: HostRuntime) -> Result<(), Fail> {
+    let mut rows = one_row(rt.alloc(), Some(1), Some(LONG))?;
+    rows.clear(0);
+    assert!(rt; overfills(rt.alloc(), &rows, 4, "")?);
+    Ok(())
+}
+
+/// Whether a text and no text would overfill the object of place 0, and a number that of its column.
+fn sets_that_overfill(rows: &Rows, longer: &Cell) -> [bool; 3]
+    requires { 0 < length rows.now.places }
+{
+    [
+        rows.overfills_set(&limits(4), 0, 1, longer),
+        rows.overfills_set(&limits(4), 0, 1, &Cell::Missing),
+        rows.overfills_set(&limits(4), 0, 0, &Cell::Int(3)),
+    ]
+}
+
+#[test]
 fn a_set_is_measured_without_the_text_that_goes(rt: HostRuntime) -> Result<(), Fail> {
-    let alloc = rt.alloc();
-    let mut rows = no_rows(alloc)?;
-    push(alloc, &mut rows, Some(1), Some(LONG))?;
-    let longer = text(alloc, LONGER)?;
-    assert!(rt; rows.overfills_set(&limits(4), 0, 1, &longer));
-    assert!(rt; !rows.overfills_set(&limits(4), 0, 0, &Cell::Int(3)));
-    assert!(rt; !rows.overfills_set(&limits(4), 0, 1, &Cell::Missing));
+    let rows = one_row(rt.alloc(), Some(1), Some(LONG))?;
+    let longer = text(rt.alloc(), LONGER)?;
+    assert!(rt; sets_that_overfill(&rows, &longer) == [true, false, false]);
     Ok(())
 }
