@@ -1,6 +1,6 @@
 use Rattle.std.proofs.Common.{◌<◌, subst, sym}
 use Rattle.far_log.proofs.RoomLaws.{below-size}
-use Rattle.far_log.proofs.region.tests.is_order.Goals as goal
+use Rattle.far_log_tests.proofs.order.is_order.Goals as goal
 
 pub returns : goal.returns
 returns g c = λ all. record {

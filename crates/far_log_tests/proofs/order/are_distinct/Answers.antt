@@ -1,7 +1,7 @@
 use Rattle.std.proofs.Common.{inl, inr}
 use Rattle.std.proofs.lemmas.Bool.{cases_lt}
-use Rattle.far_log.proofs.Distinct.{not-behind}
-use Rattle.far_log.proofs.region.tests.are_distinct.Goals as goal
+use Rattle.far_log_tests.proofs.Distinct.{not-behind}
+use Rattle.far_log_tests.proofs.order.are_distinct.Goals as goal
 
 pub loop-i-preserved : goal.loop-i-preserved
 loop-i-preserved c = λ i j d lt apart within.
