@@ -1,6 +1,6 @@
 use Rattle.std.proofs.Common.{◌≡◌, ◌∷◌, ◌++◌, [], suc, length, sym, ap, ◌∙◌, subst, arith, length-append}
 use Rattle.far_groups.proofs.PairLaws.{AreFew, AreFew-empty, AreFew-with_pair}
-use Rattle.far_groups.proofs.tests.live_of.Goals as goal
+use Rattle.far_aggregates_tests.proofs.totals.live_of.Goals as goal
 
 pub loop-key-init : goal.loop-key-init
 loop-key-init c = record { left = c.new-live.ensures.left; few = subst (λ m. AreFew m 0) (sym c.new-live.ensures.empty) AreFew-empty }
