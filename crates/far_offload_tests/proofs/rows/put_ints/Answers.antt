@@ -2,7 +2,7 @@ use Rattle.std.proofs.Common.{◌≡◌, inl, ◌∙◌}
 use Rattle.std.proofs.lemmas.Result.{IfOk-weaker}
 use Rattle.far_codec.specs.Lent.{IsForm}
 use Rattle.far_codec.proofs.Meaning.{is_ints_form}
-use Rattle.far_offload.proofs.tests.put_ints.Goals as goal
+use Rattle.far_offload_tests.proofs.rows.put_ints.Goals as goal
 
 pub returns-clause-form : goal.returns-clause-form
 returns-clause-form g c =
