@@ -10,6 +10,3 @@ mod spans;
 pub use group_extrema::GroupExtrema;
 pub use live_extrema::LiveExtrema;
 pub use spans::Span;
-
-#[cfg(test)]
-mod tests;
