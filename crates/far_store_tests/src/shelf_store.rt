@@ -1,9 +1,9 @@
 // The example of docs/FAR_STORE.md: a store of one's own, in memory.
 ghost use Rattle.std.specs.Prelude.{ℕ, List, ◌≡◌, ◌<◌, ⊤, map, length, slice_index, vec_len, IfOk};
 
-use crate::{FarRead, FarStore, Meter};
 use boxcar::slot::{OnceSlot, SlotRule, Written};
 use boxcar::tag::Tag;
+use far_store::{FarRead, FarStore, Meter};
 use far_types::Refusal;
 use std::alloc::Global;
 use std::marker::Model;

@@ -2,19 +2,30 @@
 ghost use Rattle.std.specs.Prelude.{◌≡◌, ◌+◌, ◌<◌, ◌^◌, [], ◌∷◌, All, IfOk, IfSome};
 ghost use Rattle.far_store.specs.Faults.{faults_in, RefusedBy};
 
-use crate::{FarRead, FarStore, Meter};
+use far_store::{FarRead, FarStore, Meter};
 use far_types::Refusal;
 use std::alloc::Global;
 
-// The refusal that one put is answered with, if any, and the faults that its meter shows.
-pub fn answer_of_put<S: FarStore>(store: &S, alloc: Global) -> (Option<Refusal>, u64) {
+// The refusal that a call is answered with, if any, and the faults that its meter shows.
+pub type Answer = (Option<Refusal>, u64);
+
+pub const SERVED: Answer = (None, 0);
+
+pub const FAULT: Answer = (Some(Refusal::FarFault), 1);
+
+pub const FULL: Answer = (Some(Refusal::FarFull), 0);
+
+pub const NO_MEMORY: Answer = (Some(Refusal::NoMemory), 0);
+
+// How one put is answered.
+pub fn answer_of_put<S: FarStore>(store: &S, alloc: Global) -> Answer {
     let mut meter = Meter::new();
     let answer = store.put(alloc, &mut meter, &[1]).err();
     (answer, meter.faults())
 }
 
 // Why a put was not accepted, in the three ways that there are.
-#[derive(Clone, Copy, Debug, PartialEq, Eq)]
+#[derive(Clone, Copy, PartialEq, Eq)]
 pub enum Why {
     Fault,
     Full,
@@ -32,18 +43,33 @@ pub fn why_not_put<S: FarStore>(store: &S, alloc: Global) -> Option<Why> {
     }
 }
 
-// The refusal that one get is answered with, if any, and the faults that its meter shows.
+// How one get into a buffer is answered.
 pub fn answer_of_get<S: FarRead>(
     store: &S,
     alloc: Global,
     ticket: &S::Ticket,
-) -> (Option<Refusal>, u64)
+    buffer: &mut Vec<u8>,
+) -> Answer
+    requires { S.is_of ticket.now (S.name store.now) }
+{
+    let mut meter = Meter::new();
+    let answer = store.get(alloc, &mut meter, ticket, buffer).err();
+    (answer, meter.faults())
+}
+
+// Whether a get reads these bytes and meets no fault.
+pub fn reads<S: FarRead>(
+    store: &S,
+    alloc: Global,
+    ticket: &S::Ticket,
+    bytes: &[u8],
+) -> Result<bool, Refusal>
     requires { S.is_of ticket.now (S.name store.now) }
 {
     let mut meter = Meter::new();
     let mut buffer = Vec::new(alloc);
-    let answer = store.get(alloc, &mut meter, ticket, &mut buffer).err();
-    (answer, meter.faults())
+    store.get(alloc, &mut meter, ticket, &mut buffer)?;
+    Ok(buffer.as_slice() == bytes && meter.faults() == 0)
 }
 
 // What is put is got.
@@ -56,6 +82,15 @@ pub fn round_trip<S: FarStore>(store: &S, alloc: Global, bytes: &[u8]) -> Result
     let mut buffer = Vec::new(alloc);
     store.get(alloc, &mut meter, &store.again(&ticket), &mut buffer)?;
     Ok(buffer)
+}
+
+// Whether so many contents of one byte are got as they were put.
+pub fn serves<S: FarStore>(store: S, alloc: Global, count: u8) -> Result<bool, Refusal> {
+    let mut served = true;
+    for n in 0..count {
+        served &= round_trip(&store, alloc, &[n])?.as_slice() == [n].as_slice();
+    }
+    Ok(served)
 }
 
 // A content moves from one store to another.

@@ -1,5 +1,5 @@
 // A store that finds no memory for its first put and its first get.
-use crate::{FarRead, FarStore, Meter};
+use far_store::{FarRead, FarStore, Meter};
 use far_types::Refusal;
 use std::alloc::Global;
 use std::sync::atomic::{AtomicBool, Ordering};
