@@ -4,7 +4,7 @@ ghost use Rattle.far_types.specs.declared.cell.Kind.TheVariants.{Int, Text as Te
 ghost use Rattle.far_types.specs.Cells.{is_of_kind};
 ghost use Rattle.far_types.specs.Edits.{kinds_fit};
 
-use crate::{NewRow, Slot};
+use far_rows::{NewRow, Slot};
 use far_types::{Cell, Kind, Refusal, Row, Text};
 use std::alloc::Global;
 use std::test::Fail;

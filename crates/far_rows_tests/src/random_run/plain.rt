@@ -1,9 +1,9 @@
 // A table as plain lists, and why a call on it is refused.
 mod moves;
 
-use super::super::desk::Values;
-use super::super::setting::Set;
 use super::{EDITS, LIMIT, SIZE};
+use crate::fixture::Values;
+use crate::script::Set;
 use far_types::Refusal;
 use std::alloc::Global;
 
@@ -75,7 +75,7 @@ impl Plain {
         Ok(())
     }
 
-    /// The values of a place, texts before numbers.
+    /// The values of a place. Objects of texts are looked at before those of numbers.
     pub fn values(&self, place: usize) -> Result<Values<'static>, Refusal> {
         let Some(texts) = self.texts.get(place) else {
             return Err(Refusal::NoRow);
@@ -86,7 +86,7 @@ impl Plain {
         for column in [0, 2, 1, 3usize] {
             self.is_here(column, place / SIZE)?;
         }
-        Ok((*texts, *numbers))
+        Ok((texts[0], numbers[0], texts[1], numbers[1]))
     }
 
     // Whether the form of a row group's texts in a column is short enough, once that of a place is this.
@@ -141,22 +141,26 @@ impl Plain {
     }
 
     /// A row more.
-    pub fn push(
-        &mut self,
-        texts: [Option<&'static str>; 2],
-        numbers: [Option<i64>; 2],
-    ) -> Result<(), Refusal> {
+    pub fn push(&mut self, values: Values<'static>) -> Result<(), Refusal> {
         let place = self.alive.len();
-        self.here(place / SIZE)?;
-        self.is_short(0, place, texts[0])?;
-        self.is_short(1, place, texts[1])?;
+        self.may_push(place, values)?;
         if place % SIZE == 0 {
             self.groups.push([NEW; 4])?;
         } else {
             self.write_all(place / SIZE)?;
         }
-        self.texts.push(texts)?;
-        self.numbers.push(numbers)?;
+        self.push_values(values)
+    }
+
+    fn may_push(&self, place: usize, values: Values<'static>) -> Result<(), Refusal> {
+        self.here(place / SIZE)?;
+        self.is_short(0, place, values.0)?;
+        self.is_short(1, place, values.2)
+    }
+
+    fn push_values(&mut self, values: Values<'static>) -> Result<(), Refusal> {
+        self.texts.push([values.0, values.2])?;
+        self.numbers.push([values.1, values.3])?;
         self.alive.push(true)?;
         Ok(())
     }
