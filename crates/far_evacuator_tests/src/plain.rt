@@ -1,14 +1,17 @@
 // Plain objects: what each call should answer, and what each object should be then.
+mod moving;
+mod numbers;
 mod renewing;
 mod several;
 
-use super::desk::{Limits, Record};
-use crate::Want;
+use crate::call::Call;
+use crate::desk::{Limits, Record};
 use far_types::Refusal;
+pub use numbers::Numbers;
 use std::alloc::Global;
 
 /// Where a list lies.
-#[derive(Clone, Copy, Debug, PartialEq, Eq)]
+#[derive(Clone, Copy)]
 struct Place {
     segment: u32,
     offset: usize,
@@ -20,51 +23,6 @@ struct Plain<T> {
     list: Vec<T>,
     place: Option<Place>,
     record: Record,
-}
-
-/// A store that numbers what is put, and fails in one put and in one get.
-#[derive(Clone, Copy, Drop)]
-pub struct Numbers {
-    capacity: u64,
-    failing_put: u64,
-    failing_get: u64,
-    puts: u64,
-    gets: u64,
-    drawn: u64,
-}
-
-impl Numbers {
-    pub fn new(capacity: u64, failing_put: u64, failing_get: u64) -> Numbers {
-        Numbers {
-            capacity,
-            failing_put,
-            failing_get,
-            puts: 0,
-            gets: 0,
-            drawn: 0,
-        }
-    }
-
-    fn put(&mut self) -> Result<u64, Refusal> {
-        self.puts = self.puts.saturating_add(1);
-        if self.puts == self.failing_put {
-            return Err(Refusal::FarFault);
-        }
-        if self.drawn >= self.capacity {
-            return Err(Refusal::FarFull);
-        }
-        let number = self.drawn;
-        self.drawn = number.saturating_add(1);
-        Ok(number)
-    }
-
-    fn get(&mut self) -> Result<(), Refusal> {
-        self.gets = self.gets.saturating_add(1);
-        if self.gets == self.failing_get {
-            return Err(Refusal::FarFault);
-        }
-        Ok(())
-    }
 }
 
 /// What a job rests on. An evacuation of a dirty object has its list and no ticket; every other job has a ticket.
@@ -120,7 +78,36 @@ impl<T: Copy + Drop + PartialEq> Plains<T> {
         Ok(self.object(o)?.record)
     }
 
-    pub fn create(&mut self, alloc: Global, list: &[T]) -> Result<u32, Refusal> {
+    /// Makes a call. Answers the number that it gives, and 0 where it gives none.
+    pub fn make(&mut self, alloc: Global, call: &Call<'_, T>) -> Result<u32, Refusal> {
+        match *call {
+            Call::Create(list) => self.create(alloc, list),
+            Call::PinTogether(listed) => self.pin_together(listed),
+            _ => {
+                self.change(alloc, call)?;
+                Ok(0)
+            }
+        }
+    }
+
+    // Makes a call that gives no number.
+    fn change(&mut self, alloc: Global, call: &Call<'_, T>) -> Result<(), Refusal> {
+        match *call {
+            Call::Uncreate => self.uncreate(),
+            Call::Write(o, list) => self.write(alloc, o, list),
+            Call::Replace(o, list) => self.replace(alloc, o, list),
+            Call::ReplaceBoth(objects, first, second) => {
+                self.replace_both(alloc, objects, first, second)
+            }
+            Call::Pin(o) => self.pin(o),
+            Call::Unpin(o) => self.unpin(o),
+            Call::Touch(o) => self.touch(o),
+            Call::Compact(segment) => self.compact(segment),
+            _ => self.move_object(alloc, call),
+        }
+    }
+
+    fn create(&mut self, alloc: Global, list: &[T]) -> Result<u32, Refusal> {
         let place = self.room_for(list.len())?;
         let o = self.count();
         self.objects.push(Plain {
@@ -140,7 +127,7 @@ impl<T: Copy + Drop + PartialEq> Plains<T> {
         Ok(o)
     }
 
-    pub fn write(&mut self, alloc: Global, o: u32, list: &[T]) -> Result<(), Refusal> {
+    fn write(&mut self, alloc: Global, o: u32, list: &[T]) -> Result<(), Refusal> {
         self.may_write(o)?;
         self.mark(o)?;
         let object = self.object_mut(o)?;
@@ -150,21 +137,21 @@ impl<T: Copy + Drop + PartialEq> Plains<T> {
         Ok(())
     }
 
-    pub fn replace(&mut self, alloc: Global, o: u32, list: &[T]) -> Result<(), Refusal> {
+    fn replace(&mut self, alloc: Global, o: u32, list: &[T]) -> Result<(), Refusal> {
         self.local(o)?;
         let place = self.room_for(list.len())?;
         self.may_write(o)?;
-        self.settle(o, list.to_vec(alloc)?, place)
+        self.settle(alloc, o, list, place)
     }
 
-    pub fn pin(&mut self, o: u32) -> Result<(), Refusal> {
+    fn pin(&mut self, o: u32) -> Result<(), Refusal> {
         self.local(o)?;
         let object = self.object_mut(o)?;
         object.record.pins = object.record.pins.saturating_add(1);
         Ok(())
     }
 
-    pub fn unpin(&mut self, o: u32) -> Result<(), Refusal> {
+    fn unpin(&mut self, o: u32) -> Result<(), Refusal> {
         let object = self.object_mut(o)?;
         if object.record.pins == 0 {
             return Err(Refusal::NotPinned);
@@ -173,7 +160,7 @@ impl<T: Copy + Drop + PartialEq> Plains<T> {
         Ok(())
     }
 
-    pub fn touch(&mut self, o: u32) -> Result<(), Refusal> {
+    fn touch(&mut self, o: u32) -> Result<(), Refusal> {
         let object = self.object_mut(o)?;
         if object.place.is_some() {
             object.record.hot = true;
@@ -182,7 +169,7 @@ impl<T: Copy + Drop + PartialEq> Plains<T> {
         Ok(())
     }
 
-    pub fn compact(&mut self, segment: u32) -> Result<(), Refusal> {
+    fn compact(&mut self, segment: u32) -> Result<(), Refusal> {
         if segment >= u32::from(self.limits.segments) {
             return Err(Refusal::OutOfRange);
         }
@@ -224,142 +211,6 @@ impl<T: Copy + Drop + PartialEq> Plains<T> {
 }
 
 impl<T: Copy + Drop + PartialEq> Plains<T> {
-    pub fn begin(&mut self, alloc: Global, want: Want) -> Result<(), Refusal> {
-        let o = match want {
-            Want::Object(o) => o,
-            Want::Coldest => self.coldest().ok_or(Refusal::StaleJob)?,
-        };
-        let object = self.local(o)?;
-        let list = if object.record.dirty {
-            Some(object.list.to_vec(alloc)?)
-        } else {
-            None
-        };
-        self.evac = Some(Job {
-            number: self.number,
-            object: o,
-            record: object.record,
-            list,
-            ticket: object.record.ticket,
-        });
-        Ok(())
-    }
-
-    pub fn carry(&mut self) -> Result<(), Refusal> {
-        let Some(job) = &mut self.evac else {
-            return Err(Refusal::StaleJob);
-        };
-        if job.list.is_some() {
-            job.ticket = Some(self.store.put()?);
-        }
-        self.carried = self.evac.take();
-        Ok(())
-    }
-
-    pub fn commit(&mut self) -> Result<(), Refusal> {
-        let Some(job) = &self.carried else {
-            return Err(Refusal::StaleJob);
-        };
-        let (o, ticket) = (job.object, job.ticket);
-        if !self.is_committable(job) {
-            return Err(Refusal::StaleJob);
-        }
-        let object = self.object_mut(o)?;
-        if object.record.pins > 0 {
-            return Err(Refusal::Pinned);
-        }
-        object.place = None;
-        object.record = Record {
-            local: false,
-            dirty: false,
-            hot: false,
-            leavings: object.record.leavings.saturating_add(1),
-            ticket,
-            ..object.record
-        };
-        self.order.retain(|other| *other != o);
-        Ok(())
-    }
-
-    fn is_committable(&self, job: &Job<T>) -> bool {
-        let Ok(object) = self.local(job.object) else {
-            return false;
-        };
-        let is_still = match &job.list {
-            Some(list) => list.as_slice() == object.list.as_slice(),
-            None => !object.record.dirty && object.record.ticket == job.ticket,
-        };
-        job.number == self.number
-            && object.record.version == job.record.version
-            && object.record.leavings == job.record.leavings
-            && object.record.leavings < self.limits.leavings
-            && is_still
-    }
-
-    pub fn begin_fetch(&mut self, o: u32) -> Result<(), Refusal> {
-        let object = self.object(o)?;
-        if object.record.local {
-            return Err(Refusal::StaleJob);
-        }
-        self.fetch = Some(Job {
-            number: self.number,
-            object: o,
-            record: object.record,
-            list: None,
-            ticket: object.record.ticket,
-        });
-        Ok(())
-    }
-
-    pub fn carry_fetch(&mut self) -> Result<(), Refusal> {
-        if self.fetch.is_none() {
-            return Err(Refusal::StaleJob);
-        }
-        self.store.get()?;
-        self.fetched = self.fetch.take();
-        Ok(())
-    }
-
-    pub fn install(&mut self) -> Result<(), Refusal> {
-        let Some(job) = &self.fetched else {
-            return Err(Refusal::StaleJob);
-        };
-        let Ok(object) = self.object(job.object) else {
-            return Err(Refusal::StaleJob);
-        };
-        let is_same = job.number == self.number
-            && !object.record.local
-            && object.record.leavings == job.record.leavings
-            && object.record.ticket == job.ticket;
-        if !is_same {
-            return Err(Refusal::StaleJob);
-        }
-        let o = job.object;
-        let place = self.room_for(object.list.len())?;
-        let object = self.object_mut(o)?;
-        object.place = Some(place);
-        object.record.local = true;
-        object.record.hot = true;
-        self.order.push(o)?;
-        Ok(())
-    }
-
-    // The object that goes away first.
-    fn coldest(&self) -> Option<u32> {
-        let mut hot = None;
-        for o in &self.order {
-            if let Ok(object) = self.object(*o) {
-                if object.record.pins == 0 && !object.record.hot {
-                    return Some(*o);
-                }
-                if object.record.pins == 0 && hot.is_none() {
-                    hot = Some(*o);
-                }
-            }
-        }
-        hot
-    }
-
     fn object(&self, o: u32) -> Result<&Plain<T>, Refusal> {
         self.objects.get(o as usize).ok_or(Refusal::NoRow)
     }
@@ -390,10 +241,10 @@ impl<T: Copy + Drop + PartialEq> Plains<T> {
     }
 
     // The object has another list, at another place.
-    fn settle(&mut self, o: u32, list: Vec<T>, place: Place) -> Result<(), Refusal> {
+    fn settle(&mut self, alloc: Global, o: u32, list: &[T], place: Place) -> Result<(), Refusal> {
         self.mark(o)?;
         let object = self.object_mut(o)?;
-        object.list = list;
+        object.list = list.to_vec(alloc)?;
         object.place = Some(place);
         Ok(())
     }

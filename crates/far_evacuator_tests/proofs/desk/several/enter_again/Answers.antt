@@ -1,6 +1,6 @@
 use Rattle.std.proofs.Common.{length, ap, ◌∙◌}
 use Rattle.far_scopes.proofs.Pins.{length-pinned_all}
-use Rattle.far_evacuator.proofs.tests.desk.enter_again.Goals as goal
+use Rattle.far_evacuator_tests.proofs.desk.several.enter_again.Goals as goal
 
 pub returns-in-Ok-clause-count : goal.returns-in-Ok-clause-count
 returns-in-Ok-clause-count g c = ap (λ m. length m.entries) c.in-Ok.ensures.pinned ∙ length-pinned_all c.args.objects.now c.args.listed.now
