@@ -1,6 +1,6 @@
 // Rows that are pushed: worked examples.
 use crate::fixture::{FIRST, FOURTH, Fixture, LIMITS, ROWS, SECOND, THIRD, Values};
-use crate::script::{Call, Step, play};
+use crate::script::{Call, Step, is_due, play};
 use far_fixtures::agent;
 use far_store::FarStore;
 use far_types::{Limits, Refusal};
@@ -72,7 +72,7 @@ fn is_too_long<S: FarStore>(
     let text = Some(letters.as_str());
     let first = fixture.may_push(alloc, (text, Some(1), None, Some(2)));
     let second = fixture.may_push(alloc, (None, Some(1), text, Some(2)));
-    Ok(first == Err(Refusal::ChunkFull) && second == Err(Refusal::ChunkFull))
+    Ok(is_due(first, Err(Refusal::ChunkFull))? && is_due(second, Err(Refusal::ChunkFull))?)
 }
 
 /// Whether texts, of which one alone fills a form, are refused.

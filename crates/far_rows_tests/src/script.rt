@@ -84,17 +84,22 @@ pub fn first_wrong<S: FarStore>(
     Ok(None)
 }
 
-// Whether a step comes out as it should. Nothing can be said where memory is wanting.
+/// Whether a reply is the one that is due. Nothing can be said where memory is wanting.
+pub fn is_due(reply: Result<(), Refusal>, due: Result<(), Refusal>) -> Result<bool, Refusal> {
+    match reply {
+        Err(Refusal::NoMemory) => Err(Refusal::NoMemory),
+        reply => Ok(reply == due),
+    }
+}
+
+// Whether a step comes out as it should.
 fn comes_out<S: FarStore>(
     alloc: Global,
     fixture: &mut Fixture<'_, S>,
     step: Step,
 ) -> Result<bool, Refusal> {
     match step {
-        Step::Call(call, due) => match reply(alloc, fixture, call) {
-            Err(Refusal::NoMemory) => Err(Refusal::NoMemory),
-            reply => Ok(reply == due),
-        },
+        Step::Call(call, due) => is_due(reply(alloc, fixture, call), due),
         Step::Rows(count) => Ok(fixture.has_rows(ROWS.get(..count).unwrap_or(&[]))),
         Step::Values(place, values) => Ok(fixture.values(place) == Ok(values)),
         Step::Alive(place, alive) => Ok(fixture.rows().is_alive(place) == alive),
