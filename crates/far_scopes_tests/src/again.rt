@@ -1,8 +1,7 @@
-// Calls that take memory, made a second time where the first finds none. The first must leave the objects as they were: where
-// it does not, the second is not made, and the refusal stands.
-ghost use Rattle.std.specs.Prelude.{◌≡◌, ◌+◌, ◌<◌, ◌≤◌, ◌^◌, ℕ, List, [], length, replicate, All, true, false, Some, IfOk, OnOk, OnErr};
+// Calls that allocate, made a second time where the first is refused memory. The first must leave the objects as they were:
+// where it does not, the second is not made, and the refusal stands.
+ghost use Rattle.std.specs.Prelude.{◌≡◌, ◌+◌, ◌<◌, ◌^◌, ℕ, List, length, All, true, false, Some, IfOk, OnOk, OnErr};
 ghost use Rattle.far_store.specs.Faults.{faults_in};
-ghost use Rattle.far_codec.specs.Spelling.{IsSpelled};
 ghost use Rattle.far_codec.specs.PlainNumbers.{plain_meaning};
 ghost use Rattle.far_scopes.specs.Memory.{ChangesList};
 ghost use Rattle.far_scopes.specs.Movement.{AreHere, list_of, is_local, pins_of};
@@ -11,38 +10,11 @@ ghost use Rattle.far_scopes.specs.Entering.{pinned_all};
 ghost use Rattle.far_scopes.specs.Replacing.{AreListedOnce};
 ghost use Rattle.far_scopes.specs.Renewal.{Renews, AreTicketsHere};
 
-use super::coming::name_of;
-use super::digest::digest;
-use crate::{Objects, Renewal, Replacement, Scope};
-use far_codec::Elem;
-use far_store::{AgentStore, FarRead, FarStore, Meter};
-use far_types::Refusal;
+use far_fixtures::digest_of;
+use far_scopes::{Objects, Renewal, Replacement, Scope};
+use far_store::{FarRead, FarStore, Meter};
+use far_types::{Name, Refusal};
 use std::alloc::Global;
-
-/// A store of so many numbers.
-pub fn agent(rt: &HostRuntime, capacity: u64) -> Result<AgentStore<&HostRuntime>, Refusal> {
-    match AgentStore::new(rt, rt.alloc(), capacity) {
-        Err(Refusal::NoMemory) => AgentStore::new(rt, rt.alloc(), capacity),
-        reply => reply,
-    }
-}
-
-/// No object, in so many segments of `size` numbers; so many writes and one leaving each.
-pub fn no_objects<S: FarRead>(
-    alloc: Global,
-    _store: &S,
-    segments: u32,
-    size: u32,
-    changes: u64,
-) -> Result<Objects<i64, S>, Refusal>
-    requires { segments ≤ 65536 }
-    ensures { IfOk result (λ m. m ≡ record { number = 7; changes = changes; leavings = 1; memory = record { words = []; room = replicate segments record { parts = []; size = size } }; entries = []; order = [] }) }
-{
-    match Objects::new(alloc, 7, segments, size, changes, 1) {
-        Err(Refusal::NoMemory) => Objects::new(alloc, 7, segments, size, changes, 1),
-        reply => reply,
-    }
-}
 
 /// Makes an object of this list, of column 0 and row group `group`.
 pub fn create<S: FarRead>(
@@ -58,11 +30,10 @@ pub fn create<S: FarRead>(
     ensures store { (name : List ℕ) → AreHere S.is_of name objects.old → AreHere S.is_of name objects.new }
     ensures err { OnErr result (objects.new ≡ objects.old) }
 {
-    let before = digest(objects);
-    match objects.create(name_of(group), list) {
-        Err(Refusal::NoMemory) if digest(objects) == before => {
-            objects.create(name_of(group), list)
-        }
+    let name = Name { column: 0, group };
+    let before = digest_of(objects);
+    match objects.create(name, list) {
+        Err(Refusal::NoMemory) if digest_of(objects) == before => objects.create(name, list),
         reply => reply,
     }
 }
@@ -78,9 +49,9 @@ pub fn replace<S: FarRead>(
     ensures replaced { OnOk result (objects.new ≡ replaced objects.old o list.now) }
     ensures store { (name : List ℕ) → AreHere S.is_of name objects.old → AreHere S.is_of name objects.new }
 {
-    let before = digest(objects);
+    let before = digest_of(objects);
     match objects.replace(o, list) {
-        Err(Refusal::NoMemory) if digest(objects) == before => objects.replace(o, list),
+        Err(Refusal::NoMemory) if digest_of(objects) == before => objects.replace(o, list),
         reply => reply,
     }
 }
@@ -95,9 +66,9 @@ pub fn replace_all<S: FarRead>(
     requires once { AreListedOnce lists.now }
     ensures count { length objects.new.entries ≡ length objects.old.entries }
 {
-    let before = digest(objects);
+    let before = digest_of(objects);
     match objects.replace_all(lists) {
-        Err(Refusal::NoMemory) if digest(objects) == before => objects.replace_all(lists),
+        Err(Refusal::NoMemory) if digest_of(objects) == before => objects.replace_all(lists),
         reply => reply,
     }
 }
@@ -110,9 +81,9 @@ pub fn compact<S: FarRead>(
 ) -> Result<(), Refusal>
     ensures kept { objects.new ≡ record objects.old { memory = objects.new.memory } }
 {
-    let before = digest(objects);
+    let before = digest_of(objects);
     match objects.compact(alloc, segment) {
-        Err(Refusal::NoMemory) if digest(objects) == before => objects.compact(alloc, segment),
+        Err(Refusal::NoMemory) if digest_of(objects) == before => objects.compact(alloc, segment),
         reply => reply,
     }
 }
@@ -129,25 +100,9 @@ pub fn enter<S: FarRead>(
     ensures pinned { OnOk result (objects.new ≡ pinned_all objects.old listed.now) }
     ensures err { OnErr result (objects.new ≡ objects.old) }
 {
-    let before = digest(objects);
+    let before = digest_of(objects);
     match objects.enter(alloc, listed) {
-        Err(Refusal::NoMemory) if digest(objects) == before => objects.enter(alloc, listed),
-        reply => reply,
-    }
-}
-
-/// Puts the far form of a list into a store.
-pub fn put<T: Elem, S: FarStore>(alloc: Global, store: &S, list: &[T]) -> Result<S::Ticket, Refusal>
-    requires { T.has_spelling list.now }
-    ensures here { IfOk result (λ ticket. S.is_of ticket (S.name store.now)) }
-    ensures spelled { IfOk result (λ ticket. IsSpelled T.in_range T.has_spelling T.spelling list.now (S.content ticket)) }
-{
-    let bytes = match T::spell(alloc, list) {
-        Ok(bytes) => bytes,
-        Err(_) => T::spell(alloc, list)?,
-    };
-    match store.put(alloc, &mut Meter::new(), &bytes) {
-        Err(Refusal::NoMemory) => store.put(alloc, &mut Meter::new(), &bytes),
+        Err(Refusal::NoMemory) if digest_of(objects) == before => objects.enter(alloc, listed),
         reply => reply,
     }
 }
@@ -164,9 +119,9 @@ pub fn arrive<S: FarRead>(
     ensures arrived { OnOk result (objects.new ≡ arrived objects.old o list.now) }
     ensures store { (name : List ℕ) → AreHere S.is_of name objects.old → AreHere S.is_of name objects.new }
 {
-    let before = digest(objects);
+    let before = digest_of(objects);
     match objects.arrive(o, list) {
-        Err(Refusal::NoMemory) if digest(objects) == before => objects.arrive(o, list),
+        Err(Refusal::NoMemory) if digest_of(objects) == before => objects.arrive(o, list),
         reply => reply,
     }
 }
@@ -188,20 +143,5 @@ pub fn renewal<S: FarStore, N: FarStore>(
     match objects.renewal(alloc, store, new_store, meter) {
         Err(Refusal::NoMemory) => objects.renewal(alloc, store, new_store, meter),
         reply => reply,
-    }
-}
-
-/// A copy of the list of an object.
-pub fn copy_of<S: FarRead>(
-    alloc: Global,
-    objects: &Objects<i64, S>,
-    o: u32,
-) -> Result<Vec<i64>, Refusal>
-    requires { o < length objects.now.entries }
-{
-    let list = objects.lend(o)?;
-    match list.to_vec(alloc) {
-        Ok(list) => Ok(list),
-        Err(_) => Ok(list.to_vec(alloc)?),
     }
 }
