@@ -9,4 +9,5 @@ pub mod Printing
 pub mod Scripts
 pub mod Faults
 pub mod Listings
-pub mod Bounds
+pub mod Flow
+pub mod Progress

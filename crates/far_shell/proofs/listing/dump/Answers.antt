@@ -1,0 +1,20 @@
+use Rattle.std.proofs.Common.{◌∙◌, sym, codes, length}
+use Rattle.far_types.specs.Table.{rows_of}
+use Rattle.far_shell.specs.Printing.{numbered_text}
+use Rattle.far_shell.proofs.DumpLaws.{dump-row, dump-skip}
+use Rattle.far_shell.proofs.listing.dump.Goals.{then-is_live+in_ok-row+in_ok-add-2+in_ok-flush_if_full, else-is_live}
+use Rattle.far_shell.proofs.listing.dump.Goals as goal
+
+pub loop-place-preserved : goal.loop-place-preserved
+loop-place-preserved g c =
+    let places = c.args.frame.now.table.places in
+    let front = numbered_text (codes "rows") (length (rows_of places)) in
+    elim c.if-is_live.branch [
+      | then-is_live+in_ok-row+in_ok-add-2+in_ok-flush_if_full w ↦
+          rw (w.output-is, w.writer-is) (dump-row (g.W.Write.contents c.args.writer.now) (g.W.Write.contents c.loop-place.writer) (g.W.Write.contents w.flush_if_full.new.writer)
+          c.args.output.now.page c.loop-place.output.page w.add-then-is_live.new.self.page w.flush_if_full.new.self.page front w.row.new.page places c.loop-place.place
+          (sym c.is_live.ensures ∙ w.if-is_live.true) c.loop-place.invariant (rw w.truncate-then-is_live.ensures at w.in_ok-row.ensures.ok) w.in_ok-add-2.ensures.ok w.in_ok-flush_if_full.ensures.printed)
+      | else-is_live w ↦
+          rw (w.output-is, w.writer-is) (dump-skip (g.W.Write.contents c.args.writer.now) (g.W.Write.contents c.loop-place.writer) c.args.output.now.page c.loop-place.output.page front places c.loop-place.place
+          (sym c.is_live.ensures ∙ w.if-is_live.false) c.loop-place.invariant)
+    ]
