@@ -1,10 +1,10 @@
 -- The live rows, place by place.
-use Rattle.std.proofs.Common.{Option, subst, ◌≡◌, ◌+◌, ℕ, zero, suc, Bool, true, false, List, [], ◌∷◌, ◌++◌, length, take, append_assoc, append-nil, length-append, if◌then◌else◌, ◌∙◌, refl, sym, ap, arith}
+use Rattle.std.proofs.Common.{drop, Option, subst, ◌≡◌, ◌+◌, ℕ, zero, suc, Bool, true, false, List, [], ◌∷◌, ◌++◌, length, take, append_assoc, append-nil, length-append, if◌then◌else◌, ◌∙◌, refl, sym, ap, arith}
 use Rattle.far_types.specs.declared.cell.Cell.{Cell}
 use Rattle.far_types.specs.Table.{Place, rows_of}
 use Rattle.far_shell.specs.Printing.{texts_of}
 use Rattle.far_shell.specs.Flow.{Prints}
-use Rattle.far_shell.specs.Scripts.{cells_at, is_live, row_line}
+use Rattle.far_shell.specs.Listings.{cells_at, is_live, row_line}
 use Rattle.far_shell.proofs.FlowLaws.{prints, prints-then, prints-then-nothing}
 
 rows-first : (b : Bool) (p : Place) (rest : List Place) → p.alive ≡ b → rows_of (p ∷ rest) ≡ (if b then p.cells ∷ rows_of rest else rows_of rest)
@@ -57,3 +57,22 @@ dump-row u v w held k l left front row places i live p is grown q =
 pub dump-skip : (u v : Option (List ℕ)) (held k front : List ℕ) (places : List Place) (i : ℕ) → is_live i places ≡ false
     → Prints u held (front ++ texts_of row_line (rows_of (take i places))) v k → Prints u held (front ++ texts_of row_line (rows_of (take (i + 1) places))) v k
 dump-skip u v held k front places i dead p = subst (λ (rows : List (List Cell)). Prints u held (front ++ texts_of row_line rows) v k) (sym (row-none places i dead)) p
+
+rows-split : (i : ℕ) (places : List Place) → rows_of (take i places) ++ rows_of (drop i places) ≡ rows_of places
+rows-split zero places = refl
+rows-split (suc i) [] = refl
+rows-split (suc i) (p ∷ ps) = elim p.alive as (λ b. p.alive ≡ b → rows_of (p ∷ take i ps) ++ rows_of (drop i ps) ≡ rows_of (p ∷ ps)) [
+  | true ↦ λ e. rw e (ap (λ (r : List (List Cell)). p.cells ∷ r) (rows-split i ps))
+  | false ↦ λ e. rw e (rows-split i ps)
+] refl
+
+texts-join : (text : List Cell → List ℕ) (a b : List (List Cell)) → texts_of text (a ++ b) ≡ texts_of text a ++ texts_of text b
+texts-join text [] b = refl
+texts-join text (row ∷ rows) b = ap (λ (t : List ℕ). text row ++ t) (texts-join text rows b) ∙ sym (append_assoc (text row) (texts_of text rows) (texts_of text b))
+
+-- what was printed of a dump, and the rest
+pub dump-rest : (front : List ℕ) (places : List Place) (i : ℕ)
+    → (front ++ texts_of row_line (rows_of (take i places))) ++ texts_of row_line (rows_of (drop i places)) ≡ front ++ texts_of row_line (rows_of places)
+dump-rest front places i =
+    append_assoc front (texts_of row_line (rows_of (take i places))) (texts_of row_line (rows_of (drop i places)))
+    ∙ ap (λ (t : List ℕ). front ++ t) (sym (texts-join row_line (rows_of (take i places)) (rows_of (drop i places))) ∙ ap (texts_of row_line) (rows-split i places))

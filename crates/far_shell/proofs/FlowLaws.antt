@@ -14,7 +14,8 @@ use Rattle.far_shell.specs.Progress.{At}
 use Rattle.std.specs.Prelude.{codes, IsUtf8, IfSome, unwrap_or}
 use Rattle.std.specs.Io.BufRead.{strip_last}
 use Rattle.far_shell.specs.Commands.{command_of}
-use Rattle.far_shell.specs.Scripts.{Turn, bytes_of, text_of, IsTurn, AreTurns, Answers, AnswersLine, ServesLine, Ends, Blank, Opens, IsOpenedBy, IsScript, without_return}
+use Rattle.far_shell.specs.Replies.{ServesLine}
+use Rattle.far_shell.specs.Scripts.{Turn, bytes_of, text_of, IsTurn, AreTurns, Answers, AnswersLine, Ends, Blank, Opens, IsOpenedBy, IsScript, without_return}
 
 -- what a writer took in parts
 pub written-on : (u v w : Option (List ℕ)) (bytes : List ℕ) (n m : ℕ) → Appends u v (take n bytes) → Appends v w (take m (drop n bytes)) → Appends u w (take (n + m) bytes)
@@ -252,6 +253,11 @@ module _ {R : Type 0} (read : Ghosts R) where
   pub spent-nothing : (old new : Input R read) (bytes : List ℕ) → IsSpent read old → Reads read old bytes new → bytes ≡ []
   spent-nothing old new bytes spent p =
       no-first bytes (unread read new) (sym p.taken ∙ ap (λ (t : List ℕ). unread read old ++ t) (p.none spent.1) ∙ append-nil (unread read old) ∙ spent.0)
+
+  -- and nothing comes then
+  pub spent-stays : (old new : Input R read) (bytes : List ℕ) → IsSpent read old → Reads read old bytes new → IsSpent read new
+  spent-stays old new bytes spent p =
+      (no-rest bytes (unread read new) (sym p.taken ∙ ap (λ (t : List ℕ). unread read old ++ t) (p.none spent.1) ∙ append-nil (unread read old) ∙ spent.0), p.ended spent.1)
 
   pub script-whole : (old mid new : Input R read) (reader : R) (first rest text : List ℕ) (u v w : Option (List ℕ)) (held k left : List ℕ) (at : At)
       → old.source.reader ≡ reader → old.source.bytes ≡ 16777216 → unread read old ≡ [] → held ≡ []

@@ -10,3 +10,4 @@ pub mod FlowLaws
 pub mod DumpLaws
 pub mod RowLaws
 pub mod LoadLaws
+pub mod BreakLaws

@@ -16,7 +16,7 @@ use Rattle.far_types.specs.declared.refusal.Refusal.{Refusal}
 use Rattle.far_frame.specs.Steps.{State, IsStep}
 use Rattle.std.specs.Prelude.{codes}
 use Rattle.far_shell.specs.Printing.{numbered_text, refusal_text}
-use Rattle.far_shell.specs.Scripts.{AfterReply, Loads, insert_of_record}
+use Rattle.far_shell.specs.Replies.{AfterReply, Loads, insert_of_record}
 
 -- where a record ended, no other is begun
 abbrev EndsWell : Mode × Action → Type 0

@@ -5,8 +5,7 @@ use Rattle.std.specs.Option.{option_map_or}
 use Rattle.csv.specs.Writing.{default_writer, field_text, fields_text, is_blank, row_body}
 use Rattle.far_types.specs.declared.cell.Cell.{Cell}
 use Rattle.far_types.specs.Table.{Place}
-use Rattle.far_shell.specs.Listings.{cell_text, field_in_record}
-use Rattle.far_shell.specs.Scripts.{cells_at, row_line}
+use Rattle.far_shell.specs.Listings.{cell_text, cells_at, field_in_record, row_line}
 use Rattle.far_shell.specs.Printing.{record_text}
 
 -- the cell that a table lends is that of the place's cells

@@ -3,9 +3,9 @@ ghost use Rattle.std.specs.Prelude.{◌≡◌, map, drop, length, ◌++◌, OnOk
 ghost use Rattle.far_frame.specs.Columns.{lent_cell};
 ghost use Rattle.csv.specs.Writing.{default_writer, fields_text};
 ghost use Rattle.far_types.specs.Table.{rows_of};
+ghost use Rattle.far_shell.specs.Breaks.{PrintsCut};
 ghost use Rattle.far_shell.specs.Flow.{Prints};
-ghost use Rattle.far_shell.specs.Listings.{cell_text, field_in_record};
-ghost use Rattle.far_shell.specs.Scripts.{cells_at, dump_text, is_live, row_line};
+ghost use Rattle.far_shell.specs.Listings.{cell_text, cells_at, dump_text, field_in_record, is_live, row_line};
 
 use super::fault::ShellFault;
 use super::output::Output;
@@ -101,6 +101,7 @@ fn live_rows(frame: &Frame) -> u64
 /// `rows COUNT`, and the live rows in the order of their places, as the csv writer writes them.
 pub fn dump<W: Write>(frame: &Frame, output: &mut Output, writer: &mut W) -> Result<(), ShellFault>
     ensures ok { OnOk result (Prints (W.contents writer.old) output.old.page (dump_text frame.now.table) (W.contents writer.new) output.new.page) }
+    ensures err { IfErr result (λ fault. PrintsCut fault (λ said. said ≡ dump_text frame.now.table) (W.contents writer.old) output.old.page (W.contents writer.new) output.new.page) }
 {
     output.reply.truncate(0);
     numbered(&mut output.reply, "rows", live_rows(frame))?;

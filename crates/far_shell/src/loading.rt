@@ -2,7 +2,7 @@
 ghost use Rattle.std.specs.Prelude.{◌≡◌, OnOk, IfErr, IfOk};
 ghost use Rattle.csv.specs.Records.{fields_of};
 ghost use Rattle.far_frame.specs.Steps.{IsStep};
-ghost use Rattle.far_shell.specs.Scripts.{Loads, insert_of_record, records_of};
+ghost use Rattle.far_shell.specs.Replies.{Loads, insert_of_record, records_of};
 
 use super::bounded::MAX_BYTES;
 use super::field::record_cells;

@@ -1,7 +1,8 @@
 // Scripts, read as they are answered.
-ghost use Rattle.std.specs.Prelude.{◌≡◌, ℕ, List, [], ◌++◌, codes, IfOk, OnOk};
+ghost use Rattle.std.specs.Prelude.{◌≡◌, ℕ, List, [], ◌++◌, codes, IfOk, IfErr, IfSome, OnOk};
 ghost use Rattle.std.specs.Io.KnownBytes.{Appends};
-ghost use Rattle.far_shell.specs.Flow.{IsSpent, IsWhole, Prints, Reads};
+ghost use Rattle.far_shell.specs.Breaks.{Breaks, BreaksOff, IsBroken, Rejection};
+ghost use Rattle.far_shell.specs.Flow.{IsSpent, IsWhole, Prints, Reads, StartsWith};
 ghost use Rattle.far_shell.specs.Scripts.{Ends, IsOpenedBy, IsScript, Opens};
 
 use super::bounded::MAX_BYTES;
@@ -27,6 +28,7 @@ fn serve_lines<R: Read + Drop, W: Write>(
     writer: &mut W,
 ) -> Result<(), ShellFault>
     ensures ok { OnOk result ((bytes : List ℕ) × (text : List ℕ) × Reads R.Read input.old bytes input.new × Prints (W.contents writer.old) output.old.page text (W.contents writer.new) output.new.page × Ends progress.old bytes text × IsSpent R.Read input.new) }
+    ensures err { IfErr result (λ fault. (bytes : List ℕ) × (rest : List ℕ) × (text : List ℕ) × StartsWith R.Read input.old bytes rest × Prints (W.contents writer.old) output.old.page text (W.contents writer.new) output.new.page × BreaksOff progress.old fault bytes text) }
 {
     for _ in 0..=MAX_BYTES {
         match input.line(output, writer)? {
@@ -45,9 +47,12 @@ fn serve_lines<R: Read + Drop, W: Write>(
 /// that is printed, and the fault is `BadStart`.
 fn open_line(alloc: Global, line: &str, output: &mut Output) -> Result<Progress, ShellFault>
     ensures ok { IfOk result (λ progress. IsOpenedBy line.now progress × (output.new.page ≡ output.old.page ++ codes "ok\n")) }
+    ensures err { IfErr result (λ fault. (text : List ℕ) × (output.new.page ≡ output.old.page ++ text) × Rejection fault line.now text) }
 {
     let Some(opening) = first_line(alloc, line)? else {
-        output.page.text("syntax command 1\n")?;
+        output.reply.truncate(0);
+        output.reply.text("syntax command 1\n")?;
+        output.add()?;
         return Err(ShellFault::BadStart);
     };
     let opened = match Schema::new(opening.kinds) {
@@ -64,7 +69,9 @@ fn open_line(alloc: Global, line: &str, output: &mut Output) -> Result<Progress,
         }
         Err(Refusal::NoMemory) => Err(ShellFault::Memory),
         Err(refusal) => {
-            refused(&mut output.page, &refusal)?;
+            output.reply.truncate(0);
+            refused(&mut output.reply, &refusal)?;
+            output.add()?;
             Err(ShellFault::BadStart)
         }
     }
@@ -78,6 +85,7 @@ fn open<R: Read + Drop, W: Write>(
     writer: &mut W,
 ) -> Result<Progress, ShellFault>
     ensures ok { IfOk result (λ progress. (bytes : List ℕ) × Reads R.Read input.old bytes input.new × Prints (W.contents writer.old) output.old.page (codes "ok\n") (W.contents writer.new) output.new.page × Opens bytes (IsSpent R.Read input.new) progress) }
+    ensures err { IfErr result (λ fault. (bytes : List ℕ) × (rest : List ℕ) × (text : List ℕ) × StartsWith R.Read input.old bytes rest × Prints (W.contents writer.old) output.old.page text (W.contents writer.new) output.new.page × IsBroken fault bytes rest text) }
 {
     for _ in 0..=MAX_BYTES {
         match input.line(output, writer)? {
@@ -108,6 +116,7 @@ fn serve<R: Read + Drop, W: Write>(
 ) -> Result<(), ShellFault>
     requires { output.old.page ≡ [] }
     ensures ok { OnOk result ((script : List ℕ) × (text : List ℕ) × IsWhole (R.remaining reader) script × Prints (W.contents writer.old) [] text (W.contents writer.new) output.new.page × IsScript script text) }
+    ensures err { IfErr result (λ fault. (bytes : List ℕ) × (rest : List ℕ) × (text : List ℕ) × IfSome (R.remaining reader) (λ script. script ≡ bytes ++ rest) × Prints (W.contents writer.old) [] text (W.contents writer.new) output.new.page × IsBroken fault bytes rest text) }
 {
     let mut input = Input::new(alloc, reader)?;
     let mut progress = open(alloc, &mut input, output, writer)?;
@@ -127,6 +136,7 @@ pub fn run_script<T: AllocGlobal, R: Read + Drop, W: Write>(
     writer: &mut W,
 ) -> Result<(), ShellFault>
     ensures ok { OnOk result ((script : List ℕ) × (text : List ℕ) × IsWhole (R.remaining reader) script × Appends (W.contents writer.old) (W.contents writer.new) text × IsScript script text) }
+    ensures err { IfErr result (λ fault. Breaks (R.remaining reader) (W.contents writer.old) (W.contents writer.new) fault) }
 {
     let mut output = Output::new(rt.alloc());
     let outcome = serve(rt.alloc(), reader, &mut output, writer);

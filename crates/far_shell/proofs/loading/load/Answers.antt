@@ -1,7 +1,7 @@
 use Rattle.std.proofs.Common.{ℕ, List, Bor, Some, ◌∙◌, inr}
 use Rattle.csv.specs.Reading.{strip_bom}
 use Rattle.csv.specs.Records.{fields_of}
-use Rattle.far_shell.specs.Scripts.{records_of}
+use Rattle.far_shell.specs.Replies.{records_of}
 use Rattle.far_shell.proofs.LoadLaws.{remains-first, remains-none, remains-some, loads-none, loads-refused, loads-more}
 use Rattle.far_shell.proofs.loading.load.Goals as goal
 

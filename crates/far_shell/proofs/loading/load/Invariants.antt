@@ -1,5 +1,5 @@
 use Rattle.std.proofs.Common.{◌≡◌, [], ℕ, List, Bor, Some}
-use Rattle.far_shell.specs.Scripts.{records_of}
+use Rattle.far_shell.specs.Replies.{records_of}
 use Rattle.far_shell.proofs.LoadLaws.{GoesTo, Remains}
 use Rattle.far_shell.proofs.loading.load.Given as goal
 
