@@ -46,17 +46,17 @@ fn a_group_is_merged_and_then_replaced(rt: HostRuntime) -> Result<(), Fail> {
     let alloc = rt.alloc();
     let mut live = LiveExtrema::new(alloc, 1);
     assert!(rt; matches!(live.answer(alloc), Err(Refusal::Building(1))));
-    if let Err(refusal) = live.make_room(0) {
+    let rows = group_of(alloc, Vec::from_array(alloc, [(None, 3), (None, 4)])?)?;
+    if let Err(refusal) = live.make_room_for(0, &rows) {
         assert_eq!(rt; refusal, Refusal::NoMemory);
-        live.make_room(0)?;
+        live.make_room_for(0, &rows)?;
     }
-    live.merge(
-        0,
-        group_of(alloc, Vec::from_array(alloc, [(None, 3), (None, 4)])?)?,
-    );
+    live.merge(0, rows);
     assert_eq!(rt; live.left(), 0);
     assert!(rt; has_lines(&answer(&rt, alloc, &live)?, &[(None, 3, 4)]));
-    live.set_group(0, group_of(alloc, Vec::from_array(alloc, [(None, 4)])?)?);
+    let rows = group_of(alloc, Vec::from_array(alloc, [(None, 4)])?)?;
+    live.make_room_for(0, &rows)?;
+    live.set_group(0, rows);
     assert!(rt; has_lines(&answer(&rt, alloc, &live)?, &[(None, 4, 4)]));
     live.set_group(0, GroupExtrema::new(alloc));
     assert!(rt; has_lines(&answer(&rt, alloc, &live)?, &[]));
@@ -67,8 +67,8 @@ fn a_group_is_merged_and_then_replaced(rt: HostRuntime) -> Result<(), Fail> {
 fn keys_of_all_groups_ascend_each_with_the_extremes_of_all(rt: HostRuntime) -> Result<(), Fail> {
     let alloc = rt.alloc();
     let mut live = LiveExtrema::new(alloc, 0);
-    live.make_room(2)?;
-    live.make_room(1)?;
+    live.make_room(2);
+    live.make_room(1);
     let first = [
         (number(7), i64::MAX),
         (text(alloc, "b")?, 1),
@@ -80,8 +80,12 @@ fn keys_of_all_groups_ascend_each_with_the_extremes_of_all(rt: HostRuntime) -> R
         (text(alloc, "b")?, -4),
         (number(7), 6),
     ];
-    live.set_group(0, group_of(alloc, Vec::from_array(alloc, first)?)?);
-    live.set_group(2, group_of(alloc, Vec::from_array(alloc, last)?)?);
+    let first = group_of(alloc, Vec::from_array(alloc, first)?)?;
+    let last = group_of(alloc, Vec::from_array(alloc, last)?)?;
+    live.make_room_for(0, &first)?;
+    live.set_group(0, first);
+    live.make_room_for(2, &last)?;
+    live.set_group(2, last);
     let lines = [
         (number(-2), i64::MIN, i64::MIN),
         (number(7), -5, i64::MAX),
@@ -123,7 +127,7 @@ fn a_span_follows_a_row_and_is_put_back(rt: HostRuntime) -> Result<(), Fail> {
     let alloc = rt.alloc();
     let key = text(alloc, "a")?;
     let mut live = LiveExtrema::new(alloc, 0);
-    live.make_room(1)?;
+    live.make_room(1);
     assert_eq!(rt; live.span(1, &key), None);
     live.see_under(1, &key, 4)?;
     live.see_under(1, &key, 9)?;
