@@ -1,9 +1,10 @@
 // Extrema by key of several row groups.
-ghost use Rattle.std.specs.Prelude.{◌≡◌, ◌<◌, length, IfOk, OnOk};
+ghost use Rattle.std.specs.Prelude.{◌≡◌, OnOk};
+ghost use Rattle.far_extrema.specs.Live.{with_room, HasRoomFor};
 
 use crate::extrema::{group_of, is_answer};
 use crate::keys::{Name, key_of};
-use far_extrema::LiveExtrema;
+use far_extrema::{GroupExtrema, LiveExtrema};
 use far_types::{Answer, Key, Refusal};
 use std::alloc::Global;
 use std::test::Fail;
@@ -31,25 +32,42 @@ fn extrema_are_told_once_their_row_groups_are_in(rt: HostRuntime) {
     assert!(rt; matches!(&told, Err(Refusal::Building(1))));
 }
 
-/// Makes room for the first row group, at the second call where the first is refused.
-fn make_first_room(live: &mut LiveExtrema) -> Result<(), Refusal>
-    ensures room { OnOk result (0 < length live.new.groups) }
+/// Makes room for a row group and its keys, at the second call where the first is refused.
+fn make_room_for(
+    live: &mut LiveExtrema,
+    group: u32,
+    extrema: &GroupExtrema,
+) -> Result<(), Refusal>
     ensures left { live.new.left ≡ live.old.left }
+    ensures groups { OnOk result (live.new.groups ≡ with_room group live.old.groups) }
+    ensures keys { OnOk result (HasRoomFor extrema.now live.new) }
 {
-    match live.make_room(0) {
-        Err(Refusal::NoMemory) => live.make_room(0),
+    match live.make_room_for(group, extrema) {
+        Err(Refusal::NoMemory) => live.make_room_for(group, extrema),
         reply => reply,
     }
 }
 
 /// Extrema that waited for a row group of two rows, once these are merged.
-fn merged(alloc: Global) -> Result<LiveExtrema, Refusal>
-    ensures { IfOk result (λ live. 0 < length live.groups) }
-{
+fn merged(alloc: Global) -> Result<LiveExtrema, Refusal> {
     let mut live = LiveExtrema::new(alloc, 1);
-    make_first_room(&mut live)?;
-    live.merge(0, group_of(alloc, &[(Name::Nobody, 3), (Name::Nobody, 4)])?);
+    let rows = group_of(alloc, &[(Name::Nobody, 3), (Name::Nobody, 4)])?;
+    make_room_for(&mut live, 0, &rows)?;
+    live.merge(0, rows);
     Ok(live)
+}
+
+/// These rows are those of a row group.
+fn set_rows(
+    alloc: Global,
+    live: &mut LiveExtrema,
+    group: u32,
+    rows: &[(Name, i64)],
+) -> Result<(), Refusal> {
+    let rows = group_of(alloc, rows)?;
+    make_room_for(live, group, &rows)?;
+    live.set_group(group, rows);
+    Ok(())
 }
 
 /// Whether the answer has these lines once the first row group has these rows.
@@ -58,11 +76,8 @@ fn has_lines_replaced(
     live: &mut LiveExtrema,
     rows: &[(Name, i64)],
     table: &[(Name, i64, i64)],
-) -> Result<bool, Refusal>
-    requires { 0 < length live.old.groups }
-    ensures { 0 < length live.new.groups }
-{
-    live.set_group(0, group_of(alloc, rows)?);
+) -> Result<bool, Refusal> {
+    set_rows(alloc, live, 0, rows)?;
     has_lines(alloc, live, table)
 }
 
@@ -75,9 +90,7 @@ fn a_group_is_merged(rt: HostRuntime) -> Result<(), Fail> {
 }
 
 /// Whether the first row group is replaced by one row, and by none.
-fn is_replaced(alloc: Global, live: &mut LiveExtrema) -> Result<bool, Refusal>
-    requires { 0 < length live.old.groups }
-{
+fn is_replaced(alloc: Global, live: &mut LiveExtrema) -> Result<bool, Refusal> {
     let one_row = has_lines_replaced(alloc, live, &[(Name::Nobody, 4)], &[(Name::Nobody, 4, 4)])?;
     Ok(one_row && has_lines_replaced(alloc, live, &[], &[])?)
 }
@@ -112,10 +125,10 @@ static ALL_LINES: [(Name, i64, i64); 4] = [
 /// The extrema of three row groups, of which the second has no row.
 fn three_groups(alloc: Global) -> Result<LiveExtrema, Refusal> {
     let mut live = LiveExtrema::new(alloc, 0);
-    live.make_room(2)?;
-    live.make_room(1)?;
-    live.set_group(0, group_of(alloc, &FIRST_GROUP)?);
-    live.set_group(2, group_of(alloc, &LAST_GROUP)?);
+    live.make_room(2);
+    live.make_room(1);
+    set_rows(alloc, &mut live, 0, &FIRST_GROUP)?;
+    set_rows(alloc, &mut live, 2, &LAST_GROUP)?;
     Ok(live)
 }
 
@@ -128,7 +141,7 @@ fn keys_of_all_groups_ascend_each_with_the_extremes_of_all(rt: HostRuntime) -> R
 
 /// Whether what stands under a key of row group 1 follows two rows, is put back to the first and follows another.
 fn follows_rows(live: &mut LiveExtrema, key: &Option<Key>) -> Result<bool, Refusal> {
-    live.make_room(1)?;
+    live.make_room(1);
     let before = live.span(1, key);
     live.see_under(1, key, 4)?;
     live.see_under(1, key, 9)?;

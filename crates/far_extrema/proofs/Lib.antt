@@ -1,2 +1,6 @@
 pub mod GoneLaws
 pub mod GroupLaws
+pub mod HolderLaws
+pub mod RoomLaws
+pub mod SpreadLaws
+pub mod TournamentLaws

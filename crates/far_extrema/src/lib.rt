@@ -3,9 +3,12 @@
 //! group by row group, so that a row group that lost a row is looked at again by itself.
 
 pub mod group_extrema;
+mod holder;
+mod holders;
 pub mod laws;
 pub mod live_extrema;
 mod spans;
+mod tournament;
 
 pub use group_extrema::GroupExtrema;
 pub use live_extrema::LiveExtrema;

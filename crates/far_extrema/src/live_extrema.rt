@@ -1,41 +1,51 @@
 // Extrema that are kept up to date, row group by row group.
 ghost use Rattle.std.specs.Prelude.{◌≡◌, ◌≢◌, ◌-◌, ◌<◌, [], None, Err, OnOk, OnErr, IfOk, IfErr, length, slice_set};
 ghost use Rattle.far_extrema.specs.Live.{all_groups};
+ghost use Rattle.far_extrema.specs.Holders.{holders_of};
 
 use super::group_extrema::GroupExtrema;
-use super::spans::Span;
+use super::holders::{
+    Holders, add_in, clear_in, fill_all, leave_in, lines, make_rooms, set_in, span_in,
+};
+use super::spans::{Span, is_within, together};
 use far_types::{Answer, ExtremaLines, Key, Refusal};
 use std::alloc::Global;
+use std::collections::BTreeMap;
 use std::marker::Model;
 
 /// The least and the greatest value under each key, kept up to date row group by row group, and how many row groups
-/// are still to be built in. A row more costs one look-up by key. A row less costs a look at the rows under its key in
-/// its row group, and only where its value was the least or the greatest there; no other row group is looked at.
+/// are still to be built in. By key there is a tournament of the row groups in which it occurs. So a span that changes
+/// costs a look-up by key and a few steps for each doubling of the row groups, and an answer costs nothing for a row
+/// group.
 ///
 /// Contracts see how many are left, and for each row group for which room was made, in their order, the extrema of
 /// its rows.
 #[derive(Drop)]
 pub struct LiveExtrema {
     left: u32,
-    groups: Vec<GroupExtrema>,
+    room: usize,
+    holders: Holders,
     alloc: Global,
 }
 
 impl Model for LiveExtrema {
     ghost use Rattle.far_extrema.specs.Live.{Live, coded_live};
+    ghost use Rattle.far_extrema.specs.Holders.{holders_of, groups_in, roomy_in, HaveRoom};
 
     ghost Value = { Live };
 
     ghost coded = { coded_live };
 
-    ghost view = { λ live. record { left = live.left; groups = live.groups.items } };
+    ghost view = { λ live. record { left = live.left; groups = groups_in (holders_of live.holders.entries) live.room; roomy = roomy_in (holders_of live.holders.entries) } };
+
+    ghost invariant = { λ live. HaveRoom live.room (holders_of live.holders.entries) };
 }
 
 impl LiveExtrema {
     ghost use Rattle.std.specs.FinMap as fin;
     ghost use Rattle.far_types.specs.Answers.{extrema_lines};
     ghost use Rattle.far_types.specs.Changes.{with_seen};
-    ghost use Rattle.far_extrema.specs.Live.{with_room, group_at};
+    ghost use Rattle.far_extrema.specs.Live.{with_room, group_at, HasRoomFor};
     ghost use Rattle.far_extrema.specs.Spans.{put_span};
 
     /// No row group has room, and as many are still to be built in. Takes no memory.
@@ -45,7 +55,8 @@ impl LiveExtrema {
     {
         LiveExtrema {
             left,
-            groups: Vec::new(alloc),
+            room: 0,
+            holders: BTreeMap::new(alloc),
             alloc,
         }
     }
@@ -57,18 +68,25 @@ impl LiveExtrema {
         self.left
     }
 
-    /// Makes room for the row groups up to this one; those that are new have no row. Refused with `NoMemory` (1)
-    /// alone, and then nothing is changed.
-    pub fn make_room(&mut self, group: u32) -> Result<(), Refusal>
-        ensures ok { OnOk result (self.new ≡ record self.old { groups = with_room group self.old.groups }) }
-        ensures err { OnErr result (self.new ≡ self.old) }
+    /// Makes room for the row groups up to this one; those that are new have no row. Takes no memory.
+    pub fn make_room(&mut self, group: u32)
+        ensures { self.new ≡ record self.old { groups = with_room group self.old.groups } }
+    {
+        self.room = self.room.max(group as usize + 1);
+    }
+
+    /// Makes room as `make_room` does, and for each key of these extrema, so that they can stand for the row group. No key
+    /// is listed for having room alone. Refused with `NoMemory` (1) alone: then no row group has room that had none, and
+    /// some of the keys may have it.
+    pub fn make_room_for(&mut self, group: u32, extrema: &GroupExtrema) -> Result<(), Refusal>
+        ensures left { self.new.left ≡ self.old.left }
+        ensures groups { OnOk result (self.new.groups ≡ with_room group self.old.groups) }
+        ensures room { OnOk result (HasRoomFor extrema.now self.new) }
+        ensures err { OnErr result (self.new.groups ≡ self.old.groups) }
         ensures memory { IfErr result (λ e. e ≡ Refusal.NoMemory) }
     {
-        let lacking = (group as usize + 1).saturating_sub(self.groups.len());
-        self.groups.reserve(lacking)?;
-        for _ in 0..lacking {
-            self.groups.push(GroupExtrema::new(self.alloc)).unwrap();
-        }
+        make_rooms(&mut self.holders, self.alloc, extrema.spans())?;
+        self.make_room(group);
         Ok(())
     }
 
@@ -81,7 +99,16 @@ impl LiveExtrema {
         ensures only_new { OnErr result (fin.get (group_at self.old.groups group) key.now ≡ None) }
         ensures memory { IfErr result (λ e. e ≡ Refusal.NoMemory) }
     {
-        self.groups[group as usize].see_under(key, value)
+        match span_in(&self.holders, group, key) {
+            Some(span) => {
+                if !is_within(value, span) {
+                    let wide = together((value, value), span);
+                    set_in(&mut self.holders, group, key, wide);
+                }
+                Ok(())
+            }
+            None => add_in(&mut self.holders, self.alloc, group, key, (value, value)),
+        }
     }
 
     /// The least and the greatest value under a key in a row group, or `None` where it does not occur there, as in a
@@ -89,10 +116,7 @@ impl LiveExtrema {
     pub fn span(&self, group: u32, key: &Option<Key>) -> Option<Span>
         ensures { result ≡ fin.get (group_at self.now.groups group) key.now }
     {
-        match self.groups.get(group as usize) {
-            Some(extrema) => extrema.span(key),
-            None => None,
-        }
+        span_in(&self.holders, group, key)
     }
 
     /// Puts a span in place of the one under a key that occurs in a row group; none makes the key go. With the span that
@@ -102,29 +126,40 @@ impl LiveExtrema {
         requires there { fin.get (group_at self.old.groups group) key.now ≢ None }
         ensures { self.new ≡ record self.old { groups = slice_set self.old.groups group (put_span (group_at self.old.groups group) key.now span) } }
     {
-        self.groups[group as usize].put_span(key, span);
+        match span {
+            Some(span) => set_in(&mut self.holders, group, key, span),
+            None => leave_in(&mut self.holders, group, key),
+        }
     }
 
-    /// These are the rows of a row group, in place of those that stood for it. Takes no memory.
+    /// These are the rows of a row group, in place of those that stood for it. Costs a look at each key that occurs
+    /// anywhere, and a look-up for each that is given. Takes no memory.
     pub fn set_group(&mut self, group: u32, extrema: GroupExtrema)
-        requires { group < length self.old.groups }
-        ensures { self.new ≡ record self.old { groups = slice_set self.old.groups group extrema } }
+        requires room { group < length self.old.groups }
+        requires keys { HasRoomFor extrema self.old }
+        ensures left { self.new.left ≡ self.old.left }
+        ensures groups { self.new.groups ≡ slice_set self.old.groups group extrema }
     {
-        self.groups[group as usize] = extrema;
+        clear_in(&mut self.holders, group);
+        fill_all(&mut self.holders, group, extrema.spans());
     }
 
-    /// As `set_group`, and one row group less is left. Takes no memory.
+    /// These are the rows of a row group in which no key occurs yet, and one row group less is left. Costs a look-up for
+    /// each key that is given. Takes no memory.
     pub fn merge(&mut self, group: u32, extrema: GroupExtrema)
         requires room { group < length self.old.groups }
+        requires keys { HasRoomFor extrema self.old }
+        requires new { group_at self.old.groups group ≡ fin.empty }
         requires left { self.old.left ≢ 0 }
-        ensures { self.new ≡ record { left = self.old.left - 1; groups = slice_set self.old.groups group extrema } }
+        ensures left { self.new.left ≡ self.old.left - 1 }
+        ensures groups { self.new.groups ≡ slice_set self.old.groups group extrema }
     {
-        self.set_group(group, extrema);
+        fill_all(&mut self.holders, group, extrema.spans());
         self.left -= 1;
     }
 
-    /// The keys that occur in any row group, ascending, each with its least and its greatest value. Costs a look-up for
-    /// each key of each row group. Refused with `Building` (15) and how many row groups are left exactly where that is
+    /// The keys that occur in any row group, ascending, each with its least and its greatest value. Costs nothing for a
+    /// row group. Refused with `Building` (15) and how many row groups are left exactly where that is
     /// not 0, else with `NoMemory` (1) alone.
     pub fn answer(&self, alloc: Global) -> Result<Answer, Refusal>
         ensures ok { IfOk result (λ answer. answer ≡ Answer.Extrema (extrema_lines (all_groups self.now.groups))) }
@@ -135,19 +170,7 @@ impl LiveExtrema {
         if self.left != 0 {
             return Err(Refusal::Building(self.left));
         }
-        let all = join_all(alloc, self.groups.as_slice())?;
-        Ok(Answer::Extrema(all.into_lines(alloc)?))
+        let lines = lines(alloc, &self.holders)?;
+        Ok(Answer::Extrema(ExtremaLines::new(lines)))
     }
-}
-
-/// All row groups joined.
-fn join_all(alloc: Global, groups: &[GroupExtrema]) -> Result<GroupExtrema, Refusal>
-    ensures ok { IfOk result (λ all. all ≡ all_groups groups.now) }
-    ensures memory { IfErr result (λ e. e ≡ Refusal.NoMemory) }
-{
-    let mut all = GroupExtrema::new(alloc);
-    for group in groups {
-        all.join(group)?;
-    }
-    Ok(all)
 }

@@ -1,10 +1,10 @@
 // The least and the greatest value by key, in a tree map.
-ghost use Rattle.std.specs.Prelude.{◌≡◌, ◌≢◌, None, false, IsTrue, is_some, IfOk, IfErr, OnOk, OnErr, map, ℤ, Option};
+ghost use Rattle.std.specs.Prelude.{◌≡◌, ◌≢◌, None, false, IsTrue, is_some, IfOk, IfErr, OnOk, OnErr, map, ℤ, ◌≤ℤ◌, Option};
 ghost use Rattle.std.specs.BTreeMap.{IsOrdered};
 ghost use Rattle.std.specs.FinMap as fin;
 ghost use Rattle.far_types.specs.declared.key.Key.{Key};
 ghost use Rattle.far_types.specs.Keys.{line_cmp};
-ghost use Rattle.far_types.specs.Changes.{join_spans, joined_extrema};
+ghost use Rattle.far_types.specs.Changes.{join_spans};
 ghost use Rattle.far_extrema.specs.Spans.{extrema_of, with_span, put_span};
 
 use far_types::{Key, Refusal, clone_key};
@@ -18,10 +18,17 @@ pub type Span = (i64, i64);
 pub type Spans = BTreeMap<Option<Key>, Span>;
 
 /// The least and the greatest of two spans together.
-fn together(span: Span, more: Span) -> Span
+pub fn together(span: Span, more: Span) -> Span
     ensures { result ≡ join_spans span more }
 {
     (span.0.min(more.0), span.1.max(more.1))
+}
+
+/// Whether a value is within a span, so that it changes nothing there.
+pub fn is_within(value: i64, span: Span) -> bool
+    ensures { IsTrue result → (span.0 ≤ℤ value) × (value ≤ℤ span.1) }
+{
+    span.0 <= value && value <= span.1
 }
 
 /// A span more under a key that is there. Says whether it is. Takes no memory.
@@ -88,17 +95,6 @@ pub fn put(spans: &mut Spans, key: &Option<Key>, span: Option<Span>)
     }
 }
 
-/// Joins the spans of another map to these. A refusal may leave some of them joined.
-pub fn join(spans: &mut Spans, other: &Spans) -> Result<(), Refusal>
-    ensures ok { OnOk result (extrema_of spans.new.entries ≡ joined_extrema (extrema_of spans.old.entries) (extrema_of other.now.entries)) }
-    ensures memory { IfErr result (λ e. e ≡ Refusal.NoMemory) }
-{
-    for (key, span) in other {
-        see_under(spans, key, *span)?;
-    }
-    Ok(())
-}
-
 /// The lines of the spans, by their keys, of which clones are made.
 pub fn lines(alloc: Global, spans: &Spans) -> Result<Vec<(Option<Key>, i64, i64)>, Refusal>
     ensures ok { IfOk result (λ lines. lines.items ≡ map (λ (entry : Option Key × (ℤ × ℤ)). (entry.0, entry.1.0, entry.1.1)) spans.now.entries) }
@@ -108,19 +104,6 @@ pub fn lines(alloc: Global, spans: &Spans) -> Result<Vec<(Option<Key>, i64, i64)
     let mut lines = Vec::with_capacity(alloc, spans.len())?;
     for (key, span) in spans {
         lines.push((clone_key(key)?, span.0, span.1))?;
-    }
-    Ok(lines)
-}
-
-/// The lines of the spans, by their keys, which are moved.
-pub fn into_lines(alloc: Global, spans: Spans) -> Result<Vec<(Option<Key>, i64, i64)>, Refusal>
-    ensures ok { IfOk result (λ lines. lines.items ≡ map (λ (entry : Option Key × (ℤ × ℤ)). (entry.0, entry.1.0, entry.1.1)) spans.entries) }
-    ensures ordered { IsOrdered line_cmp spans }
-    ensures memory { IfErr result (λ e. e ≡ Refusal.NoMemory) }
-{
-    let mut lines = Vec::with_capacity(alloc, spans.len())?;
-    for (key, span) in spans {
-        lines.push((key, span.0, span.1))?;
     }
     Ok(lines)
 }

@@ -67,7 +67,7 @@ undone m p ps h = ap (λ t. without_pair (with_pair t p) p) h ∙ ap (λ t. with
 
 kept-undo : (g : ℕ) (k : Kept) (c : Coming) → KeptFits g k c → kept_back g (kept_more g k c.pair) c ≡ k
 kept-undo g (kept.Totals live) c h = ap (λ t. kept.Totals (record { left = live.left; totals = t })) (undone live.totals c.pair h.0 h.1)
-kept-undo g (kept.Extrema live) c h = ap (λ gs. kept.Extrema (record { left = live.left; groups = gs })) (seen-undone g live.groups c.pair c.stood h.0 h.1)
+kept-undo g (kept.Extrema live) c h = ap (λ gs. kept.Extrema (record live { groups = gs })) (seen-undone g live.groups c.pair c.stood h.0 h.1)
 
 pub fits-may_add : (g : ℕ) (s : Slot) (c : Option Coming) → Fits g s c → MayAdd g s c
 fits-may_add g None c h = tt

@@ -34,7 +34,7 @@ module _ (spec : Spec) (registration : ℕ) (unbuilt : List Bool) (g : ℕ) wher
   added-is live None = refl
   added-is live (Some pair) = refl
 
-  added-seen : (live : spans.Live) (o : Change) → added g (slot spec registration unbuilt (kept.Extrema live)) (option_map (coming_of g (kept.Extrema live)) o) ≡ slot spec registration unbuilt (kept.Extrema (record { left = live.left; groups = groups_seen g live.groups o }))
+  added-seen : (live : spans.Live) (o : Change) → added g (slot spec registration unbuilt (kept.Extrema live)) (option_map (coming_of g (kept.Extrema live)) o) ≡ slot spec registration unbuilt (kept.Extrema (record live { groups = groups_seen g live.groups o }))
   added-seen live None = refl
   added-seen live (Some pair) = refl
 
@@ -42,7 +42,7 @@ module _ (spec : Spec) (registration : ℕ) (unbuilt : List Bool) (g : ℕ) wher
   taken-is size qs live None = refl
   taken-is size qs live (Some pair) = refl
 
-  taken-left : (size : ℕ) (qs : List Place) (live : spans.Live) (o : Change) → taken size g qs (slot spec registration unbuilt (kept.Extrema live)) o ≡ slot spec registration unbuilt (kept.Extrema (record { left = live.left; groups = groups_left g live.groups o (extrema (group_pairs spec size g qs)) }))
+  taken-left : (size : ℕ) (qs : List Place) (live : spans.Live) (o : Change) → taken size g qs (slot spec registration unbuilt (kept.Extrema live)) o ≡ slot spec registration unbuilt (kept.Extrema (record live { groups = groups_left g live.groups o (extrema (group_pairs spec size g qs)) }))
   taken-left size qs live None = refl
   taken-left size qs live (Some pair) = refl
 
@@ -121,7 +121,7 @@ module _ (size : ℕ) (f : Place → Place) (ps : List Place) (i : ℕ) (x y : P
       let one = seen-is g live.groups come room in
       let two = left-is g mid went new (omega arith) in
       let left = gone-leaves went (cons_option come (beside spec)) _ new (one.0 ∙ both-in spec (group_at live.groups g) (here-kept spec size unbuilt g ps live.groups is h.1.0)) (is-apart spec) in
-      subst (KeepsSlot size (changed_at f i ps)) (sym (ap (λ s. taken size g (changed_at f i ps) s went) (added-seen spec registration unbuilt g live come) ∙ taken-left spec registration unbuilt g size (changed_at f i ps) (record { left = live.left; groups = mid }) went))
+      subst (KeepsSlot size (changed_at f i ps)) (sym (ap (λ s. taken size g (changed_at f i ps) s went) (added-seen spec registration unbuilt g live come) ∙ taken-left spec registration unbuilt g size (changed_at f i ps) (record live { groups = mid }) went))
       (h.0, (kept-built spec size unbuilt g ps (changed_at f i ps) (λ k n. in_group-changed size k f i ps positive n) live.groups (groups_left g mid went new) is h.1.0 (two.0 ∙ left, λ k n. two.1 k n ∙ one.1 k n), h.1.1))
 
   set-kept : (spec : Spec) (registration : ℕ) (unbuilt : List Bool) (k : Kept) → KeepsSlot size ps (slot spec registration unbuilt k) → HasRoom (i / size) (slot spec registration unbuilt k)
@@ -156,7 +156,7 @@ module _ (size : ℕ) (f : Place → Place) (ps : List Place) (i : ℕ) (x y : P
       let come = place_pair spec y in
       let one = seen-is g live.groups come room in
       subst (λ s. MayTake size g (changed_at f i ps) s (place_pair spec x)) (sym (added-seen spec registration unbuilt g live come))
-      (may_take-extrema spec registration unbuilt (record { left = live.left; groups = groups_seen g live.groups come }) (place_pair spec x) (cons_option come (beside spec))
+      (may_take-extrema spec registration unbuilt (record live { groups = groups_seen g live.groups come }) (place_pair spec x) (cons_option come (beside spec))
       (one.0 ∙ both-in spec (group_at live.groups g) (here-kept spec size unbuilt g ps live.groups is h.1.0)) (is-apart spec))
 
   module _ (fit : PlacesFit ps) (row : RowFits y.cells) where

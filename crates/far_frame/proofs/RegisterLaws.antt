@@ -1,5 +1,5 @@
 -- Aggregates under their numbers, as the table shows them.
-use Rattle.std.proofs.Common.{inl, inr, take, ◌≡◌, ℕ, zero, suc, ◌+◌, ◌-◌, ◌*◌, ◌/◌, ◌<◌, ◌≤◌, Bool, true, false, cond, List, [], ◌∷◌, ◌++◌, length, map, refl, sym, ap, ◌∙◌, subst, arith, Option, None, Some, slice_set, slice_index_or, replicate}
+use Rattle.std.proofs.Common.{inl, inr, take, ◌≡◌, ℕ, zero, suc, ◌+◌, ◌-◌, ◌*◌, ◌/◌, ◌<◌, ◌≤◌, Bool, true, false, cond, List, [], ◌∷◌, ◌++◌, length, map, refl, sym, ap, ◌∙◌, subst, arith, Option, None, Some, slice_get, slice_set, slice_index_or, replicate}
 use Rattle.std.specs.Prelude.{◌⊎◌}
 use Rattle.std.specs.List.{AllByRecursion, filter_map}
 use Rattle.std.specs.FinMap as fin
@@ -14,6 +14,7 @@ use Rattle.far_frame.specs.declared.aggregate.Kept.{Kept}
 use Rattle.far_frame.specs.declared.aggregate.Kept.TheVariants as kept
 use Rattle.far_frame.specs.Kept.{Slot, registered_in, registered_of, group_pairs, built_group, fold_of, KeepsNothing, KeepsSlot}
 use Rattle.far_frame.proofs.BuiltLaws.{built-none}
+use Rattle.far_frame.proofs.ListLaws.{map-set_like}
 
 set-before : {X : Type 0} (xs ys : List X) (a : ℕ) (y : X) → a < length xs → slice_set (xs ++ ys) a y ≡ slice_set xs a y ++ ys
 set-before [] ys a y h = absurd (omega arith)
@@ -36,6 +37,12 @@ registered-set slots a s h =
     ap (λ n. map registered_in (slice_set slots a s) ++ replicate (32 - n) None) (length-set slots a s)
     ∙ ap (λ l. l ++ r) (map-set_at slots a s)
     ∙ sym (set-before (map registered_in slots) r a (registered_in s) (let m = length-map slots registered_in in omega arith))
+
+-- or by one that the table shows alike
+pub registered-like : (slots : List Slot) (a : ℕ) (old new : Slot) → slice_get slots a ≡ Some old → registered_in new ≡ registered_in old → registered_of (slice_set slots a new) ≡ registered_of slots
+registered-like slots a old new here alike =
+    ap (λ n. map registered_in (slice_set slots a new) ++ replicate (32 - n) None) (length-set slots a new)
+    ∙ ap (λ l. l ++ replicate (32 - length slots) None) (map-set_like registered_in slots a old new here alike)
 
 map-last : (slots : List Slot) (s : Slot) → map registered_in (slots ++ s ∷ []) ≡ map registered_in slots ++ registered_in s ∷ []
 map-last [] s = refl

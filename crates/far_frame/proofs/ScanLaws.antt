@@ -21,7 +21,7 @@ use Rattle.far_frame.specs.declared.aggregate.Kept.{Kept}
 use Rattle.far_frame.specs.declared.aggregate.Kept.TheVariants as kept
 use Rattle.far_frame.specs.Kept.{Slot, Change, built_pairs, group_pairs, built_group, fold_of, IsKept, KeepsSlot}
 use Rattle.far_frame.proofs.RoomLaws.{same-kept}
-use Rattle.far_frame.specs.Scans.{has_unbuilt, kept_scanned, KeptMayScan}
+use Rattle.far_frame.specs.Scans.{has_unbuilt, IsScanned, IsSame, KeptMayScan}
 use Rattle.far_frame.specs.Aggregates.{joined}
 use Rattle.far_frame.specs.Changes.{with_change}
 use Rattle.far_frame.proofs.BuiltLaws.{length-built}
@@ -152,19 +152,35 @@ module _ (spec : Spec) (size : ℕ) (unbuilt : List Bool) (g : ℕ) (there : is_
   left-some h = let e = left-cleared unbuilt g there in absurd (omega arith)
 
 -- what is kept after a row group was built in
-pub kept-scanned : (size : ℕ) (ps : List Place) (a : Aggregate) (k : Kept) (g : ℕ) → is_unbuilt a.unbuilt g ≡ true → 0 < size → IsKept size ps a k → IsKept size ps (record a { unbuilt = slice_set a.unbuilt g false }) (kept_scanned a.spec size g ps k)
-kept-scanned size ps a (kept.Totals live) g there pos h = (
+pub kept-scanned : (size : ℕ) (ps : List Place) (a : Aggregate) (k k' : Kept) (g : ℕ) → is_unbuilt a.unbuilt g ≡ true → 0 < size → IsKept size ps a k → IsScanned a.spec size g ps k k' → IsKept size ps (record a { unbuilt = slice_set a.unbuilt g false }) k'
+kept-scanned size ps a (kept.Totals live) k' g there pos h s = subst (IsKept size ps (record a { unbuilt = slice_set a.unbuilt g false })) (sym s) (
   ap (λ m. joined_totals m (totals (group_pairs a.spec size g ps))) h.0 ∙ totals-scanned a.spec size a.unbuilt g there ps pos,
   ap (λ n. n - 1) h.1 ∙ left-scanned a.spec size a.unbuilt g there,
 )
-kept-scanned size ps a (kept.Extrema live) g there pos h = (
-  groups-scanned a.spec size a.unbuilt g there ps live.groups h.0,
-  ap (λ n. n - 1) h.1 ∙ left-scanned a.spec size a.unbuilt g there,
+kept-scanned size ps a (kept.Extrema live) (kept.Totals new) g there pos h s = absurd s
+kept-scanned size ps a (kept.Extrema live) (kept.Extrema new) g there pos h s = (
+  (λ i. ap (λ gs. slice_index_or gs i fin.empty) s.1 ∙ groups-scanned a.spec size a.unbuilt g there ps live.groups h.0 i),
+  s.0 ∙ ap (λ n. n - 1) h.1 ∙ left-scanned a.spec size a.unbuilt g there,
 )
 
-pub fold-scanned : (spec : Spec) (size g : ℕ) (ps : List Place) (k : Kept) → fold_of (kept_scanned spec size g ps k) ≡ fold_of k
-fold-scanned spec size g ps (kept.Totals live) = refl
-fold-scanned spec size g ps (kept.Extrema live) = refl
+pub fold-scanned : (spec : Spec) (size g : ℕ) (ps : List Place) (k k' : Kept) → IsScanned spec size g ps k k' → fold_of k' ≡ fold_of k
+fold-scanned spec size g ps (kept.Totals live) k' s = ap fold_of s
+fold-scanned spec size g ps (kept.Extrema live) (kept.Totals new) s = absurd s
+fold-scanned spec size g ps (kept.Extrema live) (kept.Extrema new) s = refl
+
+-- and where it was not
+same-in : (size : ℕ) (ps : List Place) (a : Aggregate) (k k' : Kept) → IsSame k k' → IsKept size ps a k → IsKept size ps a k'
+same-in size ps a (kept.Totals live) k' s h = subst (IsKept size ps a) (sym s) h
+same-in size ps a (kept.Extrema live) (kept.Totals new) s h = absurd s
+same-in size ps a (kept.Extrema live) (kept.Extrema new) s h = (λ i. ap (λ gs. slice_index_or gs i fin.empty) s.1 ∙ h.0 i, s.0 ∙ h.1)
+
+same-fold : (k k' : Kept) → IsSame k k' → fold_of k' ≡ fold_of k
+same-fold (kept.Totals live) k' s = ap fold_of s
+same-fold (kept.Extrema live) (kept.Totals new) s = absurd s
+same-fold (kept.Extrema live) (kept.Extrema new) s = refl
+
+pub slot-same : (size : ℕ) (ps : List Place) (a : Aggregate) (k : Kept) → IsSame a.kept k → KeepsSlot size ps (Some a) → KeepsSlot size ps (Some (record a { kept = k }))
+slot-same size ps a k s h = (same-fold a.kept k s ∙ h.0, same-kept size ps a (record a { kept = k }) k refl refl (same-in size ps a a.kept k s h.1))
 
 group-few : (spec : Spec) (size g : ℕ) (ps : List Place) → length (group_pairs spec size g ps) ≤ length ps
 group-few spec size g ps =
@@ -181,14 +197,16 @@ may_scan size ps a (kept.Totals live) g there few h = (
       let c = group-few a.spec size g ps in
       can_join (built_pairs a.spec size a.unbuilt 0 ps) (group_pairs a.spec size g ps) (omega arith)),
 )
-may_scan size ps a (kept.Extrema live) g there few h = λ e. left-some a.spec size a.unbuilt g there (sym h.1 ∙ e)
+may_scan size ps a (kept.Extrema live) g there few h = (
+  (λ e. left-some a.spec size a.unbuilt g there (sym h.1 ∙ e)),
+  h.0 g ∙ ap (λ b. cond b fin.empty (extrema (group_pairs a.spec size g ps))) there,
+)
 
-pub slot-scanned : (size : ℕ) (ps : List Place) (a : Aggregate) (g : ℕ) (flags : List Bool) (k : Kept) → is_unbuilt a.unbuilt g ≡ true → 0 < size → KeepsSlot size ps (Some a) → flags ≡ slice_set a.unbuilt g false → k ≡ kept_scanned a.spec size g ps a.kept
+pub slot-scanned : (size : ℕ) (ps : List Place) (a : Aggregate) (g : ℕ) (flags : List Bool) (k : Kept) → is_unbuilt a.unbuilt g ≡ true → 0 < size → KeepsSlot size ps (Some a) → flags ≡ slice_set a.unbuilt g false → IsScanned a.spec size g ps a.kept k
     → KeepsSlot size ps (Some (record a { unbuilt = flags; kept = k }))
-slot-scanned size ps a g flags k there pos h e f =
+slot-scanned size ps a g flags k there pos h e s =
     subst (λ u. KeepsSlot size ps (Some (record a { unbuilt = u; kept = k }))) (sym e)
-    (subst (λ x. KeepsSlot size ps (Some (record a { unbuilt = slice_set a.unbuilt g false; kept = x }))) (sym f)
-    (fold-scanned a.spec size g ps a.kept ∙ h.0, same-kept size ps (record a { unbuilt = slice_set a.unbuilt g false }) (record a { unbuilt = slice_set a.unbuilt g false; kept = kept_scanned a.spec size g ps a.kept }) (kept_scanned a.spec size g ps a.kept) refl refl (kept-scanned size ps a a.kept g there pos h.1)))
+    (fold-scanned a.spec size g ps a.kept k s ∙ h.0, same-kept size ps (record a { unbuilt = slice_set a.unbuilt g false }) (record a { unbuilt = slice_set a.unbuilt g false; kept = k }) k refl refl (kept-scanned size ps a a.kept k g there pos h.1 s))
 
 pub has-below : (slots : List Slot) (g a : ℕ) → has_unbuilt g (joined (slice_get slots a)) ≡ true → a < length slots
 has-below [] g a h = cc

@@ -1,10 +1,11 @@
 -- A row group that is built in.
 use Rattle.std.specs.Prelude.{◌≡◌, ℕ, ◌-◌, Bool, false, List, slice_set, Option, None, Some}
+use Rattle.std.specs.FinMap as fin
 use Rattle.far_types.specs.declared.spec.Spec.{Spec}
 use Rattle.far_types.specs.Answers.{totals, extrema}
 use Rattle.far_types.specs.Changes.{joined_totals}
 use Rattle.far_types.specs.Table.{Place, Registered, is_unbuilt}
-use Rattle.far_extrema.specs.Live.{with_room}
+use Rattle.far_extrema.specs.Live.{with_room, group_at}
 use Rattle.far_groups.specs.Live.{CanJoin}
 use Rattle.far_frame.specs.declared.aggregate.Kept.{Kept}
 use Rattle.far_frame.specs.declared.aggregate.Kept.TheVariants as kept
@@ -20,12 +21,19 @@ abbrev pub built_slot : ℕ → Option Registered → Option Registered
 built_slot g None = None
 built_slot g (Some aggregate) = Some (built_in g aggregate)
 
--- what is kept with the rows of one row group more
-abbrev pub kept_scanned : Spec → ℕ → ℕ → List Place → Kept → Kept
-kept_scanned spec size g places (kept.Totals live) = kept.Totals (record { left = live.left - 1; totals = joined_totals live.totals (totals (group_pairs spec size g places)) })
-kept_scanned spec size g places (kept.Extrema live) = kept.Extrema (record { left = live.left - 1; groups = slice_set (with_room g live.groups) g (extrema (group_pairs spec size g places)) })
+-- the rows of one row group more are in what is kept. Which keys have room is left open
+abbrev pub IsScanned : Spec → ℕ → ℕ → List Place → Kept → Kept → Type 0
+IsScanned spec size g places (kept.Totals live) new = new ≡ kept.Totals (record { left = live.left - 1; totals = joined_totals live.totals (totals (group_pairs spec size g places)) })
+IsScanned spec size g places (kept.Extrema live) (kept.Totals new) = ⊥
+IsScanned spec size g places (kept.Extrema live) (kept.Extrema new) = (new.left ≡ live.left - 1) × (new.groups ≡ slice_set (with_room g live.groups) g (extrema (group_pairs spec size g places)))
 
--- a row group is left, and the counts stay small
+-- the same rows are in. Which keys have room is left open
+abbrev pub IsSame : Kept → Kept → Type 0
+IsSame (kept.Totals live) new = new ≡ kept.Totals live
+IsSame (kept.Extrema live) (kept.Totals new) = ⊥
+IsSame (kept.Extrema live) (kept.Extrema new) = (new.left ≡ live.left) × (new.groups ≡ live.groups)
+
+-- a row group is left; the counts stay small, and no row of the row group is in the extrema
 abbrev pub KeptMayScan : Spec → ℕ → ℕ → List Place → Kept → Type 0
 KeptMayScan spec size g places (kept.Totals live) = (live.left ≡ 0 → ⊥) × CanJoin live.totals (totals (group_pairs spec size g places))
-KeptMayScan spec size g places (kept.Extrema live) = live.left ≡ 0 → ⊥
+KeptMayScan spec size g places (kept.Extrema live) = (live.left ≡ 0 → ⊥) × (group_at live.groups g ≡ fin.empty)

@@ -38,7 +38,7 @@ pub fn insert_row(
 {
     let place = rows.len();
     let group = (place / size as usize) as u32;
-    make_rooms(slots, group)?;
+    make_rooms(slots, group);
     let comes = come_in(alloc, slots, &PlaceRef::inserted(&row), size, place)?;
     match rows.push(row) {
         Ok(()) => Ok(()),
@@ -76,7 +76,7 @@ pub fn set_cell(
 {
     let _fit = rows.len();
     let group = place / size as usize;
-    make_rooms(slots, group as u32)?;
+    make_rooms(slots, group as u32);
     let gone = changes(alloc, slots, &rows.lend(place), size, place)?;
     let set = rows.lend_with(place, column, &cell);
     come_in(alloc, slots, &set, size, place)?;
@@ -109,7 +109,7 @@ pub fn remove_row(
 {
     let _fit = rows.len();
     let group = place / size as usize;
-    make_rooms(slots, group as u32)?;
+    make_rooms(slots, group as u32);
     let gone = changes(alloc, slots, &rows.lend(place), size, place)?;
     // nothing from here on can fail
     rows.clear(place);

@@ -6,30 +6,27 @@ use Rattle.far_frame.specs.Until.{zip_all}
 use Rattle.far_frame.proofs.EditLaws.{rows-fit, each-folds, after_insert, all-added_registered}
 use Rattle.far_frame.proofs.edits.insert_row.Goals as goal
 
-pub returns-in_err-make_rooms-clause-kept : goal.returns-in_err-make_rooms-clause-kept
-returns-in_err-make_rooms-clause-kept c = c.in_err-make_rooms.ensures.kept c.args.size c.args.rows.now.places c.requires.kept
-
 pub come_in-requires-clause-folds : goal.come_in-requires-clause-folds
 come_in-requires-clause-folds c =
     let ps = c.args.rows.now.places in
-    each-folds c.args.size ps c.make_rooms.new.slots (rows-fit c.args.rows.now.kinds ps c.len-place.ensures.rows) (omega (arith, c.requires.few)) (c.in_ok-make_rooms.ensures.kept c.args.size ps c.requires.kept)
+    each-folds c.args.size ps c.make_rooms.new.slots (rows-fit c.args.rows.now.kinds ps c.len-place.ensures.rows) (omega (arith, c.requires.few)) (c.make_rooms.ensures.kept c.args.size ps c.requires.kept)
 
 pub returns-in_err-comes-clause-kept : goal.returns-in_err-comes-clause-kept
 returns-in_err-comes-clause-kept c =
     let ps = c.args.rows.now.places in
-    subst (Keeps c.args.size ps) (sym c.in_err-comes.ensures.err) (c.in_ok-make_rooms.ensures.kept c.args.size ps c.requires.kept)
+    subst (Keeps c.args.size ps) (sym c.in_err-comes.ensures.err) (c.make_rooms.ensures.kept c.args.size ps c.requires.kept)
 
 pub returns-in-Ok-clause-kept : goal.returns-in-Ok-clause-kept
 returns-in-Ok-clause-kept c =
     let ps = c.args.rows.now.places in
     let p : Place = record { cells = c.args.row; alive = true } in
     after_insert c.args.size c.len-place.result ps c.push.new.self.places p c.make_rooms.new.slots c.come_in.new.slots c.len-place.ensures.len c.in-Ok.ensures.places c.requires.size
-    (c.in_ok-make_rooms.ensures.kept c.args.size ps c.requires.kept) c.in_ok-make_rooms.ensures.room
+    (c.make_rooms.ensures.kept c.args.size ps c.requires.kept) c.make_rooms.ensures.room
     (c.in_ok-comes.ensures.ok ∙ ap (λ q. zip_all (added (c.len-place.result / c.args.size)) c.make_rooms.new.slots (map (come_of c.args.size c.len-place.result (Some q)) c.make_rooms.new.slots)) c.inserted.ensures)
 
 pub returns-in-Ok-clause-registered : goal.returns-in-Ok-clause-registered
 returns-in-Ok-clause-registered c =
-    ap (map registered_in) c.in_ok-comes.ensures.ok ∙ all-added_registered _ _ _ ∙ c.in_ok-make_rooms.ensures.registered
+    ap (map registered_in) c.in_ok-comes.ensures.ok ∙ all-added_registered _ _ _ ∙ c.make_rooms.ensures.registered
 
 pub returns-clause-kept : goal.returns-clause-kept
 returns-clause-kept c =
@@ -37,4 +34,4 @@ returns-clause-kept c =
     let g = c.len-place.result / c.args.size in
     let same = c.back_all.ensures ∙ ap (zip_all (back g) c.come_in.new.slots) c.as_slice.ensures.value ∙ c.in_ok-comes.ensures.back in
     subst (λ rows. Keeps c.args.size rows.places c.back_all.new.slots) (sym c.in-Err.ensures.unchanged)
-    (subst (Keeps c.args.size ps) (sym same) (c.in_ok-make_rooms.ensures.kept c.args.size ps c.requires.kept))
+    (subst (Keeps c.args.size ps) (sym same) (c.make_rooms.ensures.kept c.args.size ps c.requires.kept))

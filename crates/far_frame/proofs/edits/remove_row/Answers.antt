@@ -5,11 +5,8 @@ use Rattle.far_frame.proofs.GroupLaws.{length-changed}
 use Rattle.far_frame.proofs.EditLaws.{rows-fit, set_may_take, after_set, removed-adds_all, all-taken_registered}
 use Rattle.far_frame.proofs.edits.remove_row.Goals as goal
 
-pub returns-in_err-make_rooms-clause-kept : goal.returns-in_err-make_rooms-clause-kept
-returns-in_err-make_rooms-clause-kept c = c.in_err-make_rooms.ensures.kept c.args.size c.args.rows.now.places c.requires.kept
-
 pub returns-in_err-gone-clause-kept : goal.returns-in_err-gone-clause-kept
-returns-in_err-gone-clause-kept c = c.in_ok-make_rooms.ensures.kept c.args.size c.args.rows.now.places c.requires.kept
+returns-in_err-gone-clause-kept c = c.make_rooms.ensures.kept c.args.size c.args.rows.now.places c.requires.kept
 
 pub returns-clause-count : goal.returns-clause-count
 returns-clause-count c = ap length c.clear.ensures.places ∙ length-changed removed c.args.place c.args.rows.now.places
@@ -20,7 +17,7 @@ take_all-requires-clause-may c =
     let slots = c.make_rooms.new.slots in
     set_may_take c.args.size removed ps c.clear.new.self.places c.args.place c.lend.result (removed c.lend.result) slots slots c.as_slice.result.now c.requires.size c.clear.ensures.places
     c.lend.ensures (ap (option_map removed) c.lend.ensures) (c.as_slice.ensures.value ∙ c.in_ok-gone.ensures.ok) (sym (removed-adds_all c.args.size c.args.place c.lend.result slots))
-    (c.in_ok-make_rooms.ensures.kept c.args.size ps c.requires.kept) c.in_ok-make_rooms.ensures.room
+    (c.make_rooms.ensures.kept c.args.size ps c.requires.kept) c.make_rooms.ensures.room
     (rows-fit c.args.rows.now.kinds ps c.len-fit.ensures.rows) (rows-fit c.clear.new.self.kinds c.clear.new.self.places c.len-still_fit.ensures.rows)
 
 pub returns-clause-kept : goal.returns-clause-kept
@@ -29,9 +26,9 @@ returns-clause-kept c =
     let slots = c.make_rooms.new.slots in
     after_set c.args.size removed ps c.clear.new.self.places c.args.place c.lend.result (removed c.lend.result) slots slots c.as_slice.result.now c.requires.size c.clear.ensures.places
     c.lend.ensures (ap (option_map removed) c.lend.ensures) (c.as_slice.ensures.value ∙ c.in_ok-gone.ensures.ok) (sym (removed-adds_all c.args.size c.args.place c.lend.result slots))
-    (c.in_ok-make_rooms.ensures.kept c.args.size ps c.requires.kept) c.in_ok-make_rooms.ensures.room
+    (c.make_rooms.ensures.kept c.args.size ps c.requires.kept) c.make_rooms.ensures.room
     c.take_all.new.slots c.take_all.ensures
 
 pub returns-clause-registered : goal.returns-clause-registered
 returns-clause-registered c =
-    ap (map registered_in) c.take_all.ensures ∙ all-taken_registered _ _ _ _ _ ∙ c.in_ok-make_rooms.ensures.registered
+    ap (map registered_in) c.take_all.ensures ∙ all-taken_registered _ _ _ _ _ ∙ c.make_rooms.ensures.registered

@@ -4,28 +4,25 @@ use Rattle.far_frame.specs.Kept.{Keeps, registered_in}
 use Rattle.far_frame.proofs.EditLaws.{rows-fit, each-folds, set_may_take, after_set, all-added_registered, all-taken_registered}
 use Rattle.far_frame.proofs.edits.set_cell.Goals as goal
 
-pub returns-in_err-make_rooms-clause-kept : goal.returns-in_err-make_rooms-clause-kept
-returns-in_err-make_rooms-clause-kept c = c.in_err-make_rooms.ensures.kept c.args.size c.args.rows.now.places c.requires.kept
-
 pub returns-in_err-gone-clause-kept : goal.returns-in_err-gone-clause-kept
-returns-in_err-gone-clause-kept c = c.in_ok-make_rooms.ensures.kept c.args.size c.args.rows.now.places c.requires.kept
+returns-in_err-gone-clause-kept c = c.make_rooms.ensures.kept c.args.size c.args.rows.now.places c.requires.kept
 
 pub come_in-requires-clause-folds : goal.come_in-requires-clause-folds
 come_in-requires-clause-folds c =
     let ps = c.args.rows.now.places in
-    each-folds c.args.size ps c.make_rooms.new.slots (rows-fit c.args.rows.now.kinds ps c.len-fit.ensures.rows) c.requires.few (c.in_ok-make_rooms.ensures.kept c.args.size ps c.requires.kept)
+    each-folds c.args.size ps c.make_rooms.new.slots (rows-fit c.args.rows.now.kinds ps c.len-fit.ensures.rows) c.requires.few (c.make_rooms.ensures.kept c.args.size ps c.requires.kept)
 
 pub returns-in_err-come_in-clause-kept : goal.returns-in_err-come_in-clause-kept
 returns-in_err-come_in-clause-kept c =
     let ps = c.args.rows.now.places in
-    subst (Keeps c.args.size ps) (sym c.in_err-come_in.ensures.err) (c.in_ok-make_rooms.ensures.kept c.args.size ps c.requires.kept)
+    subst (Keeps c.args.size ps) (sym c.in_err-come_in.ensures.err) (c.make_rooms.ensures.kept c.args.size ps c.requires.kept)
 
 pub take_all-requires-clause-may : goal.take_all-requires-clause-may
 take_all-requires-clause-may c =
     let ps = c.args.rows.now.places in
     set_may_take c.args.size (with_cell c.args.column c.args.cell) ps c.set.new.self.places c.args.place c.lend.result c.lend_with-set.result c.make_rooms.new.slots c.come_in.new.slots c.as_slice.result.now c.requires.size c.set.ensures.places
     c.lend.ensures c.lend_with-set.ensures (c.as_slice.ensures.value ∙ c.in_ok-gone.ensures.ok) c.in_ok-come_in.ensures.ok
-    (c.in_ok-make_rooms.ensures.kept c.args.size ps c.requires.kept) c.in_ok-make_rooms.ensures.room
+    (c.make_rooms.ensures.kept c.args.size ps c.requires.kept) c.make_rooms.ensures.room
     (rows-fit c.args.rows.now.kinds ps c.len-fit.ensures.rows) (rows-fit c.set.new.self.kinds c.set.new.self.places c.len-still_fit.ensures.rows)
 
 pub returns-clause-kept : goal.returns-clause-kept
@@ -33,9 +30,9 @@ returns-clause-kept c =
     let ps = c.args.rows.now.places in
     after_set c.args.size (with_cell c.args.column c.args.cell) ps c.set.new.self.places c.args.place c.lend.result c.lend_with-set.result c.make_rooms.new.slots c.come_in.new.slots c.as_slice.result.now c.requires.size c.set.ensures.places
     c.lend.ensures c.lend_with-set.ensures (c.as_slice.ensures.value ∙ c.in_ok-gone.ensures.ok) c.in_ok-come_in.ensures.ok
-    (c.in_ok-make_rooms.ensures.kept c.args.size ps c.requires.kept) c.in_ok-make_rooms.ensures.room
+    (c.make_rooms.ensures.kept c.args.size ps c.requires.kept) c.make_rooms.ensures.room
     c.take_all.new.slots c.take_all.ensures
 
 pub returns-clause-registered : goal.returns-clause-registered
 returns-clause-registered c =
-    ap (map registered_in) c.take_all.ensures ∙ all-taken_registered _ _ _ _ _ ∙ ap (map registered_in) c.in_ok-come_in.ensures.ok ∙ all-added_registered _ _ _ ∙ c.in_ok-make_rooms.ensures.registered
+    ap (map registered_in) c.take_all.ensures ∙ all-taken_registered _ _ _ _ _ ∙ ap (map registered_in) c.in_ok-come_in.ensures.ok ∙ all-added_registered _ _ _ ∙ c.make_rooms.ensures.registered

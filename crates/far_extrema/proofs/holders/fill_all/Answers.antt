@@ -1,0 +1,44 @@
+use Rattle.std.proofs.Common.{sym, subst}
+use Rattle.far_types.proofs.ByKeyMaps.{sorted_apart}
+use Rattle.far_extrema.specs.Holders.{holders_of}
+use Rattle.far_extrema.proofs.RoomLaws.{IsFilling, next-room, next-new, filled-next, filled-none, filled-all}
+use Rattle.far_extrema.proofs.holders.fill_all.Goals as goal
+
+pub fill_in-requires-clause-room : goal.fill_in-requires-clause-room
+fill_in-requires-clause-room c =
+    let old = holders_of c.args.holders.now.entries in
+    let now = holders_of c.loop-key.holders.entries in
+    next-room old now c.args.group c.args.spans.now.entries (c.in-Some.key.now, c.in-Some.span.now) c.next.new.self
+    (subst (IsFilling old now c.args.group c.args.spans.now.entries) c.in-Some.ensures.steps c.loop-key.invariant.filling)
+
+pub fill_in-requires-clause-new : goal.fill_in-requires-clause-new
+fill_in-requires-clause-new c =
+    let old = holders_of c.args.holders.now.entries in
+    let now = holders_of c.loop-key.holders.entries in
+    next-new old now c.args.group c.args.spans.now.entries (c.in-Some.key.now, c.in-Some.span.now) c.next.new.self
+    (subst (IsFilling old now c.args.group c.args.spans.now.entries) c.in-Some.ensures.steps c.loop-key.invariant.filling)
+
+pub loop-key-preserved : goal.loop-key-preserved
+loop-key-preserved c =
+    let old = holders_of c.args.holders.now.entries in
+    let now = holders_of c.loop-key.holders.entries in
+    record {
+      filling = filled-next old now (holders_of c.fill_in.new.holders.entries) c.args.group c.args.spans.now.entries (c.in-Some.key.now, c.in-Some.span.now) c.next.new.self
+          (subst (IsFilling old now c.args.group c.args.spans.now.entries) c.in-Some.ensures.steps c.loop-key.invariant.filling)
+          c.fill_in.ensures.spans c.fill_in.ensures.room;
+    }
+
+pub loop-key-init : goal.loop-key-init
+loop-key-init c =
+    let m = holders_of c.args.holders.now.entries in
+    record {
+      filling = subst (IsFilling m m c.args.group c.args.spans.now.entries) (sym c.into_iter-key-iterator.ensures.into_iter_gives.0)
+          (filled-none m c.args.group c.args.spans.now.entries (sorted_apart c.args.spans.now.entries c.into_iter-key-iterator.ensures.into_iter_gives.5) c.requires.room c.requires.new);
+    }
+
+pub returns : goal.returns
+returns c =
+    let old = holders_of c.args.holders.now.entries in
+    let now = holders_of c.loop-key.holders.entries in
+    filled-all old now c.args.group c.args.spans.now.entries
+    (subst (IsFilling old now c.args.group c.args.spans.now.entries) c.in-None.ensures.steps.0 c.loop-key.invariant.filling)

@@ -1,0 +1,15 @@
+use Rattle.std.proofs.Common.{sym, ap, subst, ◌∙◌}
+use Rattle.std.specs.List.{AllByRecursion, filter_map}
+use Rattle.far_extrema.specs.Spreads.{IsTopOf}
+use Rattle.far_extrema.specs.Holders.{IsTopped, line_of}
+use Rattle.far_extrema.proofs.HolderLaws.{line-skipped, none_of}
+use Rattle.far_extrema.proofs.holders.lines.Goals as goal
+
+pub loop-key-preserved : goal.loop-key-preserved
+loop-key-preserved c =
+    let own = subst (IsTopOf c.in-Some.holder.now.spans) c.top.ensures.is c.top.ensures.top in
+    record {
+      made = line-skipped c.loop-key.lines.items (filter_map line_of c.args.holders.now.entries) (c.in-Some.key.now, c.in-Some.holder.now) c.next.new.self c.loop-key.key-iterator
+          (sym c.top.ensures.is ∙ none_of c.top.result c.in_default.not-Some) c.in-Some.ensures.steps c.loop-key.invariant.made;
+      topped = λ rest. c.loop-key.invariant.topped (subst (AllByRecursion IsTopped) (sym c.in-Some.ensures.steps) (own, rest));
+    }

@@ -1,0 +1,27 @@
+use Rattle.std.proofs.Common.{◌≡◌, ◌∙◌, refl, IsSome, sym, ap, subst, Some, None, cond, true}
+use Rattle.std.specs.FinMap as fin
+use Rattle.far_types.proofs.ByKeyMaps.{get_at, set_inserts}
+use Rattle.far_extrema.specs.Holders.{holders_of, span_in, room_in, IsPut, HaveSameRoom}
+use Rattle.far_extrema.proofs.HolderLaws.{put-set}
+use Rattle.far_extrema.proofs.RoomLaws.{room-insert}
+use Rattle.far_extrema.proofs.holders.set_in.Goals as goal
+
+pub put-requires : goal.put-requires
+put-requires c = λ e. c.requires (ap (λ o. span_in o c.args.group) (get_at c.args.holders.now.entries c.args.key.now ∙ sym c.in-Some.ensures.value) ∙ e)
+
+pub unreachable-requires : goal.unreachable-requires
+unreachable-requires c = c.requires (ap (λ o. span_in o c.args.group) (get_at c.args.holders.now.entries c.args.key.now ∙ sym c.in-None.ensures.value))
+
+pub returns : goal.returns
+returns c =
+    let there = subst IsSome c.in-Some.ensures.value refl in
+    let old = c.args.holders.now.entries in
+    let stood = get_at old c.args.key.now ∙ sym c.in-Some.ensures.value in
+    let new = (c.get_mut.follows.lender c.put.new.self).entries in
+    let written = set_inserts old new c.args.key.now c.put.new.self ((c.get_mut.follows.holds c.put.new.self).3 there).0 in
+    record {
+      spans = subst (λ m. IsPut (holders_of old) c.args.group c.args.key.now (Some c.args.span) m) (sym written)
+          (put-set (holders_of old) c.args.key.now c.in-Some.holder.now c.put.new.self c.args.group (Some c.args.span) stood c.put.ensures.spans);
+      room = subst (HaveSameRoom (holders_of old)) (sym written)
+          (room-insert (holders_of old) c.args.key.now c.put.new.self (ap (λ b. cond b (Some true) None) c.put.ensures.room ∙ sym (ap room_in stood)));
+    }

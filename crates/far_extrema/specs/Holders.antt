@@ -1,0 +1,98 @@
+-- By key, the spans of the row groups in which it occurs, and the extrema of row groups that they make.
+use Rattle.std.specs.Prelude.{◌≡◌, ◌≢◌, ◌==◌, ◌≤◌, ◌&&◌, ℕ, zero, suc, ℤ, Bool, true, false, cond, List, [], ◌∷◌, ◌++◌, Option, None, Some, option_map}
+use Rattle.std.specs.List.{filter_map}
+use Rattle.std.specs.Ordering.{eq_by_cmp}
+use Rattle.std.specs.FinMap as fin
+use Rattle.far_types.specs.declared.key.Key.{Key}
+use Rattle.far_types.specs.Keys.{line_cmp}
+use Rattle.far_types.specs.Answers.{ByKey, Extrema}
+use Rattle.far_extrema.specs.Spreads.{Spans, Spread, at, IsTopOf, IsSet}
+
+-- the spans of the row groups in which a key occurs, their span together, and whether it has room for one more
+pub record Holding : Type 0 where
+  pub spans : Spans
+  pub top : Option (ℤ × ℤ)
+  pub room : Bool
+
+abbrev pub held : Option Spread → Bool → Holding
+held None room = record { spans = []; top = None; room = room }
+held (Some spread) room = record { spans = spread.spans; top = Some spread.top; room = room }
+
+-- by key, the row groups in which it occurs
+abbrev pub Holders : Type 0
+Holders = ByKey Holding
+
+-- what entries have by key
+abbrev pub holders_of : List (Option Key × Holding) → Holders
+holders_of entries = fin.from_entries entries
+
+abbrev pub span_in : Option Holding → ℕ → Option (ℤ × ℤ)
+span_in None group = None
+span_in (Some holding) group = at holding.spans group
+
+-- the span of a key in a row group
+abbrev pub span_at : Holders → ℕ → Option Key → Option (ℤ × ℤ)
+span_at holders group key = span_in (fin.get holders key) group
+
+abbrev pub room_in : Option Holding → Option (Bool)
+room_in None = None
+room_in (Some holding) = cond holding.room (Some true) None
+
+-- the room of a key for a row group more
+abbrev pub room_at : Holders → Option Key → Option (Bool)
+room_at holders key = room_in (fin.get holders key)
+
+-- what these keys have, where they have something
+abbrev pub picked : {V : Type 0} → (Option Key → Option V) → List (Option Key) → ByKey V
+picked f keys = fin.from_entries (filter_map (λ key. option_map (λ value. (key, value)) (f key)) keys)
+
+-- the extrema of a row group
+abbrev pub group_in : Holders → ℕ → Extrema
+group_in holders group = picked (span_at holders group) (fin.keys holders)
+
+-- the extrema of the row groups below this number
+abbrev pub groups_in : Holders → ℕ → List Extrema
+groups_in holders zero = []
+groups_in holders (suc n) = groups_in holders n ++ group_in holders n ∷ []
+
+-- the keys that have room
+abbrev pub roomy_in : Holders → ByKey (Bool)
+roomy_in holders = picked (room_at holders) (fin.keys holders)
+
+-- no key occurs in a row group from this number on
+abbrev pub HaveRoom : ℕ → Holders → Type 0
+HaveRoom room holders = (g : ℕ) → (key : Option Key) → room ≤ g → span_at holders g key ≡ None
+
+-- the span that is kept is that of all row groups together
+abbrev pub IsTopped : Option Key × Holding → Type 0
+IsTopped entry = IsTopOf entry.1.spans entry.1.top
+
+-- the line of a key that occurs in a row group
+abbrev pub line_of : Option Key × Holding → Option (Option Key × ℤ × ℤ)
+line_of entry = option_map (λ (top : ℤ × ℤ). (entry.0, top.0, top.1)) entry.1.top
+
+-- a key has this span in a row group, or none, and all else is as it was
+abbrev pub IsPut : Holders → ℕ → Option Key → Option (ℤ × ℤ) → Holders → Type 0
+IsPut old group key span new = (g : ℕ) → (q : Option Key) → span_at new g q ≡ cond (g == group && eq_by_cmp line_cmp q key) span (span_at old g q)
+
+-- these are the spans of a row group, and those of the others are as they were
+abbrev pub IsGroup : Holders → ℕ → Extrema → Holders → Type 0
+IsGroup old group extrema new = (g : ℕ) → (q : Option Key) → span_at new g q ≡ cond (g == group) (fin.get extrema q) (span_at old g q)
+
+abbrev pub HaveSameSpans : Holders → Holders → Type 0
+HaveSameSpans old new = (g : ℕ) → (q : Option Key) → span_at new g q ≡ span_at old g q
+
+abbrev pub HaveSameRoom : Holders → Holders → Type 0
+HaveSameRoom old new = (q : Option Key) → room_at new q ≡ room_at old q
+
+-- a key that has room keeps it
+abbrev pub KeepsRoom : Holders → Holders → Type 0
+KeepsRoom old new = (q : Option Key) → room_at old q ≢ None → room_at new q ≢ None
+
+-- each key of these extrema has room
+abbrev pub HasRoomFor : Extrema → Holders → Type 0
+HasRoomFor extrema holders = (q : Option Key) → fin.get extrema q ≢ None → room_at holders q ≢ None
+
+-- a row group is cleared of an entry, which is kept while a row group or room is left to it
+abbrev pub IsCleared : ℕ → Holding → Bool → Holding → Type 0
+IsCleared group old kept new = IsSet old.spans group None new.spans × (new.room ≡ old.room) × (kept ≡ false → (new.spans ≡ []) × (new.room ≡ false))

@@ -1,0 +1,159 @@
+// What stands under one key.
+ghost use Rattle.std.specs.Prelude.{◌≡◌, ◌≢◌, ◌∷◌, [], None, Some, true, false, IsTrue, OnOk, OnErr, IfErr};
+ghost use Rattle.far_extrema.specs.Spreads.{at, IsSet, IsTopOf};
+
+use super::spans::Span;
+use super::tournament::{Spare, Tournament};
+use far_types::Refusal;
+use std::alloc::Global;
+use std::marker::Model;
+
+/// The row groups in which a key occurs, and whether there is memory for one more of them. A key that only has room
+/// occurs in none.
+#[derive(Drop)]
+pub struct Holder {
+    groups: Option<Tournament>,
+    spare: Option<Spare>,
+}
+
+impl Model for Holder {
+    ghost use Rattle.std.specs.Prelude.{is_some};
+    ghost use Rattle.far_extrema.specs.Holders.{Holding, held};
+
+    ghost Value = { Holding };
+
+    ghost view = { λ holder. held holder.groups (is_some holder.spare) };
+}
+
+impl Holder {
+    /// One row group, and no room for another. Takes no memory.
+    pub fn new(group: u32, span: Span) -> Holder
+        ensures spans { result.spans ≡ (group, span) ∷ [] }
+        ensures room { result.room ≡ false }
+    {
+        Holder {
+            groups: Some(Tournament::new(group, span)),
+            spare: None,
+        }
+    }
+
+    /// No row group, and room for one. Takes no memory.
+    pub fn with_room(spare: Spare) -> Holder
+        ensures spans { result.spans ≡ [] }
+        ensures room { result.room ≡ true }
+    {
+        Holder {
+            groups: None,
+            spare: Some(spare),
+        }
+    }
+
+    /// The span of a row group, or `None` where the key does not occur in it.
+    pub fn span(&self, group: u32) -> Option<Span>
+        ensures { result ≡ at self.now.spans group }
+    {
+        match &self.groups {
+            Some(groups) => groups.span(group),
+            None => None,
+        }
+    }
+
+    /// The span of all row groups together, or `None` where there is none.
+    pub fn top(&self) -> Option<Span>
+        ensures is { result ≡ self.now.top }
+        ensures top { IsTopOf self.now.spans result }
+    {
+        match &self.groups {
+            Some(groups) => Some(groups.top()),
+            None => None,
+        }
+    }
+
+    /// Whether neither a row group nor room is left.
+    pub fn is_vacant(&self) -> bool
+        ensures spans { IsTrue result → self.now.spans ≡ [] }
+        ensures room { IsTrue result → self.now.room ≡ false }
+    {
+        self.groups.is_none() && self.spare.is_none()
+    }
+
+    /// Room for a row group more. Refused with `NoMemory` (1) alone, and then nothing is changed.
+    pub fn make_room(&mut self, alloc: Global) -> Result<(), Refusal>
+        ensures spans { self.new.spans ≡ self.old.spans }
+        ensures room { OnOk result (self.new.room ≡ true) }
+        ensures err { OnErr result (self.new ≡ self.old) }
+        ensures memory { IfErr result (λ e. e ≡ Refusal.NoMemory) }
+    {
+        if self.spare.is_none() {
+            self.spare = Some(Spare::new(alloc)?);
+        }
+        Ok(())
+    }
+
+    /// A row group more, which leaves the room as it is. Refused with `NoMemory` (1) alone, and then nothing is changed.
+    pub fn add(&mut self, alloc: Global, group: u32, span: Span) -> Result<(), Refusal>
+        requires { at self.old.spans group ≡ None }
+        ensures ok { OnOk result (IsSet self.old.spans group (Some span) self.new.spans) }
+        ensures room { self.new.room ≡ self.old.room }
+        ensures err { OnErr result (self.new ≡ self.old) }
+        ensures memory { IfErr result (λ e. e ≡ Refusal.NoMemory) }
+    {
+        match &mut self.groups {
+            Some(groups) => groups.add(Spare::new(alloc)?, group, span),
+            None => self.groups = Some(Tournament::new(group, span)),
+        }
+        Ok(())
+    }
+
+    /// A row group more, which takes the room. Takes no memory.
+    pub fn fill(&mut self, group: u32, span: Span)
+        requires room { self.old.room ≡ true }
+        requires new { at self.old.spans group ≡ None }
+        ensures { IsSet self.old.spans group (Some span) self.new.spans }
+    {
+        match self.spare.take() {
+            Some(spare) => match &mut self.groups {
+                Some(groups) => groups.add(spare, group, span),
+                None => self.groups = Some(Tournament::new(group, span)),
+            },
+            None => unreachable!(),
+        }
+    }
+
+    /// A span in place of that of a row group in which the key occurs. Takes no memory.
+    pub fn put(&mut self, group: u32, span: Span)
+        requires { at self.old.spans group ≢ None }
+        ensures spans { IsSet self.old.spans group (Some span) self.new.spans }
+        ensures room { self.new.room ≡ self.old.room }
+    {
+        match &mut self.groups {
+            Some(groups) => groups.put(group, span),
+            None => unreachable!(),
+        }
+    }
+
+    /// A row group in which the key occurs no more. Takes no memory.
+    pub fn leave(&mut self, group: u32)
+        requires { at self.old.spans group ≢ None }
+        ensures spans { IsSet self.old.spans group None self.new.spans }
+        ensures room { self.new.room ≡ self.old.room }
+    {
+        if let Some(groups) = &mut self.groups {
+            if !groups.is_one() {
+                groups.leave(group);
+                return;
+            }
+        }
+        self.groups = None;
+    }
+
+    /// A row group in which the key occurs no more, if it did. Takes no memory.
+    pub fn clear(&mut self, group: u32)
+        ensures spans { IsSet self.old.spans group None self.new.spans }
+        ensures room { self.new.room ≡ self.old.room }
+    {
+        if self.span(group).is_some() {
+            self.leave(group);
+        }
+    }
+}

@@ -1,0 +1,175 @@
+// The row groups in which each key occurs, in a tree map.
+ghost use Rattle.std.specs.Prelude.{◌≡◌, ◌≢◌, None, Some, false, true, ℕ, cond, ◌==◌, OnOk, IfErr, OnErr, IfOk, ℤ, Option};
+ghost use Rattle.std.specs.BTreeMap.{IsOrdered};
+ghost use Rattle.std.specs.List.{AllByRecursion, filter_map};
+ghost use Rattle.std.specs.Ordering.{eq_by_cmp};
+ghost use Rattle.std.specs.FinMap as fin;
+ghost use Rattle.far_types.specs.declared.key.Key.{Key};
+ghost use Rattle.far_types.specs.Keys.{line_cmp};
+ghost use Rattle.far_extrema.specs.Spans.{extrema_of};
+ghost use Rattle.far_extrema.specs.Holders.{holders_of, span_at, room_at, line_of, IsPut, IsTopped, HaveSameRoom, HaveSameSpans, KeepsRoom, HasRoomFor, IsGroup, IsCleared};
+
+use super::holder::Holder;
+use super::spans::{Span, Spans};
+use super::tournament::Spare;
+use far_types::{Key, Refusal, clone_key};
+use std::alloc::Global;
+use std::collections::BTreeMap;
+
+/// What stands by key.
+pub type Holders = BTreeMap<Option<Key>, Holder>;
+
+/// The span of a key in a row group. Takes no memory.
+pub fn span_in(holders: &Holders, group: u32, key: &Option<Key>) -> Option<Span>
+    ensures { result ≡ span_at (holders_of holders.now.entries) group key.now }
+{
+    match holders.get(key) {
+        Some(holder) => holder.span(group),
+        None => None,
+    }
+}
+
+/// A row group more for a key, which has no span there. Refused with `NoMemory` (1) alone, and then nothing is changed.
+pub fn add_in(
+    holders: &mut Holders,
+    alloc: Global,
+    group: u32,
+    key: &Option<Key>,
+    span: Span,
+) -> Result<(), Refusal>
+    requires { span_at (holders_of holders.old.entries) group key.now ≡ None }
+    ensures ok { OnOk result (IsPut (holders_of holders.old.entries) group key.now (Some span) (holders_of holders.new.entries)) }
+    ensures room { OnOk result (HaveSameRoom (holders_of holders.old.entries) (holders_of holders.new.entries)) }
+    ensures err { OnErr result (holders_of holders.new.entries ≡ holders_of holders.old.entries) }
+    ensures memory { IfErr result (λ e. e ≡ Refusal.NoMemory) }
+{
+    match holders.get_mut(key) {
+        Some(holder) => holder.add(alloc, group, span),
+        None => {
+            holders.insert(clone_key(key)?, Holder::new(group, span))?;
+            Ok(())
+        }
+    }
+}
+
+/// A span in place of that of a key in a row group. Takes no memory.
+pub fn set_in(holders: &mut Holders, group: u32, key: &Option<Key>, span: Span)
+    requires { span_at (holders_of holders.old.entries) group key.now ≢ None }
+    ensures spans { IsPut (holders_of holders.old.entries) group key.now (Some span) (holders_of holders.new.entries) }
+    ensures room { HaveSameRoom (holders_of holders.old.entries) (holders_of holders.new.entries) }
+{
+    match holders.get_mut(key) {
+        Some(holder) => holder.put(group, span),
+        None => unreachable!(),
+    }
+}
+
+/// A row group in which a key occurs no more: the key goes with its last one, if it has no room. Takes no memory.
+pub fn leave_in(holders: &mut Holders, group: u32, key: &Option<Key>)
+    requires { span_at (holders_of holders.old.entries) group key.now ≢ None }
+    ensures spans { IsPut (holders_of holders.old.entries) group key.now None (holders_of holders.new.entries) }
+    ensures room { HaveSameRoom (holders_of holders.old.entries) (holders_of holders.new.entries) }
+{
+    match holders.get_mut(key) {
+        Some(holder) => {
+            holder.leave(group);
+            if !holder.is_vacant() {
+                return;
+            }
+        }
+        None => unreachable!(),
+    }
+    holders.remove(key);
+}
+
+/// Room for a row group more of a key. Refused with `NoMemory` (1) alone.
+fn make_room_in(holders: &mut Holders, alloc: Global, key: &Option<Key>) -> Result<(), Refusal>
+    ensures spans { HaveSameSpans (holders_of holders.old.entries) (holders_of holders.new.entries) }
+    ensures kept { KeepsRoom (holders_of holders.old.entries) (holders_of holders.new.entries) }
+    ensures room { OnOk result (room_at (holders_of holders.new.entries) key.now ≢ None) }
+    ensures memory { IfErr result (λ e. e ≡ Refusal.NoMemory) }
+{
+    match holders.get_mut(key) {
+        Some(holder) => holder.make_room(alloc),
+        None => {
+            let spare = Spare::new(alloc)?;
+            holders.insert(clone_key(key)?, Holder::with_room(spare))?;
+            Ok(())
+        }
+    }
+}
+
+/// Room for a row group more of each of these keys. Refused with `NoMemory` (1) alone, and then some may have it.
+pub fn make_rooms(holders: &mut Holders, alloc: Global, spans: &Spans) -> Result<(), Refusal>
+    ensures spans { HaveSameSpans (holders_of holders.old.entries) (holders_of holders.new.entries) }
+    ensures room { OnOk result (HasRoomFor (extrema_of spans.now.entries) (holders_of holders.new.entries)) }
+    ensures memory { IfErr result (λ e. e ≡ Refusal.NoMemory) }
+{
+    for (key, _) in spans {
+        make_room_in(holders, alloc, key)?;
+    }
+    Ok(())
+}
+
+/// A row group more for a key that has room. Takes no memory.
+fn fill_in(holders: &mut Holders, group: u32, key: &Option<Key>, span: Span)
+    requires room { room_at (holders_of holders.old.entries) key.now ≢ None }
+    requires new { span_at (holders_of holders.old.entries) group key.now ≡ None }
+    ensures spans { IsPut (holders_of holders.old.entries) group key.now (Some span) (holders_of holders.new.entries) }
+    ensures room { (q : Option Key) → eq_by_cmp line_cmp q key.now ≡ false → room_at (holders_of holders.new.entries) q ≡ room_at (holders_of holders.old.entries) q }
+{
+    match holders.get_mut(key) {
+        Some(holder) => holder.fill(group, span),
+        None => unreachable!(),
+    }
+}
+
+/// These are the spans of a row group in which no key occurs yet; each of their keys has room. Takes no memory.
+pub fn fill_all(holders: &mut Holders, group: u32, spans: &Spans)
+    requires room { HasRoomFor (extrema_of spans.now.entries) (holders_of holders.old.entries) }
+    requires new { (q : Option Key) → span_at (holders_of holders.old.entries) group q ≡ None }
+    ensures { IsGroup (holders_of holders.old.entries) group (extrema_of spans.now.entries) (holders_of holders.new.entries) }
+{
+    for (key, span) in spans {
+        fill_in(holders, group, key, *span);
+    }
+}
+
+/// A row group in which a key occurs no more, if it did. Says whether a row group or room is left to the key.
+fn clear(holder: &mut Holder, group: u32) -> bool
+    ensures { IsCleared group holder.old result holder.new }
+{
+    holder.clear(group);
+    !holder.is_vacant()
+}
+
+/// No key occurs in a row group any more. Takes no memory.
+pub fn clear_in(holders: &mut Holders, group: u32)
+    ensures spans { IsGroup (holders_of holders.old.entries) group fin.empty (holders_of holders.new.entries) }
+    ensures room { HaveSameRoom (holders_of holders.old.entries) (holders_of holders.new.entries) }
+{
+    holders.retain(|_, holder| clear(holder, group));
+}
+
+/// A line of an answer.
+fn line(key: Option<Key>, span: Span) -> (Option<Key>, i64, i64)
+    ensures { result ≡ (key, span.0, span.1) }
+{
+    (key, span.0, span.1)
+}
+
+/// The lines of the spans of all row groups, by their keys, of which clones are made. A key that only has room has none.
+pub fn lines(alloc: Global, holders: &Holders) -> Result<Vec<(Option<Key>, i64, i64)>, Refusal>
+    ensures ok { IfOk result (λ lines. lines.items ≡ filter_map line_of holders.now.entries) }
+    ensures ordered { IsOrdered line_cmp holders.now }
+    ensures topped { OnOk result (AllByRecursion IsTopped holders.now.entries) }
+    ensures memory { IfErr result (λ e. e ≡ Refusal.NoMemory) }
+{
+    let mut lines = Vec::with_capacity(alloc, holders.len())?;
+    for (key, holder) in holders {
+        if let Some(top) = holder.top() {
+            lines.push(line(clone_key(key)?, top))?;
+        }
+    }
+    Ok(lines)
+}
