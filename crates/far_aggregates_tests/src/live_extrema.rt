@@ -33,11 +33,7 @@ fn extrema_are_told_once_their_row_groups_are_in(rt: HostRuntime) {
 }
 
 /// Makes room for a row group and its keys, at the second call where the first is refused.
-fn make_room_for(
-    live: &mut LiveExtrema,
-    group: u32,
-    extrema: &GroupExtrema,
-) -> Result<(), Refusal>
+fn make_room_for(live: &mut LiveExtrema, group: u32, extrema: &GroupExtrema) -> Result<(), Refusal>
     ensures left { live.new.left ≡ live.old.left }
     ensures groups { OnOk result (live.new.groups ≡ with_room group live.old.groups) }
     ensures keys { OnOk result (HasRoomFor extrema.now live.new) }
