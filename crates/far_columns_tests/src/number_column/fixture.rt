@@ -64,7 +64,7 @@ impl<'a, S: FarStore> OneNumberColumn<'a, S> {
         count: i64,
     ) -> Result<OneNumberColumn<'a, S>, Refusal> {
         let mut fixture = OneNumberColumn::empty(alloc, store, layout)?;
-        fixture.push_counted(count)?;
+        fixture.push_counted(alloc, count)?;
         Ok(fixture)
     }
 
@@ -92,9 +92,9 @@ impl<'a, S: FarStore> OneNumberColumn<'a, S> {
         })
     }
 
-    fn push_counted(&mut self, count: i64) -> Result<(), Refusal> {
+    fn push_counted(&mut self, alloc: Global, count: i64) -> Result<(), Refusal> {
         for number in 0..count {
-            self.push(Some(number + 1))?;
+            self.last_reply(alloc, NumberCall::Push(Some(number + 1)))?;
         }
         Ok(())
     }

@@ -93,7 +93,7 @@ impl<'a, S: FarStore> OneTextColumn<'a, S> {
 
     fn push_letters(&mut self, alloc: Global, count: usize) -> Result<(), Refusal> {
         for _ in 0..count {
-            self.push(alloc, Some(("a", 1)))?;
+            self.last_reply(alloc, TextCall::Push(Some(("a", 1))))?;
         }
         Ok(())
     }
