@@ -7,6 +7,3 @@ mod vector;
 
 pub use pieces::Pieces;
 pub use vector::FarVector;
-
-#[cfg(test)]
-mod tests;

@@ -1,27 +1,38 @@
-// What no clause says: that calls are served, and that worked examples come out as they should.
-mod again;
-mod away;
-mod digest;
-mod pushing;
-mod reading;
-mod refusing;
-mod writing;
-
+// What the examples begin with.
 ghost use Rattle.std.specs.Prelude.{IfOk};
 ghost use Rattle.far_scopes.specs.Movement.{list_of};
 ghost use Rattle.far_vector.specs.Vector.{IsVector};
 
-use crate::FarVector;
-use again::{no_elements, push};
-use digest::Digested;
+use crate::again::{no_elements, push};
 use far_codec::Elem;
+use far_fixtures::{Element, agent, no_objects};
 use far_scopes::Objects;
-use far_store::FarRead;
+use far_store::{AgentStore, FarRead};
 use far_types::Refusal;
+use far_vector::FarVector;
 use std::alloc::Global;
 
+/// What a call returns to which a new store of four contents is lent.
+pub fn with_agent<'r, R, F: FnOnce(Global, &AgentStore<&'r HostRuntime>) -> Result<R, Refusal>>(
+    rt: &'r HostRuntime,
+    call: F,
+) -> Result<R, Refusal>
+    requires { F.IsAlwaysCallable call }
+{
+    let store = agent(rt, 4)?;
+    call(rt.alloc(), &store)
+}
+
+/// No object, in four segments of four elements; five writes and one leaving each.
+pub fn room_for_four<T: Elem, S: FarRead>(
+    alloc: Global,
+    store: &S,
+) -> Result<Objects<T, S>, Refusal> {
+    no_objects(alloc, store, 4, 4, 5, 1)
+}
+
 /// Pushes elements; there are few objects.
-fn push_all<T: Elem + Digested, S: FarRead>(
+pub fn push_all<T: Element, S: FarRead>(
     vector: &mut FarVector<T>,
     objects: &mut Objects<T, S>,
     elements: &[T],
@@ -36,7 +47,7 @@ fn push_all<T: Elem + Digested, S: FarRead>(
 }
 
 /// A vector of these elements, in row groups of four.
-fn filled<T: Elem + Digested, S: FarRead>(
+pub fn filled<T: Element, S: FarRead>(
     alloc: Global,
     objects: &mut Objects<T, S>,
     blank: T,
@@ -47,4 +58,9 @@ fn filled<T: Elem + Digested, S: FarRead>(
     let mut vector = no_elements(alloc, 4, blank)?;
     push_all(&mut vector, objects, elements)?;
     Ok(vector)
+}
+
+/// The numbers 1 to 5, none of them missing.
+pub fn one_to_five() -> [Option<i64>; 5] {
+    [Some(1), Some(2), Some(3), Some(4), Some(5)]
 }

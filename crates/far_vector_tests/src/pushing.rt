@@ -3,18 +3,18 @@ ghost use Rattle.std.specs.Prelude.{◌≡◌, []};
 ghost use Rattle.far_scopes.specs.Movement.{list_of};
 ghost use Rattle.far_vector.specs.Vector.{IsVector};
 
-use super::again::{agent, no_elements, no_objects, push};
-use super::digest::Digested;
-use crate::FarVector;
-use far_codec::Elem;
+use crate::again::{no_elements, push};
+use crate::fixture::{room_for_four, with_agent};
+use far_fixtures::Element;
 use far_scopes::Objects;
 use far_store::FarRead;
 use far_types::Refusal;
+use far_vector::FarVector;
 use std::alloc::Global;
 use std::test::Fail;
 
 /// How many elements and objects there are once the first element is pushed and taken back.
-fn take_back<T: Elem + Digested, S: FarRead>(
+fn take_back<T: Element, S: FarRead>(
     vector: &mut FarVector<T>,
     objects: &mut Objects<T, S>,
     x: T,
@@ -32,7 +32,7 @@ fn take_back<T: Elem + Digested, S: FarRead>(
     Ok((vector.len(), objects.count()))
 }
 
-/// The same of numbers in row groups of four.
+/// The same of a number in row groups of four.
 fn taken_back_in<S: FarRead>(
     alloc: Global,
     objects: &mut Objects<i64, S>,
@@ -42,13 +42,12 @@ fn taken_back_in<S: FarRead>(
 }
 
 fn taken_back<S: FarRead>(alloc: Global, store: &S) -> Result<(usize, u32), Refusal> {
-    let mut objects = no_objects(alloc, store, 5)?;
-    taken_back_in(alloc, &mut objects)
+    taken_back_in(alloc, &mut room_for_four(alloc, store)?)
 }
 
 #[test]
 fn a_push_that_is_taken_back_leaves_no_element_and_no_object(rt: HostRuntime) -> Result<(), Fail> {
-    let store = agent(&rt)?;
-    assert_eq!(rt; taken_back(rt.alloc(), &store)?, (0, 0));
+    let (elements, objects) = with_agent(&rt, |alloc, store| taken_back(alloc, store))?;
+    assert!(rt; elements == 0 && objects == 0);
     Ok(())
 }

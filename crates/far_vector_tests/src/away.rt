@@ -1,32 +1,31 @@
 // Elements of which the object is away: worked examples.
-ghost use Rattle.std.specs.Prelude.{◌≡◌, ◌<◌, ◌^◌, ℕ, List, length, OnOk};
+ghost use Rattle.std.specs.Prelude.{◌≡◌, ◌<◌, ℕ, length, IfOk, OnOk};
+ghost use Rattle.far_codec.specs.PlainNumbers.{plain_meaning};
 ghost use Rattle.far_scopes.specs.Movement.{list_of};
 ghost use Rattle.far_vector.specs.Vector.{Vector, IsVector};
 
-use super::again::{agent, no_objects, push, put};
-use super::digest::Digested;
-use super::filled;
-use crate::FarVector;
-use far_codec::Elem;
+use crate::again::push;
+use crate::fixture::{filled, room_for_four, with_agent};
+use far_fixtures::{Element, put};
 use far_scopes::Objects;
 use far_store::{FarRead, FarStore};
 use far_types::Refusal;
+use far_vector::FarVector;
 use std::alloc::Global;
 use std::test::Fail;
 
 /// Sends an object away, where it may leave: every object keeps its list.
-fn send_away<T: Elem, S: FarStore>(
+fn send_away<T: Element, S: FarStore>(
     alloc: Global,
     objects: &mut Objects<T, S>,
     store: &S,
     o: u32,
 ) -> Result<(), Refusal>
-    requires within { o < length objects.old.entries }
-    requires short { (list : List T) → length list < 2 ^ 32 → T.has_spelling list }
+    requires { o < length objects.old.entries }
     ensures { OnOk result ((p : ℕ) → list_of T.meaning S.content objects.new p ≡ list_of T.meaning S.content objects.old p) }
 {
     let list = objects.lend(o)?;
-    if list.len() >= 1 << 32 || objects.pins(o) > 0 || !objects.may_leave(o) {
+    if !T::is_spelled(list) || objects.pins(o) > 0 || !objects.may_leave(o) {
         return Err(Refusal::Pinned);
     }
     let ticket = put(alloc, store, list)?;
@@ -35,12 +34,11 @@ fn send_away<T: Elem, S: FarStore>(
 }
 
 /// Sends the last object away, and leaves vectors what they are.
-fn send_last_away<T: Elem, S: FarStore>(
+fn send_last_away<T: Element, S: FarStore>(
     alloc: Global,
     objects: &mut Objects<T, S>,
     store: &S,
 ) -> Result<(), Refusal>
-    requires short { (list : List T) → length list < 2 ^ 32 → T.has_spelling list }
     ensures { OnOk result ((v : Vector T) → IsVector (list_of T.meaning S.content objects.old) v → IsVector (list_of T.meaning S.content objects.new) v) }
 {
     let count = objects.count();
@@ -51,7 +49,7 @@ fn send_last_away<T: Elem, S: FarStore>(
 }
 
 /// Why a part is not lent.
-fn part_refused<T: Elem, S: FarRead>(
+fn part_refused<T: Element, S: FarRead>(
     vector: &FarVector<T>,
     objects: &Objects<T, S>,
 ) -> Option<Refusal>
@@ -61,7 +59,7 @@ fn part_refused<T: Elem, S: FarRead>(
 }
 
 /// Why all elements are not lent piece by piece.
-fn pieces_refused<T: Elem, S: FarRead>(
+fn pieces_refused<T: Element, S: FarRead>(
     vector: &FarVector<T>,
     objects: &Objects<T, S>,
 ) -> Option<Refusal>
@@ -71,7 +69,7 @@ fn pieces_refused<T: Elem, S: FarRead>(
 }
 
 /// Why the last of five elements is neither read nor written, and none is added behind it.
-fn all_refused<T: Elem + Digested, S: FarRead>(
+fn all_refused<T: Element, S: FarRead>(
     vector: &mut FarVector<T>,
     objects: &mut Objects<T, S>,
     x: T,
@@ -87,20 +85,30 @@ fn all_refused<T: Elem + Digested, S: FarRead>(
     [get, part, pieces, may_write_part, set, push]
 }
 
-/// The same, of five numbers in row groups of four, of which the last is away.
+/// Five numbers in row groups of four, of which the last is away.
+fn last_of_five_away<S: FarStore>(
+    alloc: Global,
+    objects: &mut Objects<i64, S>,
+    store: &S,
+) -> Result<FarVector<i64>, Refusal>
+    ensures { IfOk result (λ v. IsVector (list_of plain_meaning S.content objects.new) v) }
+{
+    let vector = filled(alloc, objects, 0, &[1, 2, 3, 4, 5])?;
+    send_last_away(alloc, objects, store)?;
+    Ok(vector)
+}
+
 fn refused_in<S: FarStore>(
     alloc: Global,
     objects: &mut Objects<i64, S>,
     store: &S,
 ) -> Result<[Option<Refusal>; 6], Refusal> {
-    let mut vector = filled(alloc, objects, 0, &[1, 2, 3, 4, 5])?;
-    send_last_away(alloc, objects, store)?;
+    let mut vector = last_of_five_away(alloc, objects, store)?;
     Ok(all_refused(&mut vector, objects, 6))
 }
 
 fn refused_away<S: FarStore>(alloc: Global, store: &S) -> Result<[Option<Refusal>; 6], Refusal> {
-    let mut objects = no_objects(alloc, store, 5)?;
-    refused_in(alloc, &mut objects, store)
+    refused_in(alloc, &mut room_for_four(alloc, store)?, store)
 }
 
 /// The fourth of five numbers, of which the last is away.
@@ -109,31 +117,27 @@ fn read_in<S: FarStore>(
     objects: &mut Objects<i64, S>,
     store: &S,
 ) -> Result<i64, Refusal> {
-    let vector = filled(alloc, objects, 0, &[1, 2, 3, 4, 5])?;
-    send_last_away(alloc, objects, store)?;
-    vector.get(objects, 3)
+    last_of_five_away(alloc, objects, store)?.get(objects, 3)
 }
 
 fn read_beside<S: FarStore>(alloc: Global, store: &S) -> Result<i64, Refusal> {
-    let mut objects = no_objects(alloc, store, 5)?;
-    read_in(alloc, &mut objects, store)
+    read_in(alloc, &mut room_for_four(alloc, store)?, store)
 }
 
 #[test]
 fn calls_on_elements_of_which_the_object_is_away_are_refused(rt: HostRuntime) -> Result<(), Fail> {
-    let store = agent(&rt)?;
-    let refused = refused_away(rt.alloc(), &store)?;
+    let refused = with_agent(&rt, |alloc, store| refused_away(alloc, store))?;
     let absent = Refusal::Absent {
         column: 0,
         group: 1,
     };
-    assert_eq!(rt; refused, [Some(absent); 6]);
+    assert!(rt; refused == [Some(absent); 6]);
     Ok(())
 }
 
 #[test]
 fn an_element_of_another_object_is_read(rt: HostRuntime) -> Result<(), Fail> {
-    let store = agent(&rt)?;
-    assert_eq!(rt; read_beside(rt.alloc(), &store)?, 4);
+    let fourth = with_agent(&rt, |alloc, store| read_beside(alloc, store))?;
+    assert!(rt; fourth == 4);
     Ok(())
 }

@@ -2,25 +2,27 @@
 ghost use Rattle.far_scopes.specs.Movement.{list_of};
 ghost use Rattle.far_vector.specs.Vector.{IsVector};
 
-use super::again::{agent, no_elements, no_objects};
-use super::{filled, push_all};
-use crate::FarVector;
-use far_codec::Elem;
+use crate::fixture::{filled, one_to_five, room_for_four, with_agent};
+use far_fixtures::{Element, no_objects};
 use far_scopes::Objects;
 use far_store::FarRead;
 use far_types::Refusal;
+use far_vector::FarVector;
 use std::alloc::Global;
 use std::test::Fail;
 
 /// Why a part that crosses row groups is refused.
-fn crossing<T: Elem, S: FarRead>(vector: &FarVector<T>, objects: &Objects<T, S>) -> Option<Refusal>
+fn crossing<T: Element, S: FarRead>(
+    vector: &FarVector<T>,
+    objects: &Objects<T, S>,
+) -> Option<Refusal>
     requires { IsVector (list_of T.meaning S.content objects.now) vector.now }
 {
     vector.part(objects, 3, 5).err()
 }
 
 /// Why pieces past the end are refused.
-fn past_the_end<T: Elem, S: FarRead>(
+fn past_the_end<T: Element, S: FarRead>(
     vector: &FarVector<T>,
     objects: &Objects<T, S>,
 ) -> Option<Refusal>
@@ -34,45 +36,48 @@ fn out_of_range_in<S: FarRead>(
     alloc: Global,
     objects: &mut Objects<Option<i64>, S>,
 ) -> Result<[Option<Refusal>; 2], Refusal> {
-    let vector = filled(
-        alloc,
-        objects,
-        Some(0),
-        &[Some(1), Some(2), Some(3), Some(4), Some(5)],
-    )?;
+    let vector = filled(alloc, objects, Some(0), &one_to_five())?;
     Ok([crossing(&vector, objects), past_the_end(&vector, objects)])
 }
 
 fn out_of_range<S: FarRead>(alloc: Global, store: &S) -> Result<[Option<Refusal>; 2], Refusal> {
-    let mut objects = no_objects(alloc, store, 5)?;
-    out_of_range_in(alloc, &mut objects)
+    out_of_range_in(alloc, &mut room_for_four(alloc, store)?)
 }
 
-/// Why a number is not written a second time, and an empty part is not refused.
-fn used_up_in<S: FarRead>(
-    alloc: Global,
-    objects: &mut Objects<i64, S>,
-) -> Result<[Option<Refusal>; 3], Refusal> {
-    let mut vector = no_elements(alloc, 4, 0)?;
-    push_all(&mut vector, objects, &[1])?;
-    vector.set(objects, 0, 2)?;
+/// Why an element that may be written once is not written a second time, and an empty part is not refused.
+fn written_twice<T: Element, S: FarRead>(
+    vector: &FarVector<T>,
+    objects: &mut Objects<T, S>,
+    first: T,
+    second: T,
+) -> Result<[Option<Refusal>; 3], Refusal>
+    requires { IsVector (list_of T.meaning S.content objects.old) vector.now }
+{
+    vector.set(objects, 0, first)?;
     Ok([
-        vector.set(objects, 0, 3).err(),
+        vector.set(objects, 0, second).err(),
         vector.may_write_part(objects, 0, 1).err(),
         vector.may_write_part(objects, 1, 1).err(),
     ])
 }
 
+/// The same of a number.
+fn used_up_in<S: FarRead>(
+    alloc: Global,
+    objects: &mut Objects<i64, S>,
+) -> Result<[Option<Refusal>; 3], Refusal> {
+    let vector = filled(alloc, objects, 0, &[1])?;
+    written_twice(&vector, objects, 2, 3)
+}
+
 fn used_up<S: FarRead>(alloc: Global, store: &S) -> Result<[Option<Refusal>; 3], Refusal> {
-    let mut objects = no_objects(alloc, store, 1)?;
-    used_up_in(alloc, &mut objects)
+    used_up_in(alloc, &mut no_objects(alloc, store, 4, 4, 1, 1)?)
 }
 
 #[test]
 fn what_is_past_the_end_or_crosses_row_groups_is_refused(rt: HostRuntime) -> Result<(), Fail> {
-    let store = agent(&rt)?;
-    let refused = out_of_range(rt.alloc(), &store)?;
-    assert_eq!(rt; refused, [Some(Refusal::OutOfRange); 2]);
+    let refused = with_agent(&rt, |alloc, store| out_of_range(alloc, store))?;
+    assert!(rt; refused == [Some(Refusal::OutOfRange); 2]);
     Ok(())
 }
 
@@ -80,9 +85,8 @@ fn what_is_past_the_end_or_crosses_row_groups_is_refused(rt: HostRuntime) -> Res
 fn a_row_group_that_was_written_as_often_as_it_may_be_is_not_written(
     rt: HostRuntime,
 ) -> Result<(), Fail> {
-    let store = agent(&rt)?;
-    let refused = used_up(rt.alloc(), &store)?;
+    let refused = with_agent(&rt, |alloc, store| used_up(alloc, store))?;
     let used_up = Some(Refusal::EditsUsedUp);
-    assert_eq!(rt; refused, [used_up, used_up, None]);
+    assert!(rt; refused == [used_up, used_up, None]);
     Ok(())
 }
