@@ -8,10 +8,10 @@ use Rattle.std.specs.declared.io.traits.Read.{Ghosts}
 use Rattle.far_shell.specs.declared.fault.ShellFault.{ShellFault}
 use Rattle.far_shell.specs.declared.fault.ShellFault.TheVariants as fault
 use Rattle.far_shell.specs.declared.input.Input.{Input}
-use Rattle.far_shell.specs.Breaks.{AnswersText, Breaks, BreaksLater, BreaksOff, CutOff, EndsBy, IsBroken, IsFront, IsRejected, PrintsCut, Rejection, Rejects}
+use Rattle.far_shell.specs.Breaks.{Lists, ListsNext, Breaks, BreaksLater, BreaksOff, CutOff, EndsBy, IsBroken, IsFront, IsRejected, PrintsCut, Rejection, Rejects}
 use Rattle.far_shell.specs.Flow.{IsSpent, IsWhole, Prints, Reads, StartsWith, unread}
 use Rattle.far_shell.specs.Progress.{At}
-use Rattle.far_shell.specs.Scripts.{Answers, AnswersLine, Blank, IsScript, Opens}
+use Rattle.far_shell.specs.Scripts.{Answers, Blank, IsScript, Opens}
 use Rattle.far_shell.proofs.FlowLaws.{opens-then, prints, prints-then, prints-nothing-then, prints-then-nothing, reads-none, spent-nothing, spent-stays}
 
 -- a fault that is handed on
@@ -114,14 +114,14 @@ module _ {R : Type 0} (read : Ghosts R) where
     text,
     starts first after bytes p,
     q,
-    record { before = bytes; printed = text; mid = at; answered = r; next = []; one = refl; front = []; cut = cut-none why (AnswersText at []) other; whole = sym (append-nil bytes); said = sym (append-nil text) },
+    record { before = bytes; printed = text; mid = at; answered = r; next = []; one = refl; front = []; cut = cut-none why (ListsNext at []) other; whole = sym (append-nil bytes); said = sym (append-nil text) },
   )
 
   -- within the answer to a line
   pub breaks-line : (first before mid : Input R read) (a b c d : Option (List ℕ)) (h k l m : List ℕ) (old at : At) (line raw bytes text : List ℕ) (why : ShellFault)
       → Reads read first bytes before → Prints a h text b k → Answers old bytes text at
       → list_any (λ x. x == 10) raw ≡ false → line ≡ strip_last 13 raw → Reads read before (raw ++ 10 ∷ []) mid → Prints b k [] c l
-      → PrintsCut why (λ said. (new : At) × AnswersLine at line [] said new) c l d m
+      → PrintsCut why (λ said. Lists at line said) c l d m
       → (all : List ℕ) × (rest : List ℕ) × (said : List ℕ) × StartsWith read first all rest × Prints a h said d m × BreaksOff old why all said
   breaks-line first before mid a b c d h k l m old at line raw bytes text why p q r one stripped s t u = (
     bytes ++ raw,
@@ -140,7 +140,7 @@ module _ {R : Type 0} (read : Ghosts R) where
       front = u.0;
       whole = refl;
       said = refl;
-      cut = cut-more why (λ said. (new : At) × AnswersLine at line [] said new) (AnswersText at raw) u.0 (λ said n. (line, n.0, inr stripped, n.1)) u.2;
+      cut = cut-more why (λ said. Lists at line said) (ListsNext at raw) u.0 (λ said n. inr (subst (λ (z : List ℕ). Lists at z said) stripped n)) u.2;
     },
   )
 
@@ -148,7 +148,7 @@ module _ {R : Type 0} (read : Ghosts R) where
   pub breaks-last : (first before mid : Input R read) (a b c d : Option (List ℕ)) (h k l m : List ℕ) (old at : At) (line bytes text : List ℕ) (why : ShellFault)
       → Reads read first bytes before → Prints a h text b k → Answers old bytes text at
       → list_any (λ x. x == 10) line ≡ false → Reads read before line mid → Prints b k [] c l
-      → PrintsCut why (λ said. (new : At) × AnswersLine at line [] said new) c l d m
+      → PrintsCut why (λ said. Lists at line said) c l d m
       → (all : List ℕ) × (rest : List ℕ) × (said : List ℕ) × StartsWith read first all rest × Prints a h said d m × BreaksOff old why all said
   breaks-last first before mid a b c d h k l m old at line bytes text why p q r one s t u = (
     bytes ++ line,
@@ -166,7 +166,7 @@ module _ {R : Type 0} (read : Ghosts R) where
       front = u.0;
       whole = refl;
       said = refl;
-      cut = cut-more why (λ said. (new : At) × AnswersLine at line [] said new) (AnswersText at line) u.0 (λ said n. (line, n.0, inl refl, n.1)) u.2;
+      cut = cut-more why (λ said. Lists at line said) (ListsNext at line) u.0 (λ said n. inl n) u.2;
     },
   )
 
@@ -279,7 +279,7 @@ module _ {R : Type 0} (read : Ghosts R) where
     subst (λ (r : R). IfSome (read.remaining r) (λ script. script ≡ (first ++ bytes) ++ rest)) is
         (subst (λ (z : List ℕ). IfSome (read.remaining old.source.reader) (λ script. z ++ script ≡ (first ++ bytes) ++ rest)) none (starts-then read old mid first bytes rest p s).0),
     subst (λ (z : List ℕ). Prints u z (codes "ok\n" ++ text) w left) empty (prints-then u v w held (codes "ok\n") k text left q t),
-    broken-later why (first ++ bytes) rest (codes "ok\n" ++ text) (not-bad why (AnswersText b.mid b.next) b.front b.cut)
+    broken-later why (first ++ bytes) rest (codes "ok\n" ++ text) (not-bad why (ListsNext b.mid b.next) b.front b.cut)
         (record { first = first; at = at; more = bytes; tail = text; opens = opens-then first (IsSpent read mid) (bytes ++ rest ≡ []) at s.1 o; breaks = b; whole = refl; said = refl }),
   )
 

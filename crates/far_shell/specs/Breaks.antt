@@ -5,11 +5,14 @@ use Rattle.far_types.specs.declared.refusal.Refusal.TheVariants as refusal
 use Rattle.far_types.specs.Bounds.{IsSchema, AreLimits}
 use Rattle.far_shell.specs.declared.fault.ShellFault.{ShellFault}
 use Rattle.far_shell.specs.declared.fault.ShellFault.TheVariants as fault
+use Rattle.far_shell.specs.declared.command.Command.TheVariants as command
+use Rattle.far_shell.specs.Commands.{command_of}
 use Rattle.far_shell.specs.Flow.{Prints}
+use Rattle.far_shell.specs.Listings.{dump_text}
 use Rattle.far_shell.specs.Openings.{Opened, opening_of}
 use Rattle.far_shell.specs.Printing.{refusal_text}
 use Rattle.far_shell.specs.Progress.{At}
-use Rattle.far_shell.specs.Scripts.{Answers, AnswersLine, Blank, IsOneLine, IsScript, Opens, without_return}
+use Rattle.far_shell.specs.Scripts.{Answers, Blank, IsOneLine, IsScript, Opens, without_return}
 
 -- a front of an answer; it may be empty
 abbrev pub IsFront : (List ℕ → Type 0) → List ℕ → Type 0
@@ -26,11 +29,16 @@ CutOff fault.Memory answer text = IsFront answer text
 abbrev pub PrintsCut : ShellFault → (List ℕ → Type 0) → Option (List ℕ) → List ℕ → Option (List ℕ) → List ℕ → Type 0
 PrintsCut why answer old held new left = (text : List ℕ) × Prints old held text new left × CutOff why answer text
 
--- a line is answered that may have lost a carriage return
-abbrev pub AnswersText : At → List ℕ → List ℕ → Type 0
-AnswersText at bytes text = (line : List ℕ) × (new : At) × ((line ≡ bytes) ⊎ (line ≡ without_return bytes)) × AnswersLine at line [] text new
+-- a line asks for a dump, and this is what is listed
+abbrev pub Lists : At → List ℕ → List ℕ → Type 0
+Lists at line text = (command_of at.state.table.schema line ≡ Some command.Dump) × (text ≡ dump_text at.state.table)
 
--- behind the first command a script breaks off: whole lines are answered, and a front of the next line's answer is printed
+-- the same of a line that may have lost a carriage return
+abbrev pub ListsNext : At → List ℕ → List ℕ → Type 0
+ListsNext at bytes text = Lists at bytes text ⊎ Lists at (without_return bytes) text
+
+-- behind the first command a script breaks off: whole lines are answered, and where the next line asks for a dump, a front
+-- of it may be printed
 pub record BreaksOff (old : At) (why : ShellFault) (bytes text : List ℕ) : Type 0 where
   pub before : List ℕ
   pub printed : List ℕ
@@ -39,7 +47,7 @@ pub record BreaksOff (old : At) (why : ShellFault) (bytes text : List ℕ) : Typ
   pub next : List ℕ
   pub one : IsOneLine next
   pub front : List ℕ
-  pub cut : CutOff why (AnswersText mid next) front
+  pub cut : CutOff why (ListsNext mid next) front
   pub whole : bytes ≡ before ++ next
   pub said : text ≡ printed ++ front
 

@@ -1,12 +1,12 @@
 // Lines as commands, and their answers.
-ghost use Rattle.std.specs.Prelude.{◌≡◌, ℕ, List, [], ◌++◌, IfErr, OnOk, IsUtf8};
+ghost use Rattle.std.specs.Prelude.{◌≡◌, ℕ, List, [], ◌++◌, IfErr, OnOk, IsUtf8, Some};
 ghost use Rattle.far_frame.specs.declared.step.Reply.{Reply};
 ghost use Rattle.far_frame.specs.Steps.{IsStep};
-ghost use Rattle.far_shell.specs.Breaks.{PrintsCut};
+ghost use Rattle.far_shell.specs.Breaks.{Lists, PrintsCut};
 ghost use Rattle.far_shell.specs.Commands.{command_of};
 ghost use Rattle.far_shell.specs.Flow.{Prints, Reads, Holds, spanned};
 ghost use Rattle.far_shell.specs.Printing.{numbered_text};
-ghost use Rattle.far_shell.specs.Progress.{At};
+ghost use Rattle.far_shell.specs.Listings.{dump_text};
 ghost use Rattle.far_shell.specs.Replies.{Serves, ServesLine, Takes, reply_text};
 ghost use Rattle.far_shell.specs.Scripts.{AnswersLine};
 
@@ -58,7 +58,7 @@ fn answer_command<R: Read + Drop, W: Write>(
     writer: &mut W,
 ) -> Result<(), ShellFault>
     ensures ok { OnOk result ((rows : List ℕ) × (text : List ℕ) × Reads R.Read input.old rows input.new × Prints (W.contents writer.old) output.old.page text (W.contents writer.new) output.new.page × Serves world.old command rows text world.new) }
-    ensures err { IfErr result (λ fault. PrintsCut fault (λ said. Serves world.old command [] said world.old) (W.contents writer.old) output.old.page (W.contents writer.new) output.new.page) }
+    ensures err { IfErr result (λ fault. PrintsCut fault (λ said. (command ≡ Command.Dump) × (said ≡ dump_text world.old.table)) (W.contents writer.old) output.old.page (W.contents writer.new) output.new.page) }
 {
     match command {
         Command::Step(step) => {
@@ -92,7 +92,7 @@ fn answer_words<R: Read + Drop, W: Write>(
     requires { Holds R.Read input.old line }
     ensures text { OnOk result (IsUtf8 (spanned R.Read input.old line)) }
     ensures ok { OnOk result ((rows : List ℕ) × (text : List ℕ) × Reads R.Read input.old rows input.new × Prints (W.contents writer.old) output.old.page text (W.contents writer.new) output.new.page × ServesLine number world.old (command_of world.old.table.schema (spanned R.Read input.old line)) rows text world.new) }
-    ensures err { IfErr result (λ fault. PrintsCut fault (λ said. IsUtf8 (spanned R.Read input.old line) × ServesLine number world.old (command_of world.old.table.schema (spanned R.Read input.old line)) [] said world.old) (W.contents writer.old) output.old.page (W.contents writer.new) output.new.page) }
+    ensures err { IfErr result (λ fault. PrintsCut fault (λ said. (command_of world.old.table.schema (spanned R.Read input.old line) ≡ Some Command.Dump) × (said ≡ dump_text world.old.table)) (W.contents writer.old) output.old.page (W.contents writer.new) output.new.page) }
 {
     match parse(alloc, world.frame().schema().as_slice(), input.text(line)?)? {
         Some(command) => answer_command(alloc, world, command, input, output, writer),
@@ -116,7 +116,7 @@ pub fn answer_line<R: Read + Drop, W: Write>(
 ) -> Result<(), ShellFault>
     requires { Holds R.Read input.old line }
     ensures ok { OnOk result ((rows : List ℕ) × (text : List ℕ) × Reads R.Read input.old rows input.new × Prints (W.contents writer.old) output.old.page text (W.contents writer.new) output.new.page × AnswersLine progress.old (spanned R.Read input.old line) rows text progress.new) }
-    ensures err { IfErr result (λ fault. PrintsCut fault (λ said. (new : At) × AnswersLine progress.old (spanned R.Read input.old line) [] said new) (W.contents writer.old) output.old.page (W.contents writer.new) output.new.page) }
+    ensures err { IfErr result (λ fault. PrintsCut fault (λ said. Lists progress.old (spanned R.Read input.old line) said) (W.contents writer.old) output.old.page (W.contents writer.new) output.new.page) }
 {
     if line.is_empty() {
         return Ok(());

@@ -1,5 +1,6 @@
 //! Scripts whose reader or writer ends them. What a script of its own shows stands in far_examples.
 use far_shell::{ShellFault, run_script};
+use std::cell::RefCell;
 use std::io::{self, Read, Write};
 use std::test::Fail;
 
@@ -107,4 +108,72 @@ fn a_failing_write_ends_a_script(rt: HostRuntime) {
     let mut sink = Sink { room: 2 };
     let outcome = run_script(&rt, FIRST, &mut sink);
     assert!(rt; outcome == Err(ShellFault::Output));
+}
+
+/// Lines as a user at a terminal sends them, each with what stands on the screen once it is answered.
+const TALK: [(&[u8], &[u8]); 4] = [
+    (b"schema 4 int\n", b"ok\n"),
+    (b"insert 7\n", b"ok\nplace 0\n"),
+    (b"load 4\n", b"ok\nplace 0\n"),
+    (b"8\n9\n", b"ok\nplace 0\nloaded 2\n"),
+];
+
+/// What the shell wrote so far.
+#[derive(Drop, Clone, Copy)]
+struct Screen<'a>(&'a RefCell<Vec<u8>>);
+
+impl<'a> Screen<'a> {
+    fn shows(&self, text: &[u8]) -> bool {
+        match self.0.try_borrow() {
+            Ok(shown) => shown.as_slice() == text,
+            Err(_) => false,
+        }
+    }
+}
+
+impl<'a> Write for Screen<'a> {
+    fn write(&mut self, buf: &[u8]) -> io::Result<usize> {
+        let Ok(mut shown) = self.0.try_borrow_mut() else {
+            return Err(io::ErrorKind::Other.into());
+        };
+        match shown.extend_from_slice(buf) {
+            Ok(()) => Ok(buf.len()),
+            Err(_) => Err(io::ErrorKind::OutOfMemory.into()),
+        }
+    }
+
+    fn flush(&mut self) -> io::Result<()> {
+        Ok(())
+    }
+}
+
+/// Sends a line once the one before is answered on the screen, and fails where it is not.
+#[derive(Drop)]
+struct User<'a> {
+    screen: Screen<'a>,
+    sent: usize,
+}
+
+impl<'a> Read for User<'a> {
+    fn read(&mut self, buf: &mut [u8]) -> io::Result<usize> {
+        if self.sent > 0 && !self.screen.shows(TALK[self.sent - 1].1) {
+            return Err(io::ErrorKind::Other.into());
+        }
+        let Some((line, _)) = TALK.get(self.sent) else {
+            return Ok(0);
+        };
+        let count = line.len().min(buf.len());
+        buf[..count].copy_from_slice(&line[..count]);
+        self.sent += 1;
+        Ok(count)
+    }
+}
+
+#[test]
+fn each_line_is_answered_before_the_next_is_read(rt: HostRuntime) {
+    let shown = RefCell::new(Vec::new(rt.alloc()));
+    let mut screen = Screen(&shown);
+    let user = User { screen, sent: 0 };
+    let outcome = run_script(&rt, user, &mut screen);
+    assert!(rt; outcome == Ok(()));
 }

@@ -1,9 +1,8 @@
-use Rattle.std.proofs.Common.{IsUtf8, [], refl, subst, arith, ◌<◌}
+use Rattle.std.proofs.Common.{[], refl, subst, arith, ◌<◌}
 use Rattle.far_shell.specs.Flow.{spanned}
 use Rattle.far_shell.specs.Scripts.{AnswersLine}
 use Rattle.far_shell.specs.Progress.{At}
-use Rattle.far_shell.specs.Commands.{command_of}
-use Rattle.far_shell.specs.Replies.{ServesLine}
+use Rattle.far_shell.specs.Breaks.{Lists}
 use Rattle.far_shell.proofs.BreakLaws.{cut-more, handed-on}
 use Rattle.far_shell.proofs.FlowLaws.{reads-none, prints-none, answers-empty, answers-command, range-empty, range-some}
 use Rattle.far_shell.proofs.serve.answer_line.Goals as goal
@@ -45,15 +44,5 @@ returns-in_err-answer_words-clause-err g c =
     let why = c.in_err-answer_words.field-0.0 in
     let line = spanned g.R.Read c.args.input.now c.args.line in
     let old : At = record { state = c.progress.inside.world; number = c.progress.inside.number } in
-    let new : At = record { state = c.progress.inside.world; number = c.in-Some.number } in
-    let some : c.args.line.from < c.args.line.to = grind (arith, c.if-is_empty.ensures) in
-    handed-on c.from_residual.result why _ c.from_residual.ensures.1 (
-      p.0,
-      p.1,
-      cut-more why (λ said. IsUtf8 line × ServesLine new.number old.state (command_of old.state.table.schema line) [] said new.state) (λ said. (at : At) × AnswersLine c.args.progress.now line [] said at) p.0
-          (λ said s. (
-            new,
-            subst (λ (at : At). AnswersLine at line [] said new) c.progress.view_is
-                (answers-command old new line [] said (range-some c.args.input.now.held c.args.line.from c.args.line.to some c.requires.1) s.0 c.in-Some.ensures.1 s.1),
-          )) p.2,
-    )
+    handed-on c.from_residual.result why _ c.from_residual.ensures.1
+    (p.0, p.1, cut-more why (λ said. Lists old line said) (λ said. Lists c.args.progress.now line said) p.0 (λ said s. subst (λ (at : At). Lists at line said) c.progress.view_is s) p.2)
