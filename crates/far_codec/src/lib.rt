@@ -26,6 +26,3 @@ pub use lent::{LentInts, LentTexts, LentValues, lend_values};
 pub use lists::{IntList, TextList};
 pub use text_forms::{count_texts, encode_texts, text_at, text_of, texts_length};
 pub use values::{Values, decode, kind_of};
-
-#[cfg(test)]
-mod tests;

@@ -7,7 +7,6 @@ pub mod Setting
 pub mod Pushing
 pub mod LentCells
 pub mod Beside
-mod Walking
 pub mod Begun
 pub mod NextForms
 pub mod OnePushed
@@ -26,5 +25,4 @@ pub mod GivenForms
 pub mod DueTogether
 pub mod Asking
 pub mod StayColumns
-pub mod KeptColumns
 mod Flags

@@ -11,6 +11,3 @@ pub use alive::Alive;
 pub use int_column::{IntColumn, may_push_numbers, push_numbers, unpush_numbers};
 pub use lent::{Lent, Lents};
 pub use text_column::{TextCell, TextCells, TextColumn, may_push_texts, push_texts};
-
-#[cfg(test)]
-mod tests;

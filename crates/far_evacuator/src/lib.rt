@@ -16,6 +16,3 @@ pub use evacuation::{Carried, EvacForm, EvacJob};
 pub use far_form::FarForm;
 pub use fetching::{FetchJob, Fetched};
 pub use installing::install;
-
-#[cfg(test)]
-mod tests;

@@ -13,6 +13,3 @@ mod tournament;
 pub use group_extrema::GroupExtrema;
 pub use live_extrema::LiveExtrema;
 pub use spans::Span;
-
-#[cfg(test)]
-mod tests;

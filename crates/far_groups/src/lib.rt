@@ -7,6 +7,3 @@ pub mod live_totals;
 mod tallies;
 
 pub use live_totals::LiveTotals;
-
-#[cfg(test)]
-mod tests;

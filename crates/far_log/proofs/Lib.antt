@@ -12,5 +12,4 @@ pub mod RoomLaws
 pub mod Gathers
 pub mod Halves
 pub mod Fits
-pub mod Distinct
 pub mod Compactions

@@ -188,6 +188,3 @@ impl<T: Copy + Drop> ChunkedVec<T> {
         self.len = self.len.min(len);
     }
 }
-
-#[cfg(test)]
-mod tests;

@@ -257,6 +257,3 @@ impl<T: Elem> Region<T> {
         segment.range_mut(at.offset, from, to)
     }
 }
-
-#[cfg(test)]
-mod tests;

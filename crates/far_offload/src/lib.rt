@@ -14,6 +14,3 @@ mod plain;
 
 pub use job::OffloadJob;
 pub use partial::PartialDone;
-
-#[cfg(test)]
-mod tests;

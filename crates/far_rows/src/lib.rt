@@ -14,6 +14,3 @@ pub use new_row::NewRow;
 pub use object::Object;
 pub use rows::Rows;
 pub use slot::Slot;
-
-#[cfg(test)]
-mod tests;

@@ -14,6 +14,3 @@ pub use objects::Objects;
 pub use renewal::Renewal;
 pub use replacement::Replacement;
 pub use scope::Scope;
-
-#[cfg(test)]
-mod tests;

@@ -6,5 +6,8 @@ pub mod WordLaws
 pub mod TestLaws
 pub mod KindLaws
 pub mod PrintLaws
-pub mod Reaching
-pub mod BoundLaws
+pub mod FlowLaws
+pub mod DumpLaws
+pub mod RowLaws
+pub mod LoadLaws
+pub mod BreakLaws

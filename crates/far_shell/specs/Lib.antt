@@ -6,7 +6,10 @@ pub mod Commands
 pub mod Watches
 pub mod Openings
 pub mod Printing
+pub mod Replies
 pub mod Scripts
+pub mod Breaks
 pub mod Faults
 pub mod Listings
-pub mod Bounds
+pub mod Flow
+pub mod Progress

@@ -1,11 +1,13 @@
--- Cells as they are listed.
-use Rattle.std.specs.Prelude.{ℕ, Bool, List, [], ◌∷◌, if◌then◌else◌}
+-- The rows of a table as they are listed.
+use Rattle.std.specs.Prelude.{ℕ, Bool, false, List, [], ◌∷◌, ◌++◌, codes, length, map, slice_get, if◌then◌else◌}
+use Rattle.std.specs.Option.{option_map_or}
 use Rattle.std.specs.Fmt.{signed_decimal}
-use Rattle.csv.specs.Writing.{default_writer, field_text}
+use Rattle.csv.specs.Writing.{default_writer, field_text, row_text}
 use Rattle.far_types.specs.declared.cell.Cell.{Cell}
 use Rattle.far_types.specs.declared.cell.Cell.TheVariants as cell
+use Rattle.far_types.specs.Table.{Table, Place, rows_of}
 use Rattle.far_shell.specs.Fields.{missing_mark}
-use Rattle.far_shell.specs.Printing.{record_text}
+use Rattle.far_shell.specs.Printing.{numbered_text, record_text, texts_of}
 
 -- what stands for a cell, before it is quoted
 abbrev pub cell_text : Cell → List ℕ
@@ -16,3 +18,19 @@ cell_text cell.Missing = missing_mark
 -- a field of a record, as the csv writer writes it: the only one, or one of several
 abbrev pub field_in_record : Bool → List ℕ → List ℕ
 field_in_record is_lone text = if is_lone then record_text (text ∷ []) else field_text default_writer text
+
+-- the cells of a place
+abbrev pub cells_at : ℕ → List Place → List Cell
+cells_at p places = option_map_or (λ place. place.cells) (slice_get places p) []
+
+-- whether there is a row at a place
+abbrev pub is_live : ℕ → List Place → Bool
+is_live p places = option_map_or (λ place. place.alive) (slice_get places p) false
+
+-- a row as the csv writer writes it
+abbrev pub row_line : List Cell → List ℕ
+row_line cells = row_text default_writer (map cell_text cells)
+
+-- the live rows, and before them how many there are
+abbrev pub dump_text : Table → List ℕ
+dump_text table = numbered_text (codes "rows") (length (rows_of table.places)) ++ texts_of row_line (rows_of table.places)

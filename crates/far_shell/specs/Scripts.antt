@@ -1,46 +1,96 @@
--- What a line of a script makes of the state, and what is printed for it.
-use Rattle.std.specs.Prelude.{◌≡◌, ℕ, List, ◌++◌, Option, None, Some, codes}
-use Rattle.far_frame.specs.declared.step.Step.{Step}
-use Rattle.far_frame.specs.declared.step.Step.TheVariants as step
-use Rattle.far_frame.specs.declared.step.Reply.{Reply}
-use Rattle.far_frame.specs.declared.step.Reply.TheVariants as reply
-use Rattle.far_frame.specs.Steps.{State, IsStep, IsRun}
-use Rattle.far_shell.specs.declared.command.Command.{Command}
-use Rattle.far_shell.specs.declared.command.Command.TheVariants as command
-use Rattle.far_shell.specs.Printing.{numbered_text, answer_text, refusal_text}
+-- What the lines of a script are answered, and a whole script.
+use Rattle.std.specs.Prelude.{◌≡◌, ◌⊎◌, ℕ, ◌+◌, Bool, false, ◌==◌, List, [], ◌∷◌, ◌++◌, Some, codes, IsUtf8}
+use Rattle.std.specs.List.{list_any, flat_map}
+use Rattle.std.specs.Io.BufRead.{strip_last}
+use Rattle.far_frame.specs.Steps.{empty_state}
+use Rattle.far_shell.specs.Openings.{Opened, opening_of}
+use Rattle.far_shell.specs.Commands.{command_of}
+use Rattle.far_shell.specs.Progress.{At}
+use Rattle.far_shell.specs.Replies.{ServesLine}
 
--- the step that a command asks for; a load has a step for each of its records, and a dump has none
-abbrev pub step_of : Command → Option Step
-step_of (command.Edit e) = Some (step.Edit e)
-step_of (command.Watch spec) = Some (step.Watch spec)
-step_of (command.Unwatch a) = Some (step.Unwatch a)
-step_of (command.Scan a g) = Some (step.ScanGroup a g)
-step_of (command.Ask a) = Some (step.Ask a)
-step_of (command.Load bytes) = None
-step_of command.Dump = None
+-- one line of a script without its line feed, the bytes behind it that belong to it, and what is printed for it
+pub record Turn : Type 0 where
+  pub line : List ℕ
+  pub rows : List ℕ
+  pub text : List ℕ
 
--- the line of a reply, or the lines of an answer
-abbrev pub reply_text : Reply → List ℕ
-reply_text (reply.Place place) = numbered_text (codes "place") place
-reply_text reply.Done = codes "ok\n"
-reply_text (reply.Aggregate a) = numbered_text (codes "aggregate") a
-reply_text (reply.Answer answer) = answer_text answer
-reply_text (reply.Refused refusal) = refusal_text refusal
+abbrev pub is_line_feed : ℕ → Bool
+is_line_feed c = c == 10
 
--- from old the state goes to new by this one step, and its reply is printed
-abbrev pub Takes : State → Step → State → List ℕ → List ℕ → Type 0
-Takes old s new before after = (given : Reply) × IsStep old s given new × (after ≡ before ++ reply_text given)
+-- a line without the carriage return at its end
+abbrev pub without_return : List ℕ → List ℕ
+without_return line = strip_last 13 line
 
--- the same of a command, where it is a step
-abbrev pub Answers : State → Option Step → State → List ℕ → List ℕ → Type 0
-Answers old None new before after = new ≡ old
-Answers old (Some s) new before after = Takes old s new before after
+-- an empty line is no command; any other is text, and the next command
+abbrev pub AnswersLine : At → List ℕ → List ℕ → List ℕ → At → Type 0
+AnswersLine old [] rows text new = (rows ≡ []) × (text ≡ []) × (new ≡ old)
+AnswersLine old (c ∷ cs) rows text new =
+    IsUtf8 (c ∷ cs) × (new.number ≡ old.number + 1)
+    × ServesLine new.number old.state (command_of old.state.table.schema (c ∷ cs)) rows text new.state
 
--- the same of a line: one that spells no command changes nothing
-abbrev pub AnswersLine : ℕ → State → Option Command → State → List ℕ → List ℕ → Type 0
-AnswersLine number old None new before after = (new ≡ old) × (after ≡ before ++ numbered_text (codes "syntax command") number)
-AnswersLine number old (Some asked) new before after = Answers old (step_of asked) new before after
+-- no line feed is within
+abbrev pub IsOneLine : List ℕ → Type 0
+IsOneLine line = list_any is_line_feed line ≡ false
 
--- some steps lead from one state to the other
-abbrev pub Reaches : State → State → Type 0
-Reaches old new = (steps : List Step) × (replies : List Reply) × IsRun old steps replies new
+-- one turn
+abbrev pub IsTurn : At → Turn → At → Type 0
+IsTurn old turn new = IsOneLine turn.line × AnswersLine old (without_return turn.line) turn.rows turn.text new
+
+-- the bytes of a turn
+abbrev pub bytes_of : Turn → List ℕ
+bytes_of turn = turn.line ++ 10 ∷ turn.rows
+
+abbrev pub text_of : Turn → List ℕ
+text_of turn = turn.text
+
+-- turns follow one another
+abbrev pub AreTurns : At → List Turn → At → Type 0
+AreTurns old [] new = new ≡ old
+AreTurns old (turn ∷ turns) new = (mid : At) × IsTurn old turn mid × AreTurns mid turns new
+
+-- these bytes are whole lines and what belongs to them, and are answered by this text
+abbrev pub Answers : At → List ℕ → List ℕ → At → Type 0
+Answers old bytes text new = (turns : List Turn) × (bytes ≡ flat_map bytes_of turns) × (text ≡ flat_map text_of turns) × AreTurns old turns new
+
+-- the rest of a script is answered: whole lines, and a last one, which lacks its end and may be empty
+pub record Ends (old : At) (script text : List ℕ) : Type 0 where
+  pub bytes : List ℕ
+  pub printed : List ℕ
+  pub mid : At
+  pub answered : Answers old bytes printed mid
+  pub last : List ℕ
+  pub line : IsOneLine last
+  pub tail : List ℕ
+  pub new : At
+  pub answers : AnswersLine mid last [] tail new
+  pub whole : script ≡ bytes ++ last
+  pub said : text ≡ printed ++ tail
+
+-- a line opens an empty table of its columns and limits
+abbrev pub IsOpenedBy : List ℕ → At → Type 0
+IsOpenedBy line at = (opened : Opened) × (opening_of line ≡ Some opened) × (at ≡ record { state = empty_state opened.0 opened.1; number = 1 })
+
+-- lines without a byte
+abbrev pub Blank : List ℕ → List (List ℕ) → Type 0
+Blank bytes [] = bytes ≡ []
+Blank bytes (line ∷ lines) = (rest : List ℕ) × (without_return line ≡ []) × (bytes ≡ line ++ 10 ∷ rest) × Blank rest lines
+
+-- the first command of a script opens a table; it may lack its end only where nothing comes behind it
+pub record Opens (bytes : List ℕ) (spent : Type 0) (at : At) : Type 0 where
+  pub blanks : List (List ℕ)
+  pub blank : List ℕ
+  pub empty : Blank blank blanks
+  pub line : List ℕ
+  pub one : IsOneLine line
+  pub opens : ((bytes ≡ blank ++ line ++ 10 ∷ []) × IsOpenedBy (without_return line) at) ⊎ ((bytes ≡ blank ++ line) × IsOpenedBy line at × spent)
+
+-- a whole script is answered by a text
+pub record IsScript (script text : List ℕ) : Type 0 where
+  pub first : List ℕ
+  pub rest : List ℕ
+  pub tail : List ℕ
+  pub at : At
+  pub opens : Opens first (rest ≡ []) at
+  pub ends : Ends at rest tail
+  pub whole : script ≡ first ++ rest
+  pub said : text ≡ codes "ok\n" ++ tail

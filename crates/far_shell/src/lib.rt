@@ -14,6 +14,7 @@ mod opening;
 mod output;
 mod page;
 mod print;
+mod progress;
 mod record;
 mod script;
 mod serve;

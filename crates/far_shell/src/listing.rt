@@ -1,7 +1,11 @@
 // The rows of a table as text.
-ghost use Rattle.std.specs.Prelude.{◌≡◌, ◌++◌, OnOk, IfErr};
+ghost use Rattle.std.specs.Prelude.{◌≡◌, map, drop, length, ◌++◌, OnOk, IfErr};
 ghost use Rattle.far_frame.specs.Columns.{lent_cell};
-ghost use Rattle.far_shell.specs.Listings.{cell_text, field_in_record};
+ghost use Rattle.csv.specs.Writing.{default_writer, fields_text};
+ghost use Rattle.far_types.specs.Table.{rows_of};
+ghost use Rattle.far_shell.specs.Breaks.{PrintsCut};
+ghost use Rattle.far_shell.specs.Flow.{Prints};
+ghost use Rattle.far_shell.specs.Listings.{cell_text, cells_at, dump_text, field_in_record, is_live, row_line};
 
 use super::fault::ShellFault;
 use super::output::Output;
@@ -39,38 +43,75 @@ fn cell(page: &mut Page, is_lone: bool, cell: CellRef) -> Result<(), Refusal>
     }
 }
 
+/// The fields of a row behind its first.
+fn more_fields(page: &mut Page, frame: &Frame, place: u32) -> Result<(), Refusal>
+    ensures ok { OnOk result (page.new ≡ page.old ++ fields_text default_writer (map cell_text (drop 1 (cells_at place frame.now.table.places)))) }
+    ensures memory { IfErr result (λ e. e ≡ Refusal.NoMemory) }
+{
+    for column in 1..u32::MAX {
+        let Some(lent) = frame.cell(place, column) else {
+            return Ok(());
+        };
+        page.text(",")?;
+        cell(page, false, lent)?;
+    }
+    Err(Refusal::NoMemory)
+}
+
 /// A row as a line.
-fn row(page: &mut Page, frame: &Frame, place: u32) -> Result<(), Refusal> {
-    let width = frame.schema().len() as u32;
-    for column in 0..width {
-        if column > 0 {
-            page.text(",")?;
-        }
-        if let Some(lent) = frame.cell(place, column) {
-            cell(page, width == 1, lent)?;
+fn row(page: &mut Page, frame: &Frame, place: u32) -> Result<(), Refusal>
+    ensures ok { OnOk result (page.new ≡ page.old ++ row_line (cells_at place frame.now.table.places)) }
+    ensures memory { IfErr result (λ e. e ≡ Refusal.NoMemory) }
+{
+    match frame.cell(place, 0) {
+        None => page.text("\"\"")?,
+        Some(first) => {
+            let is_lone = frame.cell(place, 1).is_none();
+            cell(page, is_lone, first)?;
+            more_fields(page, frame, place)?;
         }
     }
-    page.text("\n")
+    page.text("\n")?;
+    Ok(())
+}
+
+/// Whether there is a row at a place.
+fn is_live(frame: &Frame, place: u32) -> bool
+    ensures { result ≡ is_live place frame.now.table.places }
+{
+    match frame.is_alive(place) {
+        Some(alive) => alive,
+        None => false,
+    }
 }
 
 /// How many rows are alive.
-fn live_rows(frame: &Frame) -> u64 {
+fn live_rows(frame: &Frame) -> u64
+    ensures { result ≡ length (rows_of frame.now.table.places) }
+{
     let mut count = 0u64;
     for place in 0..frame.places() {
-        if frame.is_alive(place) == Some(true) {
-            count = count.saturating_add(1);
+        if is_live(frame, place) {
+            count += 1;
         }
     }
     count
 }
 
 /// `rows COUNT`, and the live rows in the order of their places, as the csv writer writes them.
-pub fn dump<W: Write>(frame: &Frame, output: &mut Output<W>) -> Result<(), ShellFault> {
-    numbered(&mut output.page, "rows", live_rows(frame))?;
+pub fn dump<W: Write>(frame: &Frame, output: &mut Output, writer: &mut W) -> Result<(), ShellFault>
+    ensures ok { OnOk result (Prints (W.contents writer.old) output.old.page (dump_text frame.now.table) (W.contents writer.new) output.new.page) }
+    ensures err { IfErr result (λ fault. PrintsCut fault (λ said. said ≡ dump_text frame.now.table) (W.contents writer.old) output.old.page (W.contents writer.new) output.new.page) }
+{
+    output.reply.truncate(0);
+    numbered(&mut output.reply, "rows", live_rows(frame))?;
+    output.add()?;
     for place in 0..frame.places() {
-        if frame.is_alive(place) == Some(true) {
-            row(&mut output.page, frame, place)?;
-            output.flush_if_full()?;
+        if is_live(frame, place) {
+            output.reply.truncate(0);
+            row(&mut output.reply, frame, place)?;
+            output.add()?;
+            output.flush_if_full(writer)?;
         }
     }
     Ok(())

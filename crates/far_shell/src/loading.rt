@@ -1,6 +1,8 @@
 // The rows of a load.
-ghost use Rattle.std.specs.Prelude.{◌≡◌, OnOk, IfErr};
-ghost use Rattle.far_shell.specs.Scripts.{Reaches};
+ghost use Rattle.std.specs.Prelude.{◌≡◌, OnOk, IfErr, IfOk};
+ghost use Rattle.csv.specs.Records.{fields_of};
+ghost use Rattle.far_frame.specs.Steps.{IsStep};
+ghost use Rattle.far_shell.specs.Replies.{Loads, insert_of_record, records_of};
 
 use super::bounded::MAX_BYTES;
 use super::field::record_cells;
@@ -11,12 +13,22 @@ use far_frame::{Reply, Step, World};
 use far_types::{Edit, Refusal, Row};
 use std::alloc::Global;
 
-/// Inserts the records of a text in order, up to the first that is refused, and prints `loaded COUNT` and the refusal, if
-/// there is one. Refused with `NoMemory` (1) alone, where the shell itself was refused memory.
-pub fn load(alloc: Global, world: &mut World, text: &str, page: &mut Page) -> Result<(), Refusal>
-    ensures reached { Reaches world.old world.new }
+/// Inserts the fields of a record as a row. Refused with `NoMemory` (1) alone, where the insert was not taken.
+fn insert_record(alloc: Global, world: &mut World, fields: &StringRecord) -> Result<Reply, Refusal>
+    ensures step { IfOk result (λ reply. IsStep world.old (insert_of_record world.old.table.schema (fields_of fields.now)) reply world.new) }
     ensures memory { IfErr result (λ e. e ≡ Refusal.NoMemory) }
 {
+    let cells = record_cells(alloc, world.frame().schema().as_slice(), fields)?;
+    Ok(world.serve(Step::Edit(Edit::Insert(Row::new(cells)))))
+}
+
+/// Inserts the records of a text in order, up to the first that is refused, and prints `loaded COUNT` and the refusal, if
+/// there is one. Refused with `NoMemory` (1) alone, where the shell itself was refused memory.
+pub fn load(alloc: Global, world: &mut World, text: &str, reply: &mut Page) -> Result<(), Refusal>
+    ensures ok { OnOk result (Loads 0 world.old (records_of text.now) reply.new world.new) }
+    ensures memory { IfErr result (λ e. e ≡ Refusal.NoMemory) }
+{
+    reply.truncate(0);
     let mut reader = ReaderBuilder::new()
         .has_headers(false)
         .flexible(true)
@@ -25,14 +37,16 @@ pub fn load(alloc: Global, world: &mut World, text: &str, page: &mut Page) -> Re
     for count in 0..MAX_BYTES {
         match reader.read_record(&mut fields) {
             Ok(true) => {}
-            Ok(false) => return numbered(page, "loaded", u64::from(count)),
+            Ok(false) => {
+                numbered(reply, "loaded", u64::from(count))?;
+                return Ok(());
+            }
             Err(_) => return Err(Refusal::NoMemory),
         }
-        let cells = record_cells(alloc, world.frame().schema().as_slice(), &fields)?;
-        let step = Step::Edit(Edit::Insert(Row::new(cells)));
-        if let Reply::Refused(refusal) = world.serve(step) {
-            numbered(page, "loaded", u64::from(count))?;
-            return refused(page, &refusal);
+        if let Reply::Refused(refusal) = insert_record(alloc, world, &fields)? {
+            numbered(reply, "loaded", u64::from(count))?;
+            refused(reply, &refusal)?;
+            return Ok(());
         }
     }
     Err(Refusal::NoMemory)

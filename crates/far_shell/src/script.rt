@@ -1,28 +1,58 @@
 // Scripts, read as they are answered.
-ghost use Rattle.std.specs.Prelude.{◌≡◌, ◌≤◌, length, true, IfSome, OnOk};
-ghost use Rattle.far_shell.specs.Bounds.{IsSameScript};
-ghost use Rattle.far_shell.specs.Scripts.{Reaches};
+ghost use Rattle.std.specs.Prelude.{◌≡◌, ℕ, List, [], ◌++◌, codes, IfOk, IfErr, IfSome, OnOk};
+ghost use Rattle.std.specs.Io.KnownBytes.{Appends};
+ghost use Rattle.far_shell.specs.Breaks.{Breaks, BreaksOff, IsBroken, Rejection};
+ghost use Rattle.far_shell.specs.Flow.{IsSpent, IsWhole, Prints, Reads, StartsWith};
+ghost use Rattle.far_shell.specs.Scripts.{Ends, IsOpenedBy, IsScript, Opens};
 
 use super::bounded::MAX_BYTES;
 use super::fault::ShellFault;
-use super::input::Input;
-use super::listing::dump;
-use super::loading::load;
+use super::input::{Input, Line};
 use super::opening::first_line;
 use super::output::Output;
 use super::page::Page;
 use super::print::refused;
-use super::serve::{Next, answer_line};
+use super::progress::Progress;
+use super::serve::answer_line;
 use far_frame::{Frame, World};
 use far_types::{Refusal, Schema};
 use std::alloc::Global;
 use std::io::{Read, Write};
 
+/// Answers the lines that follow the first command, up to the end of the script.
+fn serve_lines<R: Read + Drop, W: Write>(
+    alloc: Global,
+    progress: &mut Progress,
+    input: &mut Input<R>,
+    output: &mut Output,
+    writer: &mut W,
+) -> Result<(), ShellFault>
+    ensures ok { OnOk result ((bytes : List ℕ) × (text : List ℕ) × Reads R.Read input.old bytes input.new × Prints (W.contents writer.old) output.old.page text (W.contents writer.new) output.new.page × Ends progress.old bytes text × IsSpent R.Read input.new) }
+    ensures err { IfErr result (λ fault. (bytes : List ℕ) × (rest : List ℕ) × (text : List ℕ) × StartsWith R.Read input.old bytes rest × Prints (W.contents writer.old) output.old.page text (W.contents writer.new) output.new.page × BreaksOff progress.old fault bytes text) }
+{
+    for _ in 0..=MAX_BYTES {
+        match input.line(output, writer)? {
+            Line::Whole(line) => answer_line(alloc, progress, line, input, output, writer)?,
+            Line::Last(line) => {
+                answer_line(alloc, progress, line, input, output, writer)?;
+                return Ok(());
+            }
+        }
+        output.flush_if_full(writer)?;
+    }
+    Err(ShellFault::Input)
+}
+
 /// The table that a first line opens. Where it opens none, because it is no such line or is refused with `BadSchema` (2),
 /// that is printed, and the fault is `BadStart`.
-fn open_line(alloc: Global, line: &str, page: &mut Page) -> Result<World, ShellFault> {
+fn open_line(alloc: Global, line: &str, output: &mut Output) -> Result<Progress, ShellFault>
+    ensures ok { IfOk result (λ progress. IsOpenedBy line.now progress × (output.new.page ≡ output.old.page ++ codes "ok\n")) }
+    ensures err { IfErr result (λ fault. (text : List ℕ) × (output.new.page ≡ output.old.page ++ text) × Rejection fault line.now text) }
+{
     let Some(opening) = first_line(alloc, line)? else {
-        page.text("syntax command 1\n")?;
+        output.reply.truncate(0);
+        output.reply.text("syntax command 1\n")?;
+        output.add()?;
         return Err(ShellFault::BadStart);
     };
     let opened = match Schema::new(opening.kinds) {
@@ -31,12 +61,17 @@ fn open_line(alloc: Global, line: &str, page: &mut Page) -> Result<World, ShellF
     };
     match opened {
         Ok(frame) => {
-            page.text("ok\n")?;
-            Ok(World::new(frame))
+            output.page.text("ok\n")?;
+            Ok(Progress {
+                world: World::new(frame),
+                number: 1,
+            })
         }
         Err(Refusal::NoMemory) => Err(ShellFault::Memory),
         Err(refusal) => {
-            refused(page, &refusal)?;
+            output.reply.truncate(0);
+            refused(&mut output.reply, &refusal)?;
+            output.add()?;
             Err(ShellFault::BadStart)
         }
     }
@@ -46,68 +81,28 @@ fn open_line(alloc: Global, line: &str, page: &mut Page) -> Result<World, ShellF
 fn open<R: Read + Drop, W: Write>(
     alloc: Global,
     input: &mut Input<R>,
-    output: &mut Output<W>,
-) -> Result<World, ShellFault>
-    ensures same { OnOk result (IsSameScript R.Read input.old.source input.new.source) }
+    output: &mut Output,
+    writer: &mut W,
+) -> Result<Progress, ShellFault>
+    ensures ok { IfOk result (λ progress. (bytes : List ℕ) × Reads R.Read input.old bytes input.new × Prints (W.contents writer.old) output.old.page (codes "ok\n") (W.contents writer.new) output.new.page × Opens bytes (IsSpent R.Read input.new) progress) }
+    ensures err { IfErr result (λ fault. (bytes : List ℕ) × (rest : List ℕ) × (text : List ℕ) × StartsWith R.Read input.old bytes rest × Prints (W.contents writer.old) output.old.page text (W.contents writer.new) output.new.page × IsBroken fault bytes rest text) }
 {
     for _ in 0..=MAX_BYTES {
-        let Some(line) = input.line(output)? else {
-            return Err(ShellFault::BadStart);
-        };
-        let line = input.text(line)?;
-        if !line.is_empty() {
-            return open_line(alloc, line, &mut output.page);
+        match input.line(output, writer)? {
+            Line::Whole(line) => {
+                if !line.is_empty() {
+                    let progress = open_line(alloc, input.text(line)?, output)?;
+                    return Ok(progress);
+                }
+            }
+            Line::Last(line) => {
+                if line.is_empty() {
+                    return Err(ShellFault::BadStart);
+                }
+                let last = open_line(alloc, input.text(line)?, output)?;
+                return Ok(last);
+            }
         }
-    }
-    Err(ShellFault::Input)
-}
-
-/// Answers what follows a command: the rows of a load, or those of a dump.
-fn finish<R: Read + Drop, W: Write>(
-    alloc: Global,
-    world: &mut World,
-    input: &mut Input<R>,
-    output: &mut Output<W>,
-    next: Next,
-) -> Result<(), ShellFault>
-    ensures reached { Reaches world.old world.new }
-    ensures same { OnOk result (IsSameScript R.Read input.old.source input.new.source) }
-{
-    match next {
-        Next::Line => Ok(()),
-        Next::Load(bytes) => {
-            let rows = input.bytes(output, bytes as usize)?;
-            load(alloc, world, input.text(rows)?, &mut output.page)?;
-            Ok(())
-        }
-        Next::Dump => dump(world.frame(), output),
-    }
-}
-
-/// Answers the lines that follow the first command, up to the end of the script.
-fn serve_lines<R: Read + Drop, W: Write>(
-    alloc: Global,
-    world: &mut World,
-    input: &mut Input<R>,
-    output: &mut Output<W>,
-) -> Result<(), ShellFault>
-    ensures reached { Reaches world.old world.new }
-    ensures same { OnOk result (IsSameScript R.Read input.old.source input.new.source) }
-    ensures ended { OnOk result (input.new.source.ended ≡ true) }
-{
-    let mut number = 1u32;
-    for _ in 0..=MAX_BYTES {
-        let Some(line) = input.line(output)? else {
-            return Ok(());
-        };
-        let line = input.text(line)?;
-        if line.is_empty() {
-            continue;
-        }
-        number = number.saturating_add(1);
-        let next = answer_line(alloc, world, line, number, &mut output.page)?;
-        finish(alloc, world, input, output, next)?;
-        output.flush_if_full()?;
     }
     Err(ShellFault::Input)
 }
@@ -116,13 +111,17 @@ fn serve_lines<R: Read + Drop, W: Write>(
 fn serve<R: Read + Drop, W: Write>(
     alloc: Global,
     reader: R,
-    output: &mut Output<W>,
+    output: &mut Output,
+    writer: &mut W,
 ) -> Result<(), ShellFault>
-    ensures { OnOk result (IfSome (R.remaining reader) (λ bytes. length bytes ≤ MAX_BYTES)) }
+    requires { output.old.page ≡ [] }
+    ensures ok { OnOk result ((script : List ℕ) × (text : List ℕ) × IsWhole (R.remaining reader) script × Prints (W.contents writer.old) [] text (W.contents writer.new) output.new.page × IsScript script text) }
+    ensures err { IfErr result (λ fault. (bytes : List ℕ) × (rest : List ℕ) × (text : List ℕ) × IfSome (R.remaining reader) (λ script. script ≡ bytes ++ rest) × Prints (W.contents writer.old) [] text (W.contents writer.new) output.new.page × IsBroken fault bytes rest text) }
 {
-    let mut input = Input::new(alloc, reader);
-    let mut world = open(alloc, &mut input, output)?;
-    serve_lines(alloc, &mut world, &mut input, output)
+    let mut input = Input::new(alloc, reader)?;
+    let mut progress = open(alloc, &mut input, output, writer)?;
+    serve_lines(alloc, &mut progress, &mut input, output, writer)?;
+    Ok(())
 }
 
 /// Runs a script: reads its commands and writes the replies, each before the reader is asked for more than was read.
@@ -136,10 +135,19 @@ pub fn run_script<T: AllocGlobal, R: Read + Drop, W: Write>(
     reader: R,
     writer: &mut W,
 ) -> Result<(), ShellFault>
-    ensures bytes { OnOk result (IfSome (R.remaining reader) (λ bytes. length bytes ≤ 16777216)) }
+    ensures ok { OnOk result ((script : List ℕ) × (text : List ℕ) × IsWhole (R.remaining reader) script × Appends (W.contents writer.old) (W.contents writer.new) text × IsScript script text) }
+    ensures err { IfErr result (λ fault. Breaks (R.remaining reader) (W.contents writer.old) (W.contents writer.new) fault) }
 {
-    let mut output = Output::new(rt.alloc(), writer);
-    let outcome = serve(rt.alloc(), reader, &mut output);
-    output.flush()?;
-    outcome
+    let mut output = Output::new(rt.alloc());
+    let outcome = serve(rt.alloc(), reader, &mut output, writer);
+    match outcome {
+        Ok(()) => {
+            output.flush(writer)?;
+            Ok(())
+        }
+        Err(fault) => {
+            output.flush(writer)?;
+            Err(fault)
+        }
+    }
 }

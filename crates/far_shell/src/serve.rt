@@ -1,27 +1,28 @@
-// Commands as steps of the table.
-ghost use Rattle.std.specs.Prelude.{◌≡◌, ◌++◌, [], ◌∷◌, IfOk, IfErr, OnOk, OnErr, codes};
+// Lines as commands, and their answers.
+ghost use Rattle.std.specs.Prelude.{◌≡◌, ℕ, List, [], ◌++◌, IfErr, OnOk, IsUtf8};
+ghost use Rattle.far_frame.specs.declared.step.Reply.{Reply};
 ghost use Rattle.far_frame.specs.Steps.{IsStep};
+ghost use Rattle.far_shell.specs.Breaks.{PrintsCut};
 ghost use Rattle.far_shell.specs.Commands.{command_of};
+ghost use Rattle.far_shell.specs.Flow.{Prints, Reads, Holds, spanned};
 ghost use Rattle.far_shell.specs.Printing.{numbered_text};
-ghost use Rattle.far_shell.specs.Scripts.{Answers, AnswersLine, Reaches, Takes, reply_text, step_of};
+ghost use Rattle.far_shell.specs.Progress.{At};
+ghost use Rattle.far_shell.specs.Replies.{Serves, ServesLine, Takes, reply_text};
+ghost use Rattle.far_shell.specs.Scripts.{AnswersLine};
 
 use super::command::{Command, parse};
+use super::fault::ShellFault;
+use super::input::{Input, Span};
+use super::listing::dump;
+use super::loading::load;
+use super::output::Output;
 use super::page::Page;
 use super::print::{answer, numbered, refused};
-use far_frame::{Reply, Step, World, run};
+use super::progress::Progress;
+use far_frame::{Reply, Step, World};
 use far_types::Refusal;
 use std::alloc::Global;
-
-/// What follows a command.
-#[derive(Clone, Copy, Debug, PartialEq, Eq)]
-pub enum Next {
-    /// The next line.
-    Line,
-    /// The rows of a load: as many bytes as said.
-    Load(u32),
-    /// The rows of the table are to be printed.
-    Dump,
-}
+use std::io::{Read, Write};
 
 /// The line of a reply, or the lines of an answer.
 pub fn print_reply(page: &mut Page, reply: &Reply) -> Result<(), Refusal>
@@ -37,95 +38,101 @@ pub fn print_reply(page: &mut Page, reply: &Reply) -> Result<(), Refusal>
     }
 }
 
-/// The reply to one step, which `run` takes. Refused with `NoMemory` (1) alone, where it was not taken.
-pub fn take_step(alloc: Global, world: &mut World, step: Step) -> Result<Reply, Refusal>
-    ensures step { IfOk result (λ reply. IsStep world.old step reply world.new) }
-    ensures reached { Reaches world.old world.new }
-    ensures memory { IfErr result (λ e. e ≡ Refusal.NoMemory) }
-{
-    let mut steps = Vec::with_capacity(alloc, 1)?;
-    steps.push_reserved(step);
-    let mut replies = run(world, steps)?;
-    match replies.pop() {
-        Some(reply) => Ok(reply),
-        None => unreachable!(),
-    }
-}
-
 /// Takes a step, and prints its reply.
-fn answer_step(alloc: Global, world: &mut World, step: Step, page: &mut Page) -> Result<(), Refusal>
-    ensures ok { OnOk result (Takes world.old step world.new page.old page.new) }
-    ensures reached { Reaches world.old world.new }
+fn take_step(world: &mut World, step: Step, reply: &mut Page) -> Result<(), Refusal>
+    ensures ok { OnOk result (Takes world.old step reply.new world.new) }
     ensures memory { IfErr result (λ e. e ≡ Refusal.NoMemory) }
 {
-    let reply = take_step(alloc, world, step)?;
-    print_reply(page, &reply)
+    reply.truncate(0);
+    let given = world.serve(step);
+    print_reply(reply, &given)
 }
 
-/// Answers a command, but for the rows of a load or a dump, which follow.
-fn answer_command(
+/// Answers a command, with the bytes behind its line that belong to it.
+fn answer_command<R: Read + Drop, W: Write>(
     alloc: Global,
     world: &mut World,
     command: Command,
-    page: &mut Page,
-) -> Result<Next, Refusal>
-    ensures ok { OnOk result (Answers world.old (step_of command) world.new page.old page.new) }
-    ensures reached { Reaches world.old world.new }
-    ensures memory { IfErr result (λ e. e ≡ Refusal.NoMemory) }
+    input: &mut Input<R>,
+    output: &mut Output,
+    writer: &mut W,
+) -> Result<(), ShellFault>
+    ensures ok { OnOk result ((rows : List ℕ) × (text : List ℕ) × Reads R.Read input.old rows input.new × Prints (W.contents writer.old) output.old.page text (W.contents writer.new) output.new.page × Serves world.old command rows text world.new) }
+    ensures err { IfErr result (λ fault. PrintsCut fault (λ said. Serves world.old command [] said world.old) (W.contents writer.old) output.old.page (W.contents writer.new) output.new.page) }
 {
-    let step = match command {
-        Command::Edit(edit) => Step::Edit(edit),
-        Command::Watch(spec) => Step::Watch(spec),
-        Command::Unwatch(aggregate) => Step::Unwatch(aggregate),
-        Command::Scan { aggregate, group } => Step::ScanGroup(aggregate, group),
-        Command::Ask(aggregate) => Step::Ask(aggregate),
-        Command::Load(bytes) => return Ok(Next::Load(bytes)),
-        Command::Dump => return Ok(Next::Dump),
-    };
-    answer_step(alloc, world, step, page)?;
-    Ok(Next::Line)
+    match command {
+        Command::Step(step) => {
+            take_step(world, step, &mut output.reply)?;
+            output.add()?;
+            Ok(())
+        }
+        Command::Load(count) => {
+            let rows = input.bytes(output, writer, count as usize)?;
+            load(alloc, world, input.text(rows)?, &mut output.reply)?;
+            output.add()?;
+            Ok(())
+        }
+        Command::Dump => {
+            dump(world.frame(), output, writer)?;
+            Ok(())
+        }
+    }
 }
 
-/// Answers a line: the command that it spells, or else `syntax command NUMBER`.
-fn answer_words(
+/// Answers a line that is not empty: the command that it spells, or else `syntax command NUMBER`.
+fn answer_words<R: Read + Drop, W: Write>(
     alloc: Global,
     world: &mut World,
-    line: &str,
+    line: Span,
     number: u32,
-    page: &mut Page,
-) -> Result<Next, Refusal>
-    ensures ok { OnOk result (AnswersLine number world.old (command_of world.old.table.schema line.now) world.new page.old page.new) }
-    ensures reached { Reaches world.old world.new }
-    ensures memory { IfErr result (λ e. e ≡ Refusal.NoMemory) }
+    input: &mut Input<R>,
+    output: &mut Output,
+    writer: &mut W,
+) -> Result<(), ShellFault>
+    requires { Holds R.Read input.old line }
+    ensures text { OnOk result (IsUtf8 (spanned R.Read input.old line)) }
+    ensures ok { OnOk result ((rows : List ℕ) × (text : List ℕ) × Reads R.Read input.old rows input.new × Prints (W.contents writer.old) output.old.page text (W.contents writer.new) output.new.page × ServesLine number world.old (command_of world.old.table.schema (spanned R.Read input.old line)) rows text world.new) }
+    ensures err { IfErr result (λ fault. PrintsCut fault (λ said. IsUtf8 (spanned R.Read input.old line) × ServesLine number world.old (command_of world.old.table.schema (spanned R.Read input.old line)) [] said world.old) (W.contents writer.old) output.old.page (W.contents writer.new) output.new.page) }
 {
-    match parse(alloc, world.frame().schema().as_slice(), line)? {
-        Some(command) => answer_command(alloc, world, command, page),
+    match parse(alloc, world.frame().schema().as_slice(), input.text(line)?)? {
+        Some(command) => answer_command(alloc, world, command, input, output, writer),
         None => {
-            numbered(page, "syntax command", u64::from(number))?;
-            Ok(Next::Line)
+            output.reply.truncate(0);
+            numbered(&mut output.reply, "syntax command", u64::from(number))?;
+            output.add()?;
+            Ok(())
         }
     }
 }
 
-/// Answers a line that is not empty: the command that it spells, or else `syntax command NUMBER`. Refused with `NoMemory`
-/// (1) alone, where the shell itself was refused memory; no part of a reply is left then.
-pub fn answer_line(
+/// Answers a line: an empty one is no command, and any other the next one.
+pub fn answer_line<R: Read + Drop, W: Write>(
     alloc: Global,
-    world: &mut World,
-    line: &str,
-    number: u32,
-    page: &mut Page,
-) -> Result<Next, Refusal>
-    ensures ok { OnOk result (AnswersLine number world.old (command_of world.old.table.schema line.now) world.new page.old page.new) }
-    ensures reached { Reaches world.old world.new }
-    ensures memory { IfErr result (λ e. e ≡ Refusal.NoMemory) }
+    progress: &mut Progress,
+    line: Span,
+    input: &mut Input<R>,
+    output: &mut Output,
+    writer: &mut W,
+) -> Result<(), ShellFault>
+    requires { Holds R.Read input.old line }
+    ensures ok { OnOk result ((rows : List ℕ) × (text : List ℕ) × Reads R.Read input.old rows input.new × Prints (W.contents writer.old) output.old.page text (W.contents writer.new) output.new.page × AnswersLine progress.old (spanned R.Read input.old line) rows text progress.new) }
+    ensures err { IfErr result (λ fault. PrintsCut fault (λ said. (new : At) × AnswersLine progress.old (spanned R.Read input.old line) [] said new) (W.contents writer.old) output.old.page (W.contents writer.new) output.new.page) }
 {
-    let whole = page.len();
-    match answer_words(alloc, world, line, number, page) {
-        Ok(next) => Ok(next),
-        Err(refusal) => {
-            page.truncate(whole);
-            Err(refusal)
-        }
+    if line.is_empty() {
+        return Ok(());
     }
+    let Some(number) = progress.number.checked_add(1) else {
+        return Err(ShellFault::Input);
+    };
+    progress.number = number;
+    answer_words(
+        alloc,
+        &mut progress.world,
+        line,
+        number,
+        input,
+        output,
+        writer,
+    )?;
+    Ok(())
 }

@@ -19,6 +19,3 @@ pub use faulty::FaultyStore;
 pub use gate::GateStore;
 pub use meter::Meter;
 pub use store::{FarRead, FarStore};
-
-#[cfg(test)]
-mod tests;

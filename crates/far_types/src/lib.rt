@@ -28,6 +28,3 @@ pub use row::Row;
 pub use schema::Schema;
 pub use spec::{Fold, Spec};
 pub use text::Text;
-
-#[cfg(test)]
-mod tests;

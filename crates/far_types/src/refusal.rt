@@ -3,6 +3,7 @@ ghost use Rattle.std.specs.Prelude.{◌≡◌, codes};
 ghost use Rattle.far_types.specs.Refusals.{number_of, name_of};
 
 use std::alloc::{AllocError, AllocFailed};
+use std::fmt;
 use thiserror::Error;
 
 /// Why a call was refused. A refused call leaves rows, columns and answers as they were.
@@ -14,73 +15,50 @@ use thiserror::Error;
 #[derive(Debug, Drop, Clone, Copy, PartialEq, Eq, Error)]
 pub enum Refusal {
     /// 1: a growth was refused for want of memory.
-    #[error("NoMemory")]
     NoMemory,
     /// 2: the schema or the limits are outside what a table may have.
-    #[error("BadSchema")]
     BadSchema,
     /// 3: more than 4 tests, a text constant of more than 4,096 bytes, or a gauge that is not totals without key.
-    #[error("BadSpec")]
     BadSpec,
     /// 4: there is no such column.
-    #[error("NoColumn")]
     NoColumn,
     /// 5: a cell, a constant or a column is of the other kind.
-    #[error("WrongKind")]
     WrongKind,
     /// 6: a row has another number of cells than the schema.
-    #[error("RowWidth")]
     RowWidth,
     /// 7: a text cell has more than 4,096 bytes.
-    #[error("TextTooLong")]
     TextTooLong,
     /// 8: there is no such place.
-    #[error("NoRow")]
     NoRow,
     /// 9: the place is dead.
-    #[error("RemovedRow")]
     RemovedRow,
     /// 10: the limit of places is reached.
-    #[error("TableFull")]
     TableFull,
     /// 11: the far form of a text object would be longer than a text segment.
-    #[error("ChunkFull")]
     ChunkFull,
     /// 12: no aggregate has this number.
-    #[error("NoAggregate")]
     NoAggregate,
     /// 13: 32 aggregates are registered, or 2^32 registrations were made.
-    #[error("TooManyAggregates")]
     TooManyAggregates,
     /// 14: a range, a group, a segment, a stripe, a count of workers or a set of sessions is not as asked.
-    #[error("OutOfRange")]
     OutOfRange,
     /// 15: so many row groups are still to be built into the aggregate.
-    #[error("Building {0}")]
     Building(u32),
     /// 16: the object of this column and row group is not local.
-    #[error("Absent {column} {group}")]
     Absent { column: u32, group: u32 },
     /// 17: what must be placed fits in no segment of the local region; of a compaction, no other segment is empty.
-    #[error("RegionFull")]
     RegionFull,
     /// 18: the object has no pin.
-    #[error("NotPinned")]
     NotPinned,
     /// 19: the object has a pin.
-    #[error("Pinned")]
     Pinned,
     /// 20: what the job or the scan rests on does not hold.
-    #[error("StaleJob")]
     StaleJob,
     /// 21: the far store failed in this call.
-    #[error("FarFault")]
     FarFault,
     /// 22: the number drawn from the far store is not below its capacity.
-    #[error("FarFull")]
     FarFull,
     /// 24: the limit of edits, of jobs, of writes to one object or of pins is reached.
-    #[error("EditsUsedUp")]
     EditsUsedUp,
 }
 
@@ -144,6 +122,17 @@ impl Refusal {
             Refusal::FarFault => "FarFault",
             Refusal::FarFull => "FarFull",
             Refusal::EditsUsedUp => "EditsUsedUp",
+        }
+    }
+}
+
+/// The refusal's name, and behind it the numbers that it carries.
+impl fmt::Display for Refusal {
+    fn fmt<W: fmt::Write>(&self, f: &mut fmt::Formatter<W>) -> fmt::Result {
+        match self {
+            Refusal::Building(left) => write!(f, "{} {left}", self.name()),
+            Refusal::Absent { column, group } => write!(f, "{} {column} {group}", self.name()),
+            _ => f.write_str(self.name()),
         }
     }
 }

@@ -1,5 +1,8 @@
-use Rattle.far_shell.specs.Scripts.{Reaches}
+use Rattle.std.proofs.Common.{◌≡◌, [], ℕ, List, Bor, Some}
+use Rattle.far_shell.specs.Replies.{records_of}
+use Rattle.far_shell.proofs.LoadLaws.{GoesTo, Remains}
 use Rattle.far_shell.proofs.loading.load.Given as goal
 
 abbrev pub invariant-loop-count : goal.invariant-loop-count
-invariant-loop-count l = Reaches l.fn.world l.world
+invariant-loop-count l = (l.reply ≡ []) × (rows : List (List (List ℕ))) × Remains (λ (s : Bor (List ℕ)). Some s.now) l.reader rows
+    × GoesTo l.fn.world (records_of l.fn.text) l.count l.world rows

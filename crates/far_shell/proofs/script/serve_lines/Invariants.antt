@@ -1,6 +1,9 @@
-use Rattle.far_shell.specs.Bounds.{IsSameScript}
-use Rattle.far_shell.specs.Scripts.{Reaches}
+use Rattle.std.proofs.Common.{ℕ, List}
+use Rattle.far_shell.specs.Flow.{Reads, Prints}
+use Rattle.far_shell.specs.Scripts.{Answers}
 use Rattle.far_shell.proofs.script.serve_lines.Given as goal
 
 abbrev pub invariant-loop : goal.invariant-loop
-invariant-loop g l = Reaches l.fn.world l.world × IsSameScript g.R.Read l.fn.input.source l.input.source
+invariant-loop g l = (bytes : List ℕ) × (text : List ℕ) × Reads g.R.Read l.fn.input bytes l.input
+    × Prints (g.W.Write.contents l.fn.writer) l.fn.output.page text (g.W.Write.contents l.writer) l.output.page
+    × Answers l.fn.progress bytes text l.progress

@@ -1,0 +1,120 @@
+// Totals of many keys, joined to others.
+ghost use Rattle.std.specs.Prelude.{◌≡◌, ◌≢◌, ◌≤◌, Option, IfOk};
+ghost use Rattle.std.specs.FinMap as fin;
+ghost use Rattle.far_types.specs.declared.key.Key.{Key};
+ghost use Rattle.far_types.specs.Changes.{count_in};
+
+use crate::keys::Pair;
+use crate::totals::{answer, live_of, merge};
+use far_groups::LiveTotals;
+use far_types::{Answer, Key, Refusal, Text, TotalLines};
+use std::alloc::Global;
+use std::test::Fail;
+
+/// So many keys, each this far from the next.
+type Spread = (i64, i64);
+
+/// A number as a key, or the text that it is written as.
+fn key_of(alloc: Global, number: i64, texts: bool) -> Result<Key, Refusal> {
+    if texts {
+        return Ok(Key::Text(Text::new(format!(in alloc; "{number}")?)));
+    }
+    Ok(Key::Int(number))
+}
+
+/// A row for each key of each spread.
+fn pairs(alloc: Global, texts: bool, spreads: &[Spread]) -> Result<Vec<Pair>, Refusal> {
+    let mut pairs = Vec::new(alloc);
+    for (count, step) in spreads {
+        for i in 0..*count {
+            let value = i.wrapping_mul(*step);
+            pairs.push((Some(key_of(alloc, value, texts)?), value))?;
+        }
+    }
+    Ok(pairs)
+}
+
+/// The totals of a row for each key of each spread.
+fn live_rows(
+    alloc: Global,
+    left: u32,
+    texts: bool,
+    spreads: &[Spread],
+) -> Result<LiveTotals, Refusal>
+    ensures left { IfOk result (λ live. live.left ≡ left) }
+    ensures few { IfOk result (λ live. (key : Option Key) → count_in (fin.get live.totals key) ≤ 300) }
+{
+    live_of(alloc, left, pairs(alloc, texts, spreads)?)
+}
+
+/// The lines of an answer.
+fn lines_of(alloc: Global, live: &LiveTotals) -> Result<TotalLines, Refusal> {
+    match answer(alloc, live)? {
+        Answer::Totals(lines) => Ok(lines),
+        Answer::Extrema(_) => Err(Refusal::WrongKind),
+    }
+}
+
+/// Whether the totals are those of a row for each key of each spread.
+fn are_of_rows(
+    alloc: Global,
+    live: &LiveTotals,
+    texts: bool,
+    spreads: &[Spread],
+) -> Result<bool, Refusal> {
+    let all = live_rows(alloc, 0, texts, spreads)?;
+    let expected = lines_of(alloc, &all)?;
+    Ok(lines_of(alloc, live)?.as_slice() == expected.as_slice())
+}
+
+/// Merges the rows of a spread. Says whether a refused call left what it found.
+fn merge_rows(
+    alloc: Global,
+    live: &mut LiveTotals,
+    texts: bool,
+    spread: Spread,
+) -> Result<bool, Refusal>
+    requires left { live.old.left ≢ 0 }
+    requires few { (key : Option Key) → count_in (fin.get live.old.totals key) ≤ 300 }
+{
+    let partial = live_rows(alloc, 0, texts, &[spread])?;
+    merge(live, &partial)
+}
+
+/// Whether the rows of one spread, merged to those of another, have the totals of all of them.
+fn are_joined(alloc: Global, texts: bool, here: Spread, there: Spread) -> Result<bool, Refusal> {
+    let mut live = live_rows(alloc, 1, texts, &[here])?;
+    let kept = merge_rows(alloc, &mut live, texts, there)?;
+    Ok(kept && are_of_rows(alloc, &live, texts, &[here, there])?)
+}
+
+static SPREADS: [(Spread, Spread); 6] = [
+    ((60, 2), (40, 3)),
+    ((120, 1), (120, 1)),
+    ((17, 7), (120, 1)),
+    ((0, 1), (120, 1)),
+    ((120, 1), (2, 110)),
+    ((120, 1), (2, 130)),
+];
+
+#[test]
+fn two_maps_of_many_numbers_are_joined_as_row_by_row(rt: HostRuntime) -> Result<(), Fail> {
+    for (here, there) in &SPREADS {
+        assert!(rt;
+            are_joined(rt.alloc(), false, *here, *there)?,
+            "{here:?} {there:?}"
+        );
+    }
+    Ok(())
+}
+
+#[test]
+fn two_maps_of_many_texts_are_joined_as_row_by_row(rt: HostRuntime) -> Result<(), Fail> {
+    for (here, there) in &SPREADS {
+        assert!(rt;
+            are_joined(rt.alloc(), true, *here, *there)?,
+            "{here:?} {there:?}"
+        );
+    }
+    Ok(())
+}

@@ -1,0 +1,2 @@
+mod Walking
+mod KeptColumns

@@ -1,0 +1,26 @@
+#![tactic(auto)]
+//! What no clause of far_columns says: that calls are served, that worked examples come out as they should, and that random
+//! calls agree with plain lists.
+
+#[cfg(test)]
+mod alive;
+#[cfg(test)]
+mod coming_back;
+#[cfg(test)]
+mod lending;
+#[cfg(test)]
+mod moving;
+#[cfg(test)]
+mod number_column;
+#[cfg(test)]
+mod number_columns;
+#[cfg(test)]
+mod random_run;
+#[cfg(test)]
+mod script;
+#[cfg(test)]
+mod text_column;
+#[cfg(test)]
+mod text_columns;
+#[cfg(test)]
+mod words;

@@ -1,0 +1,54 @@
+// Objects that go away and come back: worked examples.
+ghost use Rattle.std.specs.Prelude.{◌≡◌, []};
+
+use crate::again::arrive;
+use crate::fixture::{create_away, empty, has, with_agent};
+use far_scopes::Objects;
+use far_store::FarStore;
+use far_types::Refusal;
+use std::alloc::Global;
+use std::test::Fail;
+
+/// Why an object that went away is not lent.
+fn refused_away<S: FarStore>(alloc: Global, store: &S) -> Result<Option<Refusal>, Refusal> {
+    let mut objects = empty(alloc, store)?;
+    create_away(alloc, store, &mut objects, &[1, 2])?;
+    Ok(objects.lend(0).err())
+}
+
+fn came_back_clean<S: FarStore>(alloc: Global, store: &S) -> Result<bool, Refusal> {
+    is_clean_once_back(alloc, store, &mut empty(alloc, store)?)
+}
+
+/// Whether an object that went away and came back has its list, and is not dirty.
+fn is_clean_once_back<S: FarStore>(
+    alloc: Global,
+    store: &S,
+    objects: &mut Objects<i64, S>,
+) -> Result<bool, Refusal>
+    requires none { objects.old.entries ≡ [] }
+    requires leaves { objects.old.leavings ≡ 1 }
+{
+    create_away(alloc, store, objects, &[1, 2])?;
+    arrive(objects, 0, &[1, 2])?;
+    Ok(has(objects, 0, &[1, 2]) && !objects.word(0).dirty())
+}
+
+#[test]
+fn an_object_that_went_away_is_absent_under_its_name(rt: HostRuntime) -> Result<(), Fail> {
+    let refused = with_agent(&rt, |alloc, store| refused_away(alloc, store))?;
+    assert!(rt;
+        refused
+            == Some(Refusal::Absent {
+                column: 0,
+                group: 3,
+            })
+    );
+    Ok(())
+}
+
+#[test]
+fn an_object_that_came_back_is_clean_and_has_its_list(rt: HostRuntime) -> Result<(), Fail> {
+    assert!(rt; with_agent(&rt, |alloc, store| came_back_clean(alloc, store))?);
+    Ok(())
+}

@@ -1,0 +1,306 @@
+-- What is read, printed and answered, one part after another.
+use Rattle.std.proofs.Common.{◌≡◌, ◌==◌, ◌+◌, ◌-◌, ◌≤◌, ◌<◌, ℕ, suc, true, false, ◌⊎◌, inl, inr, List, [], ◌∷◌, ◌++◌, length, take, drop, slice_index, slice_range, Option, Some, None, append_assoc, append-nil, length-append, take-append-drop, ◌∙◌, refl, sym, ap, subst, arith}
+use Rattle.std.specs.List.{list_any, flat_map}
+use Rattle.std.proofs.Math.Seq.{take-add, drop-cons}
+use Rattle.std.proofs.lemmas.List.{take_rest, length-take, length-take-le, take-take}
+use Rattle.std.proofs.lemmas.List.Folds.{drop_split}
+use Rattle.std.proofs.lemmas.Grind.{flat_map-append}
+use Rattle.std.specs.Io.KnownBytes.{Appends, Consumes, Keeps}
+use Rattle.std.proofs.KnownBytes.{Appends-nil, Appends-trans, Appends-kept, Consumes-nil, Consumes-trans}
+use Rattle.std.specs.declared.io.traits.Read.{Ghosts}
+use Rattle.far_shell.specs.declared.input.Input.{Input}
+use Rattle.far_shell.specs.Flow.{Prints, Reads, unread, IsSpent, IsWhole}
+use Rattle.far_shell.specs.Progress.{At}
+use Rattle.std.specs.Prelude.{codes, IsUtf8, IfSome, unwrap_or}
+use Rattle.std.specs.Io.BufRead.{strip_last}
+use Rattle.far_shell.specs.Commands.{command_of}
+use Rattle.far_shell.specs.Replies.{ServesLine}
+use Rattle.far_shell.specs.Scripts.{Turn, bytes_of, text_of, IsTurn, AreTurns, Answers, AnswersLine, Ends, Blank, Opens, IsOpenedBy, IsScript, without_return}
+
+-- what a writer took in parts
+pub written-on : (u v w : Option (List ℕ)) (bytes : List ℕ) (n m : ℕ) → Appends u v (take n bytes) → Appends v w (take m (drop n bytes)) → Appends u w (take (n + m) bytes)
+written-on u v w bytes n m p q = subst (Appends u w) (sym (take-add n m bytes)) (Appends-trans u v w (take n bytes) (take m (drop n bytes)) p q)
+
+pub written-rest : (u v w : Option (List ℕ)) (bytes : List ℕ) (n m : ℕ) → Appends u v (take n bytes) → Appends v w (take m (take (length bytes - n) (drop n bytes))) → Appends u w (take (n + m) bytes)
+written-rest u v w bytes n m p q = written-on u v w bytes n m p (subst (λ (t : List ℕ). Appends v w (take m t)) (take_rest bytes n) q)
+
+pub dropped : (bytes : List ℕ) (n : ℕ) → n ≤ length bytes → n + length (drop n bytes) ≡ length bytes
+dropped bytes n low = omega (arith, ap (λ (t : List ℕ). length t) (take-append-drop n bytes), length-append (take n bytes) (drop n bytes), length-take-le n bytes low)
+
+pub within-rest : (bytes : List ℕ) (n m : ℕ) → n ≤ length bytes → m ≤ length (take (length bytes - n) (drop n bytes)) → n + m ≤ length bytes
+within-rest bytes n m low h =
+    let rest : m ≤ length (drop n bytes) = subst (λ (t : List ℕ). m ≤ length t) (take_rest bytes n) h in
+    omega (arith, rest, dropped bytes n low)
+
+pub prints-none : (u : Option (List ℕ)) (held : List ℕ) → Prints u held [] u held
+prints-none u held = ([], Appends-nil u, append-nil held)
+
+-- a text that is only held
+pub prints : (u : Option (List ℕ)) (held text left : List ℕ) → left ≡ held ++ text → Prints u held text u left
+prints u held text left e = ([], Appends-nil u, sym e)
+
+pub prints-then : (u v w : Option (List ℕ)) (held text mid more left : List ℕ) → Prints u held text v mid → Prints v mid more w left → Prints u held (text ++ more) w left
+prints-then u v w held text mid more left p q = (
+  p.0 ++ q.0,
+  Appends-trans u v w p.0 q.0 p.1 q.1,
+  sym (append_assoc held text more) ∙ ap (λ (t : List ℕ). t ++ more) p.2 ∙ append_assoc p.0 mid more ∙ ap (λ (t : List ℕ). p.0 ++ t) q.2 ∙ sym (append_assoc p.0 q.0 left),
+)
+
+-- what was held before and behind nothing more
+pub prints-nothing-then : (u v w : Option (List ℕ)) (held mid more left : List ℕ) → Prints u held [] v mid → Prints v mid more w left → Prints u held more w left
+prints-nothing-then u v w held mid more left p q = prints-then u v w held [] mid more left p q
+
+pub prints-then-nothing : (u v w : Option (List ℕ)) (held text mid left : List ℕ) → Prints u held text v mid → Prints v mid [] w left → Prints u held text w left
+prints-then-nothing u v w held text mid left p q = subst (λ (t : List ℕ). Prints u held t w left) (append-nil text) (prints-then u v w held text mid [] left p q)
+
+-- what a writer took of what was held
+pub prints-front : (u v w : Option (List ℕ)) (held left : List ℕ) (n : ℕ) → Appends u v (take n held) → Keeps v w → left ≡ drop n held → Prints u held [] w left
+prints-front u v w held left n p q e = (
+  take n held,
+  Appends-kept u v w (take n held) p q,
+  append-nil held ∙ sym (take-append-drop n held) ∙ ap (λ (t : List ℕ). take n held ++ t) (sym e),
+)
+
+pub one-on : (n : ℕ) → suc n ≡ n + 1
+one-on n = omega arith
+
+-- a first part of a range
+pub range-front : (xs : List ℕ) (from to n : ℕ) → n ≤ to - from → slice_range xs from (from + n) ≡ take n (slice_range xs from to)
+range-front xs from to n low =
+    let k : from + n - from ≡ n = omega arith in
+    rw k (sym (take-take n (to - from) (drop from xs) low))
+
+pub range-within : (xs : List ℕ) (from to n : ℕ) → n ≤ length (slice_range xs from to) → n ≤ to - from
+range-within xs from to n h = let l = length-take (to - from) (drop from xs) in grind (arith, l, h)
+
+pub added : (n a b c x y : ℕ) → b + x ≡ a → c + y ≡ b → n ≡ x + y → c + n ≡ a
+added n a b c x y p q r = omega (arith, p, q, r)
+
+module _ {R : Type 0} (read : Ghosts R) where
+  pub reads-none : (old new : Input R read) → new ≡ old → Reads read old [] new
+  reads-none old new same = subst (λ (i : Input R read). Reads read old [] i) (sym same) record {
+    came = [];
+    consumed = Consumes-nil (read.remaining old.source.reader);
+    taken = append-nil (unread read old);
+    counted = omega arith;
+    none = λ e. refl;
+    ended = λ e. e;
+  }
+
+  -- bytes that were held
+  pub reads : (old new : Input R read) (bytes : List ℕ) → new.source ≡ old.source → unread read old ≡ bytes ++ unread read new → Reads read old bytes new
+  reads old new bytes same split = record {
+    came = [];
+    consumed = subst (λ s. Consumes (read.remaining old.source.reader) (read.remaining s.reader) []) (sym same) (Consumes-nil (read.remaining old.source.reader));
+    taken = append-nil (unread read old) ∙ split;
+    counted = subst (λ s. s.bytes + 0 ≡ old.source.bytes) (sym same) (omega arith);
+    none = λ e. refl;
+    ended = λ e. ap (λ s. s.ended) same ∙ e;
+  }
+
+  pub reads-then : (old mid new : Input R read) (bytes more : List ℕ) → Reads read old bytes mid → Reads read mid more new → Reads read old (bytes ++ more) new
+  reads-then old mid new bytes more p q = record {
+    came = p.came ++ q.came;
+    consumed = Consumes-trans (read.remaining old.source.reader) (read.remaining mid.source.reader) (read.remaining new.source.reader) p.came q.came p.consumed q.consumed;
+    taken = sym (append_assoc (unread read old) p.came q.came) ∙ ap (λ (t : List ℕ). t ++ q.came) p.taken
+        ∙ append_assoc bytes (unread read mid) q.came ∙ ap (λ (t : List ℕ). bytes ++ t) q.taken ∙ sym (append_assoc bytes more (unread read new));
+    counted = added (length (p.came ++ q.came)) old.source.bytes mid.source.bytes new.source.bytes (length p.came) (length q.came) p.counted q.counted (length-append p.came q.came);
+    none = λ e. ap (λ (t : List ℕ). t ++ q.came) (p.none e) ∙ q.none (p.ended e);
+    ended = λ e. q.ended (p.ended e);
+  }
+
+-- the bytes between two places
+pub range-length : (xs : List ℕ) (from n : ℕ) → from ≤ length xs → n ≤ length xs - from → length (slice_range xs from (from + n)) ≡ n
+range-length xs from n low h =
+    let k : from + n - from ≡ n = omega arith in
+    rw k (length-take-le n (drop from xs) (omega (arith, h, dropped xs from low)))
+
+module _ {R : Type 0} (read : Ghosts R) where
+  -- the bytes up to a place are taken
+  pub reads-range : (old mid new : Input R read) (from to : ℕ) → Reads read old [] mid → new.source ≡ mid.source → new.held ≡ mid.held → new.start ≡ to → from ≡ mid.start → from ≤ to
+      → Reads read old (slice_range new.held from to) new
+  reads-range old mid new from to p source held start first low =
+      let low2 : mid.start ≤ to = subst (λ (n : ℕ). n ≤ to) first low in
+      reads-then read old mid new [] (slice_range new.held from to) p (reads read mid new (slice_range new.held from to) source
+      (rw (held, start, first) (drop_split mid.held mid.start to low2)))
+
+  -- and a line feed behind them
+  pub reads-line : (old mid new : Input R read) (from to : ℕ) → Reads read old [] mid → new.source ≡ mid.source → new.held ≡ mid.held → new.start ≡ to + 1 → from ≡ mid.start → from ≤ to
+      → to < length mid.held → slice_index mid.held to ≡ 10
+      → Reads read old (slice_range new.held from to ++ 10 ∷ []) new
+  reads-line old mid new from to p source held start first low within feed =
+      let low2 : mid.start ≤ to = subst (λ (n : ℕ). n ≤ to) first low in
+      let next : drop to mid.held ≡ 10 ∷ drop (to + 1) mid.held =
+      drop-cons mid.held to 0 within ∙ ap (λ (c : ℕ). c ∷ drop (suc to) mid.held) feed ∙ ap (λ (n : ℕ). 10 ∷ drop n mid.held) (one-on to) in
+      reads-then read old mid new [] (slice_range new.held from to ++ 10 ∷ []) p (reads read mid new (slice_range new.held from to ++ 10 ∷ []) source
+      (rw (held, start, first) (drop_split mid.held mid.start to low2 ∙ ap (λ (t : List ℕ). slice_range mid.held mid.start to ++ t) next
+      ∙ sym (append_assoc (slice_range mid.held mid.start to) (10 ∷ []) (drop (to + 1) mid.held)))))
+
+no-first : (xs ys : List ℕ) → xs ++ ys ≡ [] → xs ≡ []
+no-first [] ys h = refl
+no-first (x ∷ xs) ys h = cc h
+
+no-rest : (xs ys : List ℕ) → xs ++ ys ≡ [] → ys ≡ []
+no-rest [] ys h = h
+no-rest (x ∷ xs) ys h = cc h
+
+-- the bytes of a script that was read to its end
+all-known : (known left : Option (List ℕ)) (came script : List ℕ) → Consumes known left came → unwrap_or left [] ≡ [] → came ≡ script → IfSome known (λ bytes. script ≡ bytes)
+all-known None left came script p e same = tt
+all-known (Some xs) None came script p e same = absurd p
+all-known (Some xs) (Some ys) came script p e same = sym same ∙ sym (append-nil came) ∙ ap (λ (t : List ℕ). came ++ t) (sym e) ∙ sym p
+
+within-bound : (a b n m : ℕ) → a + n ≡ b → b ≡ 16777216 → n ≡ m → m ≤ 16777216
+within-bound a b n m p q r = omega (arith, p, q, r)
+
+module _ {R : Type 0} (read : Ghosts R) where
+  pub whole-read : (old new : Input R read) (reader : R) (script : List ℕ) → Reads read old script new → old.source.reader ≡ reader → old.source.bytes ≡ 16777216 → unread read old ≡ [] → IsSpent read new
+      → IsWhole (read.remaining reader) script
+  whole-read old new reader script p is bound none spent =
+      let all : p.came ≡ script = sym (ap (λ (t : List ℕ). t ++ p.came) none) ∙ p.taken ∙ ap (λ (t : List ℕ). script ++ t) spent.0 ∙ append-nil script in (
+        subst (λ (r : R). IfSome (read.remaining r) (λ bytes. script ≡ bytes)) is (all-known (read.remaining old.source.reader) (read.remaining new.source.reader) p.came script p.consumed (new.source.end spent.1) all),
+        within-bound new.source.bytes old.source.bytes (length p.came) (length script) p.counted bound (ap (λ (t : List ℕ). length t) all),
+      )
+
+-- turns, one more
+turns-more : (old mid new : At) (turns : List Turn) (turn : Turn) → AreTurns old turns mid → IsTurn mid turn new → AreTurns old (turns ++ turn ∷ []) new
+turns-more old mid new [] turn h k = (new, subst (λ (at : At). IsTurn at turn new) h k, refl)
+turns-more old mid new (first ∷ turns) turn h k = (h.0, h.1, turns-more h.0 mid new turns turn h.2 k)
+
+all-more : (f : Turn → List ℕ) (turns : List Turn) (turn : Turn) (whole : List ℕ) → whole ≡ flat_map f turns → whole ++ f turn ≡ flat_map f (turns ++ turn ∷ [])
+all-more f turns turn whole e = ap (λ (t : List ℕ). t ++ f turn) e ∙ ap (λ (t : List ℕ). flat_map f turns ++ t) (sym (append-nil (f turn))) ∙ sym (flat_map-append f turns (turn ∷ []))
+
+pub answers-none : (at : At) → Answers at [] [] at
+answers-none at = ([], refl, refl, refl)
+
+pub answers-more : (old mid new : At) (bytes text : List ℕ) (turn : Turn) → Answers old bytes text mid → IsTurn mid turn new → Answers old (bytes ++ bytes_of turn) (text ++ text_of turn) new
+answers-more old mid new bytes text turn h k = (h.0 ++ turn ∷ [], all-more bytes_of h.0 turn bytes h.1, all-more text_of h.0 turn text h.2, turns-more old mid new h.0 turn h.3 k)
+
+-- a line that has a byte
+pub answers-command : (old new : At) (line rows text : List ℕ) → (length line ≡ 0 → ⊥) → IsUtf8 line → new.number ≡ old.number + 1
+    → ServesLine new.number old.state (command_of old.state.table.schema line) rows text new.state → AnswersLine old line rows text new
+answers-command old new [] rows text some utf8 number serves = absurd (some refl)
+answers-command old new (c ∷ cs) rows text some utf8 number serves = (utf8, number, serves)
+
+pub answers-empty : (at : At) (line : List ℕ) → line ≡ [] → AnswersLine at line [] [] at
+answers-empty at line e = rw e (refl, refl, refl)
+
+pub range-empty : (xs : List ℕ) (from to : ℕ) → to ≤ from → slice_range xs from to ≡ []
+range-empty xs from to low = let k : to - from ≡ 0 = omega (arith, low) in rw k refl
+
+pub range-some : (xs : List ℕ) (from to : ℕ) → from < to → to ≤ length xs → length (slice_range xs from to) ≡ 0 → ⊥
+range-some xs from to low within none =
+    let l = length-take-le (to - from) (drop from xs) (omega (arith, low, within, dropped xs from (omega (arith, low, within)))) in
+    omega (arith, l, none, low)
+
+module _ {R : Type 0} (read : Ghosts R) where
+  -- a line, and what belongs to it, is one turn more
+  pub goes-on : (first before mid after : Input R read) (a b c d : Option (List ℕ)) (h k l m : List ℕ) (old at new : At) (line raw rows more bytes text : List ℕ) (end : List ℕ) (e : Option (List ℕ))
+      → Reads read first bytes before → Prints a h text b k → Answers old bytes text at
+      → list_any (λ x. x == 10) raw ≡ false → line ≡ strip_last 13 raw → Reads read before (raw ++ 10 ∷ []) mid → Prints b k [] c l
+      → Reads read mid rows after → Prints c l more d m → AnswersLine at line rows more new → Prints d m [] e end
+      → (all : List ℕ) × (said : List ℕ) × Reads read first all after × Prints a h said e end × Answers old all said new
+  goes-on first before mid after a b c d h k l m old at new line raw rows more bytes text end e p q r one stripped s t u v w x =
+      let turn : Turn = record { line = raw; rows = rows; text = more } in (
+        bytes ++ bytes_of turn,
+        text ++ more,
+        subst (λ (z : List ℕ). Reads read first (bytes ++ z) after) (append_assoc raw (10 ∷ []) rows) (reads-then read first before after bytes ((raw ++ 10 ∷ []) ++ rows) p (reads-then read before mid after (raw ++ 10 ∷ []) rows s u)),
+        prints-then-nothing a d e h (text ++ more) m end (prints-then a b d h text k more m q (prints-nothing-then b c d k l more m t v)) x,
+        answers-more old at new bytes text turn r (one, subst (λ (z : List ℕ). AnswersLine at z rows more new) stripped w),
+      )
+
+  -- the last line
+  pub comes-to-end : (first before mid after : Input R read) (a b c d : Option (List ℕ)) (h k l m : List ℕ) (old at new : At) (line rows more bytes text : List ℕ)
+      → Reads read first bytes before → Prints a h text b k → Answers old bytes text at
+      → list_any (λ x. x == 10) line ≡ false → Reads read before line mid → Prints b k [] c l → unread read mid ≡ [] → mid.source.ended ≡ true
+      → Reads read mid rows after → Prints c l more d m → AnswersLine at line rows more new
+      → (all : List ℕ) × (said : List ℕ) × Reads read first all after × Prints a h said d m × Ends old all said × IsSpent read after
+  comes-to-end first before mid after a b c d h k l m old at new line rows more bytes text p q r one s t none ended u v w =
+      let no-rows : rows ≡ [] = no-first rows (unread read after) (sym u.taken ∙ ap (λ (z : List ℕ). unread read mid ++ z) (u.none ended) ∙ append-nil (unread read mid) ∙ none) in (
+        bytes ++ line,
+        text ++ more,
+        subst (λ (z : List ℕ). Reads read first (bytes ++ z) after) (ap (λ (z : List ℕ). line ++ z) no-rows ∙ append-nil line) (reads-then read first before after bytes (line ++ rows) p (reads-then read before mid after line rows s u)),
+        prints-then a b d h text k more m q (prints-nothing-then b c d k l more m t v),
+        record { bytes = bytes; printed = text; mid = at; answered = r; last = line; line = one; tail = more; new = new; answers = subst (λ (z : List ℕ). AnswersLine at line z more new) no-rows w; whole = refl; said = refl },
+        (no-rest rows (unread read after) (sym u.taken ∙ ap (λ (z : List ℕ). unread read mid ++ z) (u.none ended) ∙ append-nil (unread read mid) ∙ none), u.ended ended),
+      )
+
+pub blank-more : (bytes raw : List ℕ) (lines : List (List ℕ)) → Blank bytes lines → without_return raw ≡ [] → Blank (bytes ++ (raw ++ 10 ∷ [])) (lines ++ raw ∷ [])
+blank-more bytes raw [] h e = ([], e, ap (λ (t : List ℕ). t ++ (raw ++ 10 ∷ [])) h, refl)
+blank-more bytes raw (line ∷ lines) h e = (
+  h.0 ++ (raw ++ 10 ∷ []),
+  h.1,
+  ap (λ (t : List ℕ). t ++ (raw ++ 10 ∷ [])) h.2 ∙ append_assoc line (10 ∷ h.0) (raw ++ 10 ∷ []),
+  blank-more h.0 raw lines h.3 e,
+)
+
+either : {A B C D : Type 0} → (A → B) → (C → D) → A ⊎ C → B ⊎ D
+either f g (inl x) = inl (f x)
+either f g (inr y) = inr (g y)
+
+pub opens-then : (bytes : List ℕ) (P Q : Type 0) (at : At) → (P → Q) → Opens bytes P at → Opens bytes Q at
+opens-then bytes P Q at f o = record {
+  blanks = o.blanks;
+  blank = o.blank;
+  empty = o.empty;
+  line = o.line;
+  one = o.one;
+  opens = either (λ x. x) (λ y. (y.0, y.1, f y.2)) o.opens;
+}
+
+module _ {R : Type 0} (read : Ghosts R) where
+  -- nothing is read where nothing comes any more
+  pub spent-nothing : (old new : Input R read) (bytes : List ℕ) → IsSpent read old → Reads read old bytes new → bytes ≡ []
+  spent-nothing old new bytes spent p =
+      no-first bytes (unread read new) (sym p.taken ∙ ap (λ (t : List ℕ). unread read old ++ t) (p.none spent.1) ∙ append-nil (unread read old) ∙ spent.0)
+
+  -- and nothing comes then
+  pub spent-stays : (old new : Input R read) (bytes : List ℕ) → IsSpent read old → Reads read old bytes new → IsSpent read new
+  spent-stays old new bytes spent p =
+      (no-rest bytes (unread read new) (sym p.taken ∙ ap (λ (t : List ℕ). unread read old ++ t) (p.none spent.1) ∙ append-nil (unread read old) ∙ spent.0), p.ended spent.1)
+
+  pub script-whole : (old mid new : Input R read) (reader : R) (first rest text : List ℕ) (u v w : Option (List ℕ)) (held k left : List ℕ) (at : At)
+      → old.source.reader ≡ reader → old.source.bytes ≡ 16777216 → unread read old ≡ [] → held ≡ []
+      → Reads read old first mid → Prints u held (codes "ok\n") v k → Opens first (IsSpent read mid) at
+      → Reads read mid rest new → Prints v k text w left → Ends at rest text → IsSpent read new
+      → (script : List ℕ) × (said : List ℕ) × IsWhole (read.remaining reader) script × Prints u [] said w left × IsScript script said
+  script-whole old mid new reader first rest text u v w held k left at is bound none empty r1 p1 o r2 p2 e spent = (
+    first ++ rest,
+    codes "ok\n" ++ text,
+    whole-read read old new reader (first ++ rest) (reads-then read old mid new first rest r1 r2) is bound none spent,
+    subst (λ (t : List ℕ). Prints u t (codes "ok\n" ++ text) w left) empty (prints-then u v w held (codes "ok\n") k text left p1 p2),
+    record { first = first; rest = rest; tail = text; at = at; opens = opens-then first (IsSpent read mid) (rest ≡ []) at (λ s. spent-nothing mid new rest s r2) o; ends = e; whole = refl; said = refl },
+  )
+
+module _ {R : Type 0} (read : Ghosts R) where
+  -- the first command, a whole line
+  pub opens-line : (old before mid : Input R read) (u v w : Option (List ℕ)) (held k l left bytes raw line text : List ℕ) (blanks : List (List ℕ)) (at : At)
+      → Reads read old bytes before → Prints u held [] v k → Blank bytes blanks
+      → list_any (λ x. x == 10) raw ≡ false → line ≡ strip_last 13 raw → Reads read before (raw ++ 10 ∷ []) mid → Prints v k [] w l
+      → text ≡ line → IsOpenedBy text at → left ≡ l ++ codes "ok\n"
+      → (first : List ℕ) × Reads read old first mid × Prints u held (codes "ok\n") w left × Opens first (IsSpent read mid) at
+  opens-line old before mid u v w held k l left bytes raw line text blanks at p q b one stripped s t same o e = (
+    bytes ++ (raw ++ 10 ∷ []),
+    reads-then read old before mid bytes (raw ++ 10 ∷ []) p s,
+    prints-nothing-then u v w held k (codes "ok\n") left q (prints-nothing-then v w w k l (codes "ok\n") left t (prints w l (codes "ok\n") left e)),
+    record { blanks = blanks; blank = bytes; empty = b; line = raw; one = one; opens = inl (sym (append_assoc bytes raw (10 ∷ [])), subst (λ (z : List ℕ). IsOpenedBy z at) (same ∙ stripped) o) },
+  )
+
+  -- or the last one
+  pub opens-last : (old before mid : Input R read) (u v w : Option (List ℕ)) (held k l left bytes line text : List ℕ) (blanks : List (List ℕ)) (at : At)
+      → Reads read old bytes before → Prints u held [] v k → Blank bytes blanks
+      → list_any (λ x. x == 10) line ≡ false → Reads read before line mid → Prints v k [] w l → IsSpent read mid
+      → text ≡ line → IsOpenedBy text at → left ≡ l ++ codes "ok\n"
+      → (first : List ℕ) × Reads read old first mid × Prints u held (codes "ok\n") w left × Opens first (IsSpent read mid) at
+  opens-last old before mid u v w held k l left bytes line text blanks at p q b one s t spent same o e = (
+    bytes ++ line,
+    reads-then read old before mid bytes line p s,
+    prints-nothing-then u v w held k (codes "ok\n") left q (prints-nothing-then v w w k l (codes "ok\n") left t (prints w l (codes "ok\n") left e)),
+    record { blanks = blanks; blank = bytes; empty = b; line = line; one = one; opens = inr (refl, subst (λ (z : List ℕ). IsOpenedBy z at) same o, spent) },
+  )
+
+-- all was written
+pub all-written : (u v w : Option (List ℕ)) (text left : List ℕ) → Prints u [] text v left → (p : Prints v left [] w []) → Appends u w text
+all-written u v w text left p q =
+    let all = prints-then-nothing u v w [] text left [] p q in
+    subst (λ (t : List ℕ). Appends u w t) (sym (append-nil all.0) ∙ sym all.2) all.1

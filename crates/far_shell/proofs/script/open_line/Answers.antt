@@ -1,0 +1,9 @@
+use Rattle.std.proofs.Common.{[], append-nil, ◌∙◌, refl, sym}
+use Rattle.far_shell.specs.declared.fault.ShellFault.TheVariants as fault
+use Rattle.far_shell.proofs.BreakLaws.{handed-on}
+use Rattle.far_shell.proofs.script.open_line.Goals as goal
+
+pub returns-in_err-text-in-Ok-opened-clause-err : goal.returns-in_err-text-in-Ok-opened-clause-err
+returns-in_err-text-in-Ok-opened-clause-err c =
+    handed-on c.from_residual-in_err-text-in-Ok-opened.result fault.Memory _ c.from_residual-in_err-text-in-Ok-opened.ensures.1
+    ([], c.in_err-text-in-Ok-opened.ensures.err ∙ sym (append-nil c.args.output.now.page), refl)

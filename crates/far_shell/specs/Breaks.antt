@@ -1,0 +1,109 @@
+-- What was printed of a script that a fault ends early.
+use Rattle.std.specs.Prelude.{◌≡◌, ◌⊎◌, ℕ, List, [], ◌∷◌, ◌++◌, Option, None, Some, IfSome, codes}
+use Rattle.std.specs.Io.KnownBytes.{Appends}
+use Rattle.far_types.specs.declared.refusal.Refusal.TheVariants as refusal
+use Rattle.far_types.specs.Bounds.{IsSchema, AreLimits}
+use Rattle.far_shell.specs.declared.fault.ShellFault.{ShellFault}
+use Rattle.far_shell.specs.declared.fault.ShellFault.TheVariants as fault
+use Rattle.far_shell.specs.Flow.{Prints}
+use Rattle.far_shell.specs.Openings.{Opened, opening_of}
+use Rattle.far_shell.specs.Printing.{refusal_text}
+use Rattle.far_shell.specs.Progress.{At}
+use Rattle.far_shell.specs.Scripts.{Answers, AnswersLine, Blank, IsOneLine, IsScript, Opens, without_return}
+
+-- a front of an answer; it may be empty
+abbrev pub IsFront : (List ℕ → Type 0) → List ℕ → Type 0
+IsFront answer text = (text ≡ []) ⊎ ((rest : List ℕ) × answer (text ++ rest))
+
+-- what is printed of the answer that a fault ends: nothing where the input is at fault
+abbrev pub CutOff : ShellFault → (List ℕ → Type 0) → List ℕ → Type 0
+CutOff fault.BadStart answer text = ⊥
+CutOff fault.Input answer text = text ≡ []
+CutOff fault.Output answer text = IsFront answer text
+CutOff fault.Memory answer text = IsFront answer text
+
+-- a fault comes, and of an answer a front is printed
+abbrev pub PrintsCut : ShellFault → (List ℕ → Type 0) → Option (List ℕ) → List ℕ → Option (List ℕ) → List ℕ → Type 0
+PrintsCut why answer old held new left = (text : List ℕ) × Prints old held text new left × CutOff why answer text
+
+-- a line is answered that may have lost a carriage return
+abbrev pub AnswersText : At → List ℕ → List ℕ → Type 0
+AnswersText at bytes text = (line : List ℕ) × (new : At) × ((line ≡ bytes) ⊎ (line ≡ without_return bytes)) × AnswersLine at line [] text new
+
+-- behind the first command a script breaks off: whole lines are answered, and a front of the next line's answer is printed
+pub record BreaksOff (old : At) (why : ShellFault) (bytes text : List ℕ) : Type 0 where
+  pub before : List ℕ
+  pub printed : List ℕ
+  pub mid : At
+  pub answered : Answers old before printed mid
+  pub next : List ℕ
+  pub one : IsOneLine next
+  pub front : List ℕ
+  pub cut : CutOff why (AnswersText mid next) front
+  pub whole : bytes ≡ before ++ next
+  pub said : text ≡ printed ++ front
+
+-- a line opens no table, and this is printed for it
+abbrev pub IsRejected : List ℕ → List ℕ → Type 0
+IsRejected line text = ((opening_of line ≡ None) × (text ≡ codes "syntax command 1\n"))
+    ⊎ ((opened : Opened) × (opening_of line ≡ Some opened) × ¬ (IsSchema opened.0 × AreLimits opened.1) × (text ≡ refusal_text refusal.BadSchema))
+
+-- what a fault has printed for a first line
+abbrev pub Rejection : ShellFault → List ℕ → List ℕ → Type 0
+Rejection fault.BadStart line text = IsRejected line text
+Rejection fault.Input line text = ⊥
+Rejection fault.Output line text = ⊥
+Rejection fault.Memory line text = text ≡ []
+
+-- a first line is rejected; it may lack its end only where nothing comes behind it. Or there is no command at all
+abbrev pub RejectsLine : List ℕ → List ℕ → Type 0 → List ℕ → Type 0
+RejectsLine line bytes spent text = ((bytes ≡ line ++ 10 ∷ []) × IsRejected (without_return line) text) ⊎ ((bytes ≡ line) × spent × IsRejected line text)
+    ⊎ ((bytes ≡ []) × spent × (text ≡ []))
+
+-- the first command of a script opens no table
+pub record Rejects (bytes : List ℕ) (spent : Type 0) (text : List ℕ) : Type 0 where
+  pub blanks : List (List ℕ)
+  pub blank : List ℕ
+  pub empty : Blank blank blanks
+  pub line : List ℕ
+  pub one : IsOneLine line
+  pub first : List ℕ
+  pub rejected : RejectsLine line first spent text
+  pub whole : bytes ≡ blank ++ first
+
+-- a script breaks off behind its first command
+pub record BreaksLater (why : ShellFault) (bytes rest text : List ℕ) : Type 0 where
+  pub first : List ℕ
+  pub at : At
+  pub more : List ℕ
+  pub tail : List ℕ
+  pub opens : Opens first (more ++ rest ≡ []) at
+  pub breaks : BreaksOff at why more tail
+  pub whole : bytes ≡ first ++ more
+  pub said : text ≡ codes "ok\n" ++ tail
+
+-- what these first bytes of a script, with the rest behind them, are answered up to a fault
+abbrev pub IsBroken : ShellFault → List ℕ → List ℕ → List ℕ → Type 0
+IsBroken fault.BadStart bytes rest text = Rejects bytes (rest ≡ []) text
+IsBroken fault.Input bytes rest text = (text ≡ []) ⊎ BreaksLater fault.Input bytes rest text
+IsBroken fault.Output bytes rest text = (text ≡ []) ⊎ BreaksLater fault.Output bytes rest text
+IsBroken fault.Memory bytes rest text = (text ≡ []) ⊎ BreaksLater fault.Memory bytes rest text
+
+-- the same, with what the writer did not take: all was written, unless the fault is the writer's
+abbrev pub EndsBy : ShellFault → List ℕ → List ℕ → List ℕ → List ℕ → Type 0
+EndsBy fault.BadStart bytes rest text lost = IsBroken fault.BadStart bytes rest text × (lost ≡ [])
+EndsBy fault.Input bytes rest text lost = IsBroken fault.Input bytes rest text × (lost ≡ [])
+EndsBy fault.Memory bytes rest text lost = IsBroken fault.Memory bytes rest text × (lost ≡ [])
+EndsBy fault.Output bytes rest text lost = IsScript bytes text ⊎ ((why : ShellFault) × IsBroken why bytes rest text)
+
+-- a script ends early: of what its first bytes are answered a front was written
+pub record Breaks (known old new : Option (List ℕ)) (why : ShellFault) : Type 0 where
+  pub bytes : List ℕ
+  pub rest : List ℕ
+  pub begins : IfSome known (λ script. script ≡ bytes ++ rest)
+  pub text : List ℕ
+  pub sent : List ℕ
+  pub lost : List ℕ
+  pub written : Appends old new sent
+  pub said : text ≡ sent ++ lost
+  pub ends : EndsBy why bytes rest text lost

@@ -1,0 +1,62 @@
+-- What the commands of a script are answered.
+use Rattle.std.specs.Prelude.{◌≡◌, ℕ, ◌+◌, List, [], ◌∷◌, ◌++◌, length, Option, None, Some, codes, IsUtf8}
+use Rattle.csv.specs.Reading.{default_config, records, strip_bom}
+use Rattle.far_types.specs.declared.cell.Kind.{Kind}
+use Rattle.far_types.specs.declared.edit.Edit.TheVariants as edit
+use Rattle.far_types.specs.declared.refusal.Refusal.{Refusal}
+use Rattle.far_frame.specs.declared.step.Step.{Step}
+use Rattle.far_frame.specs.declared.step.Step.TheVariants as step
+use Rattle.far_frame.specs.declared.step.Reply.{Reply}
+use Rattle.far_frame.specs.declared.step.Reply.TheVariants as reply
+use Rattle.far_frame.specs.Steps.{State, IsStep}
+use Rattle.far_shell.specs.declared.command.Command.{Command}
+use Rattle.far_shell.specs.declared.command.Command.TheVariants as command
+use Rattle.far_shell.specs.Fields.{cells_from}
+use Rattle.far_shell.specs.Listings.{dump_text}
+use Rattle.far_shell.specs.Printing.{numbered_text, answer_text, refusal_text}
+
+-- the line of a reply, or the lines of an answer
+abbrev pub reply_text : Reply → List ℕ
+reply_text (reply.Place place) = numbered_text (codes "place") place
+reply_text reply.Done = codes "ok\n"
+reply_text (reply.Aggregate a) = numbered_text (codes "aggregate") a
+reply_text (reply.Answer answer) = answer_text answer
+reply_text (reply.Refused refusal) = refusal_text refusal
+
+-- a step is taken, and the text is its reply
+abbrev pub Takes : State → Step → List ℕ → State → Type 0
+Takes old s text new = (given : Reply) × IsStep old s given new × (text ≡ reply_text given)
+
+-- the insert of a record's fields
+abbrev pub insert_of_record : List Kind → List (List ℕ) → Step
+insert_of_record kinds fields = step.Edit (edit.Insert (cells_from kinds 0 fields))
+
+-- what a reply makes of a load: a refusal ends it
+abbrev pub AfterReply : Reply → (Refusal → Type 0) → Type 0 → Type 0
+AfterReply (reply.Refused refusal) ends goes = ends refusal
+AfterReply (reply.Place place) ends goes = goes
+AfterReply reply.Done ends goes = goes
+AfterReply (reply.Aggregate a) ends goes = goes
+AfterReply (reply.Answer answer) ends goes = goes
+
+-- the records of a load are inserted in order, up to the first that is refused, behind as many as count
+abbrev pub Loads : ℕ → State → List (List (List ℕ)) → List ℕ → State → Type 0
+Loads count old [] text new = (new ≡ old) × (text ≡ numbered_text (codes "loaded") count)
+Loads count old (fields ∷ more) text new =
+    (given : Reply) × (mid : State) × IsStep old (insert_of_record old.table.schema fields) given mid
+    × AfterReply given (λ refusal. (new ≡ mid) × (text ≡ numbered_text (codes "loaded") count ++ refusal_text refusal)) (Loads (count + 1) mid more text new)
+
+-- the records of a text, as the csv reader reads them
+abbrev pub records_of : List ℕ → List (List (List ℕ))
+records_of text = records default_config (strip_bom text)
+
+-- a command is answered; the rows are the bytes behind its line that belong to it
+abbrev pub Serves : State → Command → List ℕ → List ℕ → State → Type 0
+Serves old (command.Step s) rows text new = (rows ≡ []) × Takes old s text new
+Serves old (command.Load count) rows text new = (length rows ≡ count) × IsUtf8 rows × Loads 0 old (records_of rows) text new
+Serves old command.Dump rows text new = (rows ≡ []) × (text ≡ dump_text old.table) × (new ≡ old)
+
+-- a line is answered; one that spells no command changes nothing
+abbrev pub ServesLine : ℕ → State → Option Command → List ℕ → List ℕ → State → Type 0
+ServesLine number old None rows text new = (rows ≡ []) × (text ≡ numbered_text (codes "syntax command") number) × (new ≡ old)
+ServesLine number old (Some asked) rows text new = Serves old asked rows text new

@@ -1,0 +1,255 @@
+// The agent store: worked examples, four threads at once, and memory that is refused.
+ghost use Rattle.std.specs.Prelude.{◌≡◌, ◌+◌, ◌<◌, ◌^◌, IfOk};
+ghost use Rattle.far_store.specs.Faults.{faults_in};
+
+use crate::generic::{
+    FULL, answer_of_put, carry_over, gets_all, puts_all, reads, reads_alike, round_trip,
+};
+use crate::shelf_store::ShelfStore;
+use far_store::{AgentStore, FarRead, FarStore, Meter};
+use far_types::Refusal;
+use std::alloc::{AllocError, Global};
+use std::sync::Wait;
+use std::test::Fail;
+use std::thread::{self, Threads};
+
+// Whether a content takes the number 0, and is then the only one.
+fn keeps_its_only_content<S: FarStore>(store: S, alloc: Global) -> Result<bool, Refusal> {
+    let ticket = store.put(alloc, &mut Meter::new(), &[0x61])?;
+    let is_first = store.number(&ticket) == 0;
+    Ok(is_first && is_the_only(&store, alloc, &ticket, &[0x61])?)
+}
+
+// Whether a ticket reads these bytes and, once another put was refused, its copy does.
+fn is_the_only<S: FarStore>(
+    store: &S,
+    alloc: Global,
+    ticket: &S::Ticket,
+    bytes: &[u8],
+) -> Result<bool, Refusal>
+    requires { S.is_of ticket.now (S.name store.now) }
+{
+    let again = store.again(ticket);
+    let is_read = reads(store, alloc, ticket, bytes)?;
+    let is_full = answer_of_put(store, alloc) == FULL;
+    let is_kept = reads(store, alloc, &again, bytes)?;
+    Ok(is_read && is_full && is_kept && store.same(ticket, &again))
+}
+
+#[test]
+fn a_store_of_capacity_one_takes_one_content_and_keeps_it(rt: HostRuntime) -> Result<(), Fail> {
+    let store = AgentStore::new(&rt, rt.alloc(), 1)?;
+    assert!(rt; keeps_its_only_content(store, rt.alloc())?);
+    Ok(())
+}
+
+// Whether so many puts draw the numbers from 0 upwards, and three more find the store full.
+fn draws_in_order<S: FarStore>(store: S, alloc: Global, count: u64) -> Result<bool, Refusal> {
+    let mut in_order = true;
+    for wanted in 0..count {
+        let ticket = store.put(alloc, &mut Meter::new(), &[1, 2, 3])?;
+        in_order &= store.number(&ticket) == wanted;
+    }
+    for _ in 0..3 {
+        in_order &= answer_of_put(&store, alloc) == FULL;
+    }
+    Ok(in_order)
+}
+
+#[test]
+fn numbers_are_drawn_from_0_up_to_the_capacity(rt: HostRuntime) -> Result<(), Fail> {
+    let store = AgentStore::new(&rt, rt.alloc(), 100)?;
+    assert!(rt; draws_in_order(store, rt.alloc(), 100)?);
+    Ok(())
+}
+
+// Whether each of these contents is read into one buffer in place of the one before.
+fn replaces_each<S: FarStore>(
+    store: S,
+    alloc: Global,
+    contents: &[&[u8]],
+) -> Result<bool, Refusal> {
+    let mut buffer = Vec::new(alloc);
+    let mut replaced = true;
+    for content in contents {
+        replaced &= replaces(&store, alloc, &mut buffer, content)?;
+    }
+    Ok(replaced)
+}
+
+// Whether a buffer has a content, and nothing else, once it was put and read.
+fn replaces<S: FarStore>(
+    store: &S,
+    alloc: Global,
+    buffer: &mut Vec<u8>,
+    content: &[u8],
+) -> Result<bool, Refusal> {
+    let ticket = store.put(alloc, &mut Meter::new(), content)?;
+    store.get(alloc, &mut Meter::new(), &ticket, buffer)?;
+    Ok(buffer.as_slice() == content)
+}
+
+#[test]
+fn a_get_replaces_what_the_buffer_had(rt: HostRuntime) -> Result<(), Fail> {
+    let store = AgentStore::new(&rt, rt.alloc(), 8)?;
+    let contents: [&[u8]; 3] = [&[9, 9, 9], &[7; 300], &[]];
+    assert!(rt; replaces_each(store, rt.alloc(), &contents)?);
+    Ok(())
+}
+
+// Whether the tickets of two contents are the same.
+fn are_same<S: FarStore>(
+    store: S,
+    alloc: Global,
+    first: &[u8],
+    second: &[u8],
+) -> Result<bool, Refusal> {
+    let first = store.put(alloc, &mut Meter::new(), first)?;
+    let second = store.put(alloc, &mut Meter::new(), second)?;
+    Ok(store.same(&first, &second))
+}
+
+#[test]
+fn the_tickets_of_two_contents_are_told_apart(rt: HostRuntime) -> Result<(), Fail> {
+    let store = AgentStore::new(&rt, rt.alloc(), 8)?;
+    assert!(rt; !are_same(store, rt.alloc(), &[7; 300], &[])?);
+    Ok(())
+}
+
+// Whether a content is got as it was put.
+fn is_served<S: FarStore>(store: &S, alloc: Global, bytes: &[u8]) -> bool {
+    match round_trip(store, alloc, bytes) {
+        Ok(read) => read.as_slice() == bytes,
+        Err(_) => false,
+    }
+}
+
+// Whether a content of one store is read in another once it was carried there.
+fn is_carried<S: FarStore, N: FarStore>(
+    from: &S,
+    to: &N,
+    alloc: Global,
+    bytes: &[u8],
+) -> Result<bool, Refusal> {
+    let mut meter = Meter::new();
+    let ticket = from.put(alloc, &mut meter, bytes)?;
+    let copy = carry_over(from, to, alloc, &mut meter, &ticket)?;
+    is_read_alike(to, alloc, &copy, bytes)
+}
+
+// Whether a ticket and its copy read these bytes.
+fn is_read_alike<S: FarRead>(
+    store: &S,
+    alloc: Global,
+    ticket: &S::Ticket,
+    bytes: &[u8],
+) -> Result<bool, Refusal>
+    requires { S.is_of ticket.now (S.name store.now) }
+{
+    let read = reads_alike(
+        store,
+        alloc,
+        &mut Meter::new(),
+        ticket,
+        &store.again(ticket),
+    )?;
+    Ok(read.as_ref().map(|bytes| bytes.as_slice()) == Some(bytes))
+}
+
+// Whether each generic caller is served by two stores, of which the second is full then.
+fn serve_callers<S: FarStore, N: FarStore>(
+    first: S,
+    second: N,
+    alloc: Global,
+) -> Result<bool, Refusal> {
+    let are_served = is_served(&first, alloc, &[1, 2]) && is_served(&second, alloc, &[3]);
+    let is_carried = is_carried(&first, &second, alloc, &[4, 5])?;
+    Ok(are_served && is_carried && answer_of_put(&second, alloc) == FULL)
+}
+
+#[test]
+fn generic_callers_are_served_by_each_store(rt: HostRuntime) -> Result<(), Fail> {
+    let shelf = ShelfStore::new(rt.alloc(), 2)?;
+    let agent = AgentStore::new(&rt, rt.alloc(), 8)?;
+    assert!(rt; serve_callers(agent, shelf, rt.alloc())?);
+    Ok(())
+}
+
+// How many of 10,000 contents that a thread put it read back as they were put.
+fn own_contents<S: FarStore>(store: &S, alloc: Global, thread: u64) -> Result<u64, Refusal> {
+    let tickets = puts_all(store, alloc, thread, 10_000)?;
+    gets_all(store, alloc, thread, &tickets)
+}
+
+// What each of four threads that fill a store together read back of its own, and whether the store is full then.
+fn fills_by_four<R: Threads + Wait + Sync, S: FarStore>(
+    rt: &R,
+    store: S,
+    alloc: Global,
+) -> Result<bool, AllocError> {
+    let read = thread::map_indices(rt, alloc, 4, &|i| own_contents(&store, alloc, i as u64))?;
+    Ok(read.iter().all(|own| *own == Ok(10_000)) && answer_of_put(&store, alloc) == FULL)
+}
+
+#[test]
+fn four_threads_read_back_their_own(rt: HostRuntime) -> Result<(), Fail> {
+    let store = AgentStore::new(&rt, rt.alloc(), 40_000)?;
+    assert!(rt; fills_by_four(&rt, store, rt.alloc())?);
+    Ok(())
+}
+
+// Whether a content is put under number 0 and read, with no fault.
+fn reads_at_last<S: FarStore>(store: S, alloc: Global) -> Result<bool, Refusal> {
+    let mut meter = Meter::new();
+    let ticket = put_at_last(&store, alloc, &mut meter, &[1, 2, 3])?;
+    let read = get_at_last(&store, alloc, &mut meter, &ticket)?;
+    Ok(store.number(&ticket) == 0 && read.as_slice() == [1, 2, 3].as_slice() && meter.faults() == 0)
+}
+
+#[test]
+fn a_call_refused_for_want_of_memory_can_be_made_again(rt: HostRuntime) -> Result<(), Fail> {
+    let store = agent_at_last(&rt, rt.alloc(), 2)?;
+    assert!(rt; reads_at_last(store, rt.alloc())?);
+    Ok(())
+}
+
+// A call that finds no memory is made once more, so these answer if one allocation is refused.
+fn agent_at_last<R: Copy>(rt: R, alloc: Global, capacity: u64) -> Result<AgentStore<R>, Refusal> {
+    match AgentStore::new(rt, alloc, capacity) {
+        Err(Refusal::NoMemory) => AgentStore::new(rt, alloc, capacity),
+        answer => answer,
+    }
+}
+
+fn put_at_last<S: FarStore>(
+    store: &S,
+    alloc: Global,
+    meter: &mut Meter,
+    bytes: &[u8],
+) -> Result<S::Ticket, Refusal>
+    requires { meter.old < 2 ^ 62 }
+    ensures here { IfOk result (λ t. S.is_of t (S.name store.now)) }
+    ensures faults { meter.new ≡ meter.old + faults_in result }
+{
+    match store.put(alloc, meter, bytes) {
+        Err(Refusal::NoMemory) => store.put(alloc, meter, bytes),
+        answer => answer,
+    }
+}
+
+fn get_at_last<S: FarRead>(
+    store: &S,
+    alloc: Global,
+    meter: &mut Meter,
+    ticket: &S::Ticket,
+) -> Result<Vec<u8>, Refusal>
+    requires few { meter.old < 2 ^ 62 }
+    requires here { S.is_of ticket.now (S.name store.now) }
+{
+    let mut buffer = Vec::new(alloc);
+    match store.get(alloc, meter, ticket, &mut buffer) {
+        Err(Refusal::NoMemory) => store.get(alloc, meter, ticket, &mut buffer)?,
+        answer => answer?,
+    }
+    Ok(buffer)
+}

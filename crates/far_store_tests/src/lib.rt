@@ -1,0 +1,16 @@
+#![tactic(auto)]
+//! Tests of `far_store`: what no clause says, that is, that calls are served, when a planned fault comes, and what threads
+//! see of one another.
+
+#[cfg(test)]
+mod agent;
+#[cfg(test)]
+mod faulty;
+#[cfg(test)]
+mod gate;
+#[cfg(test)]
+mod generic;
+#[cfg(test)]
+mod scarce_store;
+#[cfg(test)]
+mod shelf_store;

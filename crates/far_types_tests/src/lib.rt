@@ -1,0 +1,17 @@
+#![tactic(auto)]
+//! Tests of far_types: what no clause says, and that calls succeed with ample memory.
+
+#[cfg(test)]
+mod aggregates;
+#[cfg(test)]
+mod answers;
+#[cfg(test)]
+mod clones;
+#[cfg(test)]
+mod filters;
+#[cfg(test)]
+mod limits;
+#[cfg(test)]
+mod refusals;
+#[cfg(test)]
+mod samples;
