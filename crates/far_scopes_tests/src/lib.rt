@@ -8,6 +8,8 @@ mod coldest;
 #[cfg(test)]
 mod coming;
 #[cfg(test)]
+mod compacting;
+#[cfg(test)]
 mod fixture;
 #[cfg(test)]
 mod moving;

@@ -4,6 +4,7 @@ ghost use Rattle.std.specs.Prelude.{◌≡◌, ◌<◌, length, IfOk};
 use crate::again::{compact, create, replace, replace_all};
 use crate::fixture::has;
 use far_fixtures::{agent, no_objects};
+use far_pointer::{At, Pointer};
 use far_scopes::{Objects, Replacement};
 use far_store::{AgentStore, FarRead};
 use far_types::Refusal;
@@ -60,6 +61,8 @@ pub enum Step<'a> {
     Dirty(u32),
     /// An object is of this column and row group.
     Name { o: u32, column: u32, group: u32 },
+    /// An object lies at this place, dirty, not hot and without a far copy.
+    Cold(u32, At),
     /// This object goes away first.
     Coldest(Option<u32>),
 }
@@ -139,6 +142,7 @@ fn is_so<S: FarRead>(objects: &Objects<i64, S>, step: &Step) -> bool {
         Step::List(o, list) => lists(objects, o, list),
         Step::Version(o, times) => o < objects.count() && objects.version(o) == times,
         Step::Pins(o, pins) => o < objects.count() && objects.pins(o) == pins,
+        Step::Cold(o, at) => is_cold_at(objects, o, at),
         Step::Dirty(o) => o < objects.count() && objects.word(o).dirty(),
         Step::Name { o, column, group } => is_named(objects, o, column, group),
         Step::Coldest(o) => objects.coldest() == o,
@@ -315,4 +319,14 @@ fn is_named<S: FarRead>(objects: &Objects<i64, S>, o: u32, column: u32, group: u
     }
     let name = objects.name(o);
     name.column == column && name.group == group
+}
+
+fn is_cold_at<S: FarRead>(objects: &Objects<i64, S>, o: u32, at: At) -> bool {
+    let cold = Pointer::Local {
+        at,
+        dirty: true,
+        hot: false,
+        far: false,
+    };
+    o < objects.count() && objects.word(o).read() == cold
 }

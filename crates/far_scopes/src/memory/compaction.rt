@@ -124,6 +124,3 @@ fn settle(words: &mut [Word], objects: &[SegmentObject], moved: &Moved)
         words[found.object] = words[found.object].with_at(at).with_hot(false);
     }
 }
-
-#[cfg(test)]
-mod tests;
