@@ -152,19 +152,22 @@ impl<'a> Write for Screen<'a> {
 struct User<'a> {
     screen: Screen<'a>,
     sent: usize,
+    /// What stands on the screen before the next line is sent.
+    due: &'static [u8],
 }
 
 impl<'a> Read for User<'a> {
     fn read(&mut self, buf: &mut [u8]) -> io::Result<usize> {
-        if self.sent > 0 && !self.screen.shows(TALK[self.sent - 1].1) {
+        if !self.screen.shows(self.due) {
             return Err(io::ErrorKind::Other.into());
         }
-        let Some((line, _)) = TALK.get(self.sent) else {
+        let Some((line, shown)) = TALK.get(self.sent) else {
             return Ok(0);
         };
         let count = line.len().min(buf.len());
         buf[..count].copy_from_slice(&line[..count]);
         self.sent += 1;
+        self.due = *shown;
         Ok(count)
     }
 }
@@ -173,7 +176,11 @@ impl<'a> Read for User<'a> {
 fn each_line_is_answered_before_the_next_is_read(rt: HostRuntime) {
     let shown = RefCell::new(Vec::new(rt.alloc()));
     let mut screen = Screen(&shown);
-    let user = User { screen, sent: 0 };
+    let user = User {
+        screen,
+        sent: 0,
+        due: b"",
+    };
     let outcome = run_script(&rt, user, &mut screen);
     assert!(rt; outcome == Ok(()));
 }
