@@ -10,11 +10,11 @@ use Rattle.far_types.specs.declared.key.Key.{Key}
 use Rattle.far_types.specs.Keys.{line_cmp}
 use Rattle.far_types.specs.KeyOrder.{line_total}
 use Rattle.far_types.specs.Answers.{Extrema}
-use Rattle.far_types.proofs.Grouping.{same, same_key, own_key}
+use Rattle.far_types.proofs.Grouping.{same_key, own_key}
 use Rattle.far_types.proofs.ByKeyMaps.{get_at, AreApart}
 use Rattle.far_types.proofs.ByKeyMaps as map_in
 use Rattle.far_extrema.specs.Spreads.{at, IsSet}
-use Rattle.far_extrema.specs.Holders.{Holding, Holders, holders_of, span_in, span_at, room_in, room_at, HaveRoom, IsPut, IsGroup, IsCleared, HaveSameSpans, HaveSameRoom, KeepsRoom, HasRoomFor}
+use Rattle.far_extrema.specs.Holders.{Holding, Holders, span_in, span_at, room_in, room_at, HaveRoom, IsPut, IsGroup, IsCleared, HaveSameSpans, HaveSameRoom, KeepsRoom, HasRoomFor}
 use Rattle.far_extrema.proofs.SpreadLaws.{off, here}
 use Rattle.far_extrema.proofs.HolderLaws.{put-set}
 

@@ -1,5 +1,4 @@
-use Rattle.std.proofs.Common.{◌≡◌, ◌∙◌, refl, IsSome, sym, ap, subst, None, Some, cond, true}
-use Rattle.std.specs.FinMap as fin
+use Rattle.std.proofs.Common.{◌∙◌, refl, IsSome, sym, ap, subst, Some}
 use Rattle.far_types.proofs.ByKeyMaps.{get_at, set_inserts}
 use Rattle.far_extrema.specs.Holders.{holders_of, span_in, room_in, room_at, IsPut}
 use Rattle.far_extrema.proofs.HolderLaws.{put-set}

@@ -1,4 +1,4 @@
-use Rattle.std.proofs.Common.{◌≡◌, ◌∙◌, refl, IsSome, sym, ap, subst, None, Some, cond, true}
+use Rattle.std.proofs.Common.{◌∙◌, refl, IsSome, sym, ap, subst, None, Some, cond, true}
 use Rattle.std.specs.FinMap as fin
 use Rattle.far_types.proofs.ByKeyMaps.{get_at, set_inserts, set_removes}
 use Rattle.far_extrema.specs.Holders.{holders_of, span_in, room_in, IsPut, HaveSameRoom}

@@ -1,4 +1,4 @@
-use Rattle.std.proofs.Common.{sym, ap, subst, ◌∙◌}
+use Rattle.std.proofs.Common.{sym, subst, ◌∙◌}
 use Rattle.std.specs.List.{AllByRecursion, filter_map}
 use Rattle.far_extrema.specs.Spreads.{IsTopOf}
 use Rattle.far_extrema.specs.Holders.{IsTopped, line_of}

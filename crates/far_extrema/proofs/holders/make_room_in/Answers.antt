@@ -1,4 +1,4 @@
-use Rattle.std.proofs.Common.{◌≡◌, ◌≢◌, ◌∙◌, refl, IsSome, sym, ap, subst, Some, None}
+use Rattle.std.proofs.Common.{◌≡◌, ◌≢◌, ◌∙◌, refl, IsSome, sym, ap, subst, None}
 use Rattle.std.specs.FinMap as fin
 use Rattle.far_types.proofs.ByKeyMaps.{get_at, set_inserts}
 use Rattle.far_extrema.specs.Spreads.{at}

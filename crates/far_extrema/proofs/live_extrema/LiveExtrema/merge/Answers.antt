@@ -1,11 +1,11 @@
-use Rattle.std.proofs.Common.{◌≡◌, ◌≢◌, ◌<◌, length, sym, ap, ◌∙◌, subst, arith, None}
-use Rattle.std.specs.Prelude.{slice_set, cond}
+use Rattle.std.proofs.Common.{◌<◌, length, sym, ap, ◌∙◌, subst, arith}
+use Rattle.std.specs.Prelude.{slice_set}
 use Rattle.std.specs.FinMap as fin
 use Rattle.far_types.specs.Keys.{line_cmp}
-use Rattle.far_extrema.specs.Live.{Live, group_at, with_room}
-use Rattle.far_extrema.specs.Holders.{holders_of, span_at, IsGroup}
-use Rattle.far_extrema.proofs.HolderLaws.{get-group_at, get-roomy, length-groups_in, put-group, same-groups}
-use Rattle.far_extrema.proofs.RoomLaws.{room-group, group-twice, own_test, err_any}
+use Rattle.far_extrema.specs.Live.{Live, group_at}
+use Rattle.far_extrema.specs.Holders.{holders_of, IsGroup}
+use Rattle.far_extrema.proofs.HolderLaws.{get-group_at, get-roomy, length-groups_in, put-group}
+use Rattle.far_extrema.proofs.RoomLaws.{room-group}
 use Rattle.far_extrema.proofs.live_extrema.LiveExtrema.merge.Goals as goal
 
 pub fill_all-requires-clause-room : goal.fill_all-requires-clause-room

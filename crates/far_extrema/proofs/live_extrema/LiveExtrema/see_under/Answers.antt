@@ -1,4 +1,4 @@
-use Rattle.std.proofs.Common.{◌≡◌, ◌<◌, length, sym, ap, ◌∙◌, subst, arith, Some, None, Ok, Err, OnOk, OnErr}
+use Rattle.std.proofs.Common.{◌≡◌, ◌<◌, length, sym, ap, ◌∙◌, subst, arith, Some, None, Ok, Err, OnErr}
 use Rattle.std.specs.Prelude.{ℤ, ◌≤ℤ◌, slice_set, Result}
 use Rattle.std.proofs.lemmas.Int.{to_z-of_z}
 use Rattle.std.specs.FinMap as fin
@@ -6,7 +6,7 @@ use Rattle.far_types.specs.Changes.{with_seen, widened}
 use Rattle.far_extrema.specs.Live.{Live, group_at}
 use Rattle.far_extrema.specs.Holders.{holders_of, HaveRoom, IsPut, HaveSameRoom}
 use Rattle.far_extrema.proofs.HolderLaws.{get-group_at, length-groups_in, seen-in, room-put, put-own, widened_within, same-roomy}
-use Rattle.far_extrema.proofs.RoomLaws.{either, on_ok, both_ok}
+use Rattle.far_extrema.proofs.RoomLaws.{either, both_ok}
 use Rattle.far_extrema.proofs.live_extrema.LiveExtrema.see_under.Goals as goal
 
 at_err : {T E : Type 0} (r : Result T E) {P : Type 0} → P → OnErr r P
