@@ -5,7 +5,7 @@ ghost use Rattle.far_columns.specs.Numbers.{number_lists};
 use crate::faults::io_error;
 use far_columns::{Alive, IntColumn};
 use far_scopes::Objects;
-use far_store::FarRead;
+use far_store::FarTickets;
 use far_types::Refusal;
 use std::alloc::Global;
 use std::io;
@@ -61,7 +61,7 @@ fn whole_sum(numbers: &[Option<i64>]) -> i64 {
 
 /// The sum of the values of a column's live places.
 #[inline(never)]
-fn lent_live_sum<S: FarRead>(
+fn lent_live_sum<S: FarTickets>(
     objects: &Objects<Option<i64>, S>,
     column: &IntColumn,
     alive: &Alive,
@@ -84,7 +84,7 @@ fn lent_live_sum<S: FarRead>(
 
 /// The sum of all values of a column.
 #[inline(never)]
-fn lent_whole_sum<S: FarRead>(
+fn lent_whole_sum<S: FarTickets>(
     objects: &Objects<Option<i64>, S>,
     column: &IntColumn,
     alive: &Alive,
@@ -124,7 +124,7 @@ fn time_list(
 
 /// One round of the sums of a column. They are taken away from what the list's sums have added, so that nothing is left
 /// where they are the same.
-fn time_column<S: FarRead>(
+fn time_column<S: FarTickets>(
     rt: &HostRuntime,
     objects: &Objects<Option<i64>, S>,
     column: &IntColumn,
@@ -164,7 +164,7 @@ fn all_alive(alloc: Global, count: usize) -> Result<Alive, Refusal> {
 }
 
 /// Adds these numbers to a column. There are few objects.
-fn fill<S: FarRead>(
+fn fill<S: FarTickets>(
     objects: &mut Objects<Option<i64>, S>,
     column: &mut IntColumn,
     numbers: &[Option<i64>],
@@ -182,7 +182,7 @@ fn fill<S: FarRead>(
 }
 
 /// The sums of a list and of a column, in turn.
-fn time_rounds<S: FarRead>(
+fn time_rounds<S: FarTickets>(
     rt: &HostRuntime,
     objects: &Objects<Option<i64>, S>,
     column: &IntColumn,
@@ -202,7 +202,7 @@ fn time_rounds<S: FarRead>(
 }
 
 /// The times with a column that has no number yet.
-fn time_filled<S: FarRead>(
+fn time_filled<S: FarTickets>(
     rt: &HostRuntime,
     objects: &mut Objects<Option<i64>, S>,
     column: &mut IntColumn,
@@ -217,7 +217,7 @@ fn time_filled<S: FarRead>(
 }
 
 /// The times with a column in these objects, with row groups of 4,096 places.
-fn time_in<S: FarRead>(
+fn time_in<S: FarTickets>(
     rt: &HostRuntime,
     objects: &mut Objects<Option<i64>, S>,
     count: usize,
@@ -231,7 +231,7 @@ fn time_in<S: FarRead>(
 
 /// Times the sums of so many numbers, in a list and in a column whose objects are all local: there is room for 2,097,152
 /// numbers. The store's type alone is needed.
-pub fn measure<S: FarRead>(
+pub fn measure<S: FarTickets>(
     rt: &HostRuntime,
     _store: &S,
     count: usize,

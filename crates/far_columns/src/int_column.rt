@@ -17,7 +17,7 @@ mod together;
 use crate::alive::Alive;
 use crate::lent::Lents;
 use far_scopes::Objects;
-use far_store::FarRead;
+use far_store::FarTickets;
 use far_types::Refusal;
 use far_vector::FarVector;
 use std::alloc::Global;
@@ -81,7 +81,7 @@ impl IntColumn {
     ///
     /// Refused with `OutOfRange` (14) exactly past the end, else with `Absent` (16) exactly where the object of the place's
     /// row group is away.
-    pub fn get<S: FarRead>(
+    pub fn get<S: FarTickets>(
         &self,
         objects: &Objects<Option<i64>, S>,
         place: usize,
@@ -100,7 +100,7 @@ impl IntColumn {
     /// `NoMemory` (1) alone. Elsewhere refused with `Absent` (16) exactly where the last row group's object is away, else
     /// with `EditsUsedUp` (24) exactly where that was written as often as objects may be, and takes no memory. Then nothing
     /// is changed.
-    pub fn push<S: FarRead>(
+    pub fn push<S: FarTickets>(
         &mut self,
         objects: &mut Objects<Option<i64>, S>,
         number: Option<i64>,
@@ -127,7 +127,7 @@ impl IntColumn {
     }
 
     /// Takes back a push that made an object: its number, the only one of its row group, and the object. Takes no memory.
-    pub fn unpush<S: FarRead>(&mut self, objects: &mut Objects<Option<i64>, S>)
+    pub fn unpush<S: FarTickets>(&mut self, objects: &mut Objects<Option<i64>, S>)
         requires is { IsVector (number_lists S.content objects.old) self.old }
         requires alone { self.old.len ≡ (length self.old.objects - 1) * self.old.size + 1 }
         requires last { slice_get self.old.objects (length self.old.objects - 1) ≡ Some (length objects.old.entries - 1) }
@@ -151,7 +151,7 @@ impl IntColumn {
     /// Refused with `OutOfRange` (14) exactly past the end, else with `Absent` (16) exactly where the object of the place's
     /// row group is away, else with `EditsUsedUp` (24) exactly where that was written as often as objects may be; then
     /// nothing is changed.
-    pub fn set<S: FarRead>(
+    pub fn set<S: FarTickets>(
         &mut self,
         objects: &mut Objects<Option<i64>, S>,
         place: usize,
@@ -174,7 +174,7 @@ impl IntColumn {
     }
 
     /// Whether the number of a place may be written. Takes no memory, and is refused exactly as `set` is.
-    pub fn may_set<S: FarRead>(
+    pub fn may_set<S: FarTickets>(
         &self,
         objects: &Objects<Option<i64>, S>,
         place: usize,
@@ -190,7 +190,7 @@ impl IntColumn {
     ///
     /// Refused with `OutOfRange` (14) exactly where `from` is above `to` or `to` is past the end; else with `Absent` (16)
     /// exactly where the object of a row group with some of them is away, naming the first such.
-    pub fn lent<'a, S: FarRead>(
+    pub fn lent<'a, S: FarTickets>(
         &'a self,
         objects: &'a Objects<Option<i64>, S>,
         alive: &'a Alive,
@@ -227,7 +227,7 @@ impl IntColumn {
     }
 
     // Whether the object of the next place is local, whose row group is begun.
-    fn next_is_here<S: FarRead>(&self, objects: &Objects<Option<i64>, S>) -> Result<(), Refusal>
+    fn next_is_here<S: FarTickets>(&self, objects: &Objects<Option<i64>, S>) -> Result<(), Refusal>
         requires is { IsVector (number_lists S.content objects.now) self.now }
         requires begun { is_full self.now ≡ false }
         ensures { refusal_in result ≡ lend_refusal objects.now (object_at self.now self.now.len) }
@@ -236,7 +236,10 @@ impl IntColumn {
     }
 
     // Whether it may be written.
-    fn next_is_writable<S: FarRead>(&self, objects: &Objects<Option<i64>, S>) -> Result<(), Refusal>
+    fn next_is_writable<S: FarTickets>(
+        &self,
+        objects: &Objects<Option<i64>, S>,
+    ) -> Result<(), Refusal>
         requires is { IsVector (number_lists S.content objects.now) self.now }
         requires begun { is_full self.now ≡ false }
         ensures { refusal_in result ≡ write_refusal objects.now (object_at self.now self.now.len) }

@@ -3,7 +3,7 @@ ghost use Rattle.std.specs.Prelude.{◌≡◌, [], ◌∷◌, length, IfSome, If
 ghost use Rattle.std.specs.List.{flat_map};
 ghost use Rattle.far_columns.specs.Numbers.{with_flags};
 
-use far_store::FarRead;
+use far_store::FarTickets;
 use far_vector::Pieces;
 use std::marker::Model;
 
@@ -18,13 +18,13 @@ pub struct Lent<'a> {
 /// A part of a column, piece by piece: one for each row group that has some of it, with the flags of its places. None is
 /// empty.
 #[derive(Drop)]
-pub struct Lents<'a, S: FarRead> {
+pub struct Lents<'a, S: FarTickets> {
     pieces: Pieces<'a, Option<i64>, S>,
     // The flags of the places that are left.
     alive: &'a [bool],
 }
 
-impl<'a, S: FarRead> Model for Lents<'a, S> {
+impl<'a, S: FarTickets> Model for Lents<'a, S> {
     ghost use Rattle.std.specs.Prelude.{List, Bool, Option, ℤ, ◌≡◌, length};
     ghost use Rattle.std.specs.List.{flat_map};
     ghost use Rattle.far_columns.specs.Numbers.{Numbers, with_flags};
@@ -36,7 +36,7 @@ impl<'a, S: FarRead> Model for Lents<'a, S> {
     ghost invariant = { λ l. length l.alive.now ≡ length (flat_map (λ piece. piece) l.pieces) };
 }
 
-impl<'a, S: FarRead> Lents<'a, S> {
+impl<'a, S: FarTickets> Lents<'a, S> {
     /// Pieces with the flags of their places, one behind the other.
     pub(crate) fn new(pieces: Pieces<'a, Option<i64>, S>, alive: &'a [bool]) -> Lents<'a, S>
         requires { length alive.now ≡ length (flat_map (λ piece. piece) pieces) }

@@ -6,11 +6,11 @@ ghost use Rattle.far_columns.specs.Texts.{lists_of, IsTextColumn};
 use crate::script::WRONG;
 use far_columns::{Alive, IntColumn, Lent, TextColumn};
 use far_scopes::Objects;
-use far_store::FarRead;
+use far_store::FarTickets;
 use far_types::Refusal;
 
 /// Lends a part of a column of texts, and finds the text of each place and its flag.
-pub fn lend_texts<S: FarRead>(
+pub fn lend_texts<S: FarTickets>(
     objects: &Objects<u8, S>,
     column: &TextColumn,
     alive: &Alive,
@@ -39,7 +39,7 @@ pub fn lend_texts<S: FarRead>(
 
 /// Lends a part of a column of numbers, whose row groups have so many places, and finds the number of each place and its
 /// flag, a piece for each row group.
-pub fn lend_numbers<S: FarRead>(
+pub fn lend_numbers<S: FarTickets>(
     objects: &Objects<Option<i64>, S>,
     column: &IntColumn,
     alive: &Alive,
@@ -74,7 +74,7 @@ fn end_of_group(place: usize, size: usize) -> usize {
 }
 
 // Whether a piece has the numbers of these places and their flags.
-fn is_piece<S: FarRead>(
+fn is_piece<S: FarTickets>(
     objects: &Objects<Option<i64>, S>,
     column: &IntColumn,
     alive: &Alive,

@@ -14,7 +14,7 @@ use crate::tickets::again_of;
 use far_codec::Elem;
 use far_pointer::Pointer;
 use far_scopes::Objects;
-use far_store::FarRead;
+use far_store::FarTickets;
 use far_types::Refusal;
 use std::alloc::Global;
 use std::marker::PhantomData;
@@ -33,7 +33,7 @@ pub enum Want {
 ///
 /// Refused with `StaleJob` (20) exactly where the coldest object is wanted and there is none; with `Absent` (16), which
 /// names the object, exactly where one is named that is away; else with `NoMemory` (1) alone.
-pub fn begin_evac<T: Elem, S: FarRead>(
+pub fn begin_evac<T: Elem, S: FarTickets>(
     alloc: Global,
     objects: &Objects<T, S>,
     store: &S,
@@ -68,7 +68,7 @@ pub fn begin_evac<T: Elem, S: FarRead>(
 }
 
 // The number of the object that is wanted.
-fn chosen<T: Elem, S: FarRead>(objects: &Objects<T, S>, want: Want) -> Result<u32, Refusal>
+fn chosen<T: Elem, S: FarTickets>(objects: &Objects<T, S>, want: Want) -> Result<u32, Refusal>
     requires within { IsWanted objects.now want }
     requires tracked { AreTracked T.meaning S.content (IsSpelled T.in_range T.has_spelling T.spelling) objects.now }
     ensures taken { IfOk result (λ o. taken objects.now want ≡ Some o) }
@@ -88,7 +88,7 @@ fn chosen<T: Elem, S: FarRead>(objects: &Objects<T, S>, want: Want) -> Result<u3
 /// Begins to bring an object back. Takes no memory.
 ///
 /// Refused with `StaleJob` (20) exactly where the object is local.
-pub fn begin_fetch<T: Elem, S: FarRead>(
+pub fn begin_fetch<T: Elem, S: FarTickets>(
     objects: &Objects<T, S>,
     store: &S,
     o: u32,

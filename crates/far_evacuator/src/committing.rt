@@ -10,7 +10,7 @@ use crate::evacuation::{Carried, EvacForm};
 use crate::tickets::is_under;
 use far_codec::Elem;
 use far_scopes::Objects;
-use far_store::FarRead;
+use far_store::FarTickets;
 use far_types::Refusal;
 
 /// Sends an object away whose far form was carried. The carried evacuation is kept; no second commit of it is accepted.
@@ -19,7 +19,7 @@ use far_types::Refusal;
 /// Refused with `StaleJob` (20) exactly where what it rests on does not hold any more (`IsCommittable`): it was begun on
 /// other objects, the object is away, was written or away since, has used up its leavings, or is no longer what was
 /// carried; and else with `Pinned` (19) exactly where the object has a pin. Then nothing is changed.
-pub fn commit<T: Elem, S: FarRead>(
+pub fn commit<T: Elem, S: FarTickets>(
     objects: &mut Objects<T, S>,
     store: &S,
     carried: &Carried<T, S>,
@@ -50,7 +50,7 @@ pub fn commit<T: Elem, S: FarRead>(
 }
 
 // Whether what a carried evacuation rests on still holds. Takes no memory.
-fn is_committable<T: Elem, S: FarRead>(
+fn is_committable<T: Elem, S: FarTickets>(
     objects: &Objects<T, S>,
     store: &S,
     carried: &Carried<T, S>,
@@ -77,7 +77,7 @@ fn is_committable<T: Elem, S: FarRead>(
 }
 
 // Whether an object, which has this list, is still what was carried. Takes no memory.
-fn is_still<T: Elem, S: FarRead>(
+fn is_still<T: Elem, S: FarTickets>(
     objects: &Objects<T, S>,
     store: &S,
     carried: &Carried<T, S>,

@@ -6,7 +6,7 @@ ghost use Rattle.far_evacuator.specs.Jobs.{outcome, IsFormTicket, IsFormOf, IsSp
 
 use crate::far_form::FarForm;
 use far_codec::Elem;
-use far_store::{FarRead, FarStore, Meter};
+use far_store::{FarStore, FarTickets, Meter};
 use far_types::Refusal;
 use std::alloc::Global;
 use std::marker::{Model, PhantomData};
@@ -26,7 +26,7 @@ pub enum EvacForm<K> {
 /// That an object with a good far copy isn't written again is AIFM's (OSDI 2020, section 5); the phases are this project's
 /// own.
 #[derive(Drop)]
-pub struct EvacJob<T: Elem, S: FarRead> {
+pub struct EvacJob<T: Elem, S: FarTickets> {
     pub(crate) number: u32,
     pub(crate) object: u32,
     pub(crate) version: u64,
@@ -35,7 +35,7 @@ pub struct EvacJob<T: Elem, S: FarRead> {
     pub(crate) kind: PhantomData<T>,
 }
 
-impl<T: Elem, S: FarRead> Model for EvacJob<T, S> {
+impl<T: Elem, S: FarTickets> Model for EvacJob<T, S> {
     ghost use Rattle.far_codec.specs.Spelling.{IsSpelled};
     ghost use Rattle.far_evacuator.specs.Jobs.{Evacuation, IsSpelledForm};
 
@@ -48,12 +48,12 @@ impl<T: Elem, S: FarRead> Model for EvacJob<T, S> {
 
 /// An evacuation whose object the far store has: the job, and the ticket of its far form.
 #[derive(Drop)]
-pub struct Carried<T: Elem, S: FarRead> {
+pub struct Carried<T: Elem, S: FarTickets> {
     pub(crate) job: EvacJob<T, S>,
     pub(crate) ticket: S::Ticket,
 }
 
-impl<T: Elem, S: FarRead> Model for Carried<T, S> {
+impl<T: Elem, S: FarTickets> Model for Carried<T, S> {
     ghost use Rattle.far_evacuator.specs.Jobs.{CarriedEvacuation, IsFormTicket};
 
     ghost Value = { CarriedEvacuation S.Ticket };

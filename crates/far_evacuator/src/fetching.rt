@@ -3,7 +3,7 @@ ghost use Rattle.std.specs.Prelude.{◌≡◌, ◌+◌, ◌<◌, ◌^◌, [], �
 ghost use Rattle.far_store.specs.Faults.{faults_in, RefusedBy};
 ghost use Rattle.far_evacuator.specs.Jobs.{outcome};
 
-use far_store::{FarRead, Meter};
+use far_store::{FarRead, FarTickets, Meter};
 use far_types::Refusal;
 use std::alloc::Global;
 use std::marker::Model;
@@ -11,14 +11,14 @@ use std::marker::Model;
 /// A fetch that was begun: of which object of which frame, how often that had been away, and its ticket. It borrows
 /// nothing, so any thread can carry it.
 #[derive(Drop)]
-pub struct FetchJob<S: FarRead> {
+pub struct FetchJob<S: FarTickets> {
     pub(crate) number: u32,
     pub(crate) object: u32,
     pub(crate) leavings: u64,
     pub(crate) ticket: S::Ticket,
 }
 
-impl<S: FarRead> Model for FetchJob<S> {
+impl<S: FarTickets> Model for FetchJob<S> {
     ghost use Rattle.far_evacuator.specs.Jobs.{Fetch};
 
     ghost Value = { Fetch S.Ticket };
@@ -28,12 +28,12 @@ impl<S: FarRead> Model for FetchJob<S> {
 
 /// A fetch whose bytes were read: the job, and its ticket's content.
 #[derive(Drop)]
-pub struct Fetched<S: FarRead> {
+pub struct Fetched<S: FarTickets> {
     pub(crate) job: FetchJob<S>,
     pub(crate) bytes: Vec<u8>,
 }
 
-impl<S: FarRead> Model for Fetched<S> {
+impl<S: FarTickets> Model for Fetched<S> {
     ghost use Rattle.std.specs.Prelude.{◌≡◌};
     ghost use Rattle.far_evacuator.specs.Jobs.{CarriedFetch};
 

@@ -11,7 +11,7 @@ use crate::tickets::is_under;
 use far_codec::Elem;
 use far_pointer::Pointer;
 use far_scopes::Objects;
-use far_store::FarRead;
+use far_store::FarTickets;
 use far_types::Refusal;
 use std::alloc::Global;
 
@@ -20,7 +20,7 @@ use std::alloc::Global;
 /// Refused with `StaleJob` (20) exactly where what the fetch rests on does not hold any more (`IsInstallable`): it was
 /// begun on other objects, or the object is local, or has been away again since; else with `RegionFull` (17) exactly where
 /// no segment has the space; else with `NoMemory` (1) alone. Then nothing is changed.
-pub fn install<T: Elem, S: FarRead>(
+pub fn install<T: Elem, S: FarTickets>(
     alloc: Global,
     objects: &mut Objects<T, S>,
     store: &S,
@@ -54,7 +54,7 @@ pub fn install<T: Elem, S: FarRead>(
 }
 
 // Whether what a fetch rests on still holds. Takes no memory.
-fn is_installable<T: Elem, S: FarRead>(
+fn is_installable<T: Elem, S: FarTickets>(
     objects: &Objects<T, S>,
     store: &S,
     fetched: &Fetched<S>,

@@ -6,10 +6,10 @@ ghost use Rattle.far_evacuator.specs.Acceptance.{IsUnder};
 
 use far_codec::Elem;
 use far_scopes::Objects;
-use far_store::FarRead;
+use far_store::FarTickets;
 
 /// Whether an object's newest far copy is under the number of this ticket. Takes no memory.
-pub(crate) fn is_under<T: Elem, S: FarRead>(
+pub(crate) fn is_under<T: Elem, S: FarTickets>(
     objects: &Objects<T, S>,
     store: &S,
     o: u32,
@@ -28,7 +28,11 @@ pub(crate) fn is_under<T: Elem, S: FarRead>(
 }
 
 /// The ticket of an object that has one. Takes no memory.
-pub(crate) fn again_of<T: Elem, S: FarRead>(objects: &Objects<T, S>, store: &S, o: u32) -> S::Ticket
+pub(crate) fn again_of<T: Elem, S: FarTickets>(
+    objects: &Objects<T, S>,
+    store: &S,
+    o: u32,
+) -> S::Ticket
     requires within { o < length objects.now.entries }
     requires copy { option_map_or has_copy (word_of objects.now o) false ≡ true }
     requires here { IfSome (ticket_of objects.now o) (λ own. S.is_of own (S.name store.now)) }

@@ -5,7 +5,7 @@ ghost use Rattle.far_scopes.specs.Movement.{AreHere};
 
 use far_codec::Elem;
 use far_scopes::Objects;
-use far_store::{AgentStore, FarRead, FarStore, Meter};
+use far_store::{AgentStore, FarStore, FarTickets, Meter};
 use far_types::Refusal;
 use std::alloc::Global;
 
@@ -18,7 +18,7 @@ pub fn agent(rt: &HostRuntime, capacity: u64) -> Result<AgentStore<&HostRuntime>
 }
 
 /// No object of frame 7, in so many segments of `size` elements; each may be written `changes` times and go away `leavings` times.
-pub fn no_objects<T: Elem, S: FarRead>(
+pub fn no_objects<T: Elem, S: FarTickets>(
     alloc: Global,
     _store: &S,
     segments: u32,

@@ -3,11 +3,11 @@ ghost use Rattle.std.specs.Prelude.{◌<◌, length};
 
 use crate::Element;
 use far_scopes::Objects;
-use far_store::FarRead;
+use far_store::FarTickets;
 
 /// A number that all goes into that is known of objects: their lists, words and records, whether lists of up to 64 elements
 /// fit, and which goes away first. Allocates nothing.
-pub fn digest_of<T: Element, S: FarRead>(objects: &Objects<T, S>) -> u64 {
+pub fn digest_of<T: Element, S: FarTickets>(objects: &Objects<T, S>) -> u64 {
     let mut digest = with_optional(0, objects.coldest().map(u64::from));
     for len in 0..65 {
         digest = with(digest, u64::from(objects.fits(len)));
@@ -18,7 +18,7 @@ pub fn digest_of<T: Element, S: FarRead>(objects: &Objects<T, S>) -> u64 {
     digest
 }
 
-fn with_object<T: Element, S: FarRead>(digest: u64, objects: &Objects<T, S>, o: u32) -> u64
+fn with_object<T: Element, S: FarTickets>(digest: u64, objects: &Objects<T, S>, o: u32) -> u64
     requires { o < length objects.now.entries }
 {
     let mut digest = with(digest, objects.word(o).bits());

@@ -7,7 +7,7 @@ ghost use Rattle.far_offload.specs.Partials.{partial_of, pairs_over};
 use crate::content::{contents_under, lend_all};
 use crate::fold::fold;
 use crate::partial::PartialDone;
-use far_store::{FarRead, Meter};
+use far_store::{FarRead, FarTickets, Meter};
 use far_types::{Refusal, Spec};
 use std::alloc::Global;
 use std::marker::Model;
@@ -18,13 +18,13 @@ use std::marker::Model;
 /// Contracts see the aggregate, the tickets of the columns by number, and the alive flags. That the remote agent works
 /// on far data where it lies, and only what it came to travels, is AIFM's offloading (OSDI 2020, section 4.4).
 #[derive(Drop)]
-pub struct OffloadJob<S: FarRead> {
+pub struct OffloadJob<S: FarTickets> {
     spec: Spec,
     tickets: Vec<(u32, S::Ticket)>,
     alive: Vec<bool>,
 }
 
-impl<S: FarRead> Model for OffloadJob<S> {
+impl<S: FarTickets> Model for OffloadJob<S> {
     ghost use Rattle.far_types.specs.declared.spec.Spec.{Spec};
     ghost use Rattle.far_offload.specs.Jobs.{Job, AreForms};
     ghost use Rattle.std.specs.Prelude.{length, ◌≤◌, ◌^◌};
@@ -36,7 +36,7 @@ impl<S: FarRead> Model for OffloadJob<S> {
     ghost invariant = { λ job. AreForms S.content job.tickets.items × (length job.alive.items ≤ 2 ^ 26) };
 }
 
-impl<S: FarRead> OffloadJob<S> {
+impl<S: FarTickets> OffloadJob<S> {
     /// A job over these columns: for each column that the aggregate needs, its number and a ticket whose content is a
     /// far form. There is a place for each flag, at most 2^26. A column without a ticket, and a place past the end of a
     /// content, have no value. Takes no memory.
@@ -51,7 +51,9 @@ impl<S: FarRead> OffloadJob<S> {
             alive,
         }
     }
+}
 
+impl<S: FarRead> OffloadJob<S> {
     /// What the live places come to: the aggregate over the rows that the contents mean, in the words of the plain
     /// table. Nothing enters the local region: the contents are read into buffers of their own, which are let go.
     /// Refused with `FarFault` (21) where the store fails in this call, exactly where the meter rises, by one, and

@@ -19,7 +19,7 @@ mod setting;
 use super::slot::Slot;
 use far_columns::{Alive, IntColumn, TextColumn};
 use far_scopes::Objects;
-use far_store::FarRead;
+use far_store::FarTickets;
 use far_types::{Kind, Limits, Refusal, Schema};
 use opening::columns_of;
 use std::alloc::Global;
@@ -30,7 +30,7 @@ use std::marker::Model;
 /// Contracts see where each column lies, the columns, the objects and the flags; `specs/Rows.antt` says which cells that
 /// is (`cells_of`).
 #[derive(Drop)]
-pub struct Rows<S: FarRead> {
+pub struct Rows<S: FarTickets> {
     slots: Vec<Slot>,
     // How many places a row group has.
     size: u32,
@@ -41,7 +41,7 @@ pub struct Rows<S: FarRead> {
     alive: Alive,
 }
 
-impl<S: FarRead> Model for Rows<S> {
+impl<S: FarTickets> Model for Rows<S> {
     ghost use Rattle.far_rows.specs.Rows.{Rows, AreRows};
 
     ghost Value = { Rows S.Ticket };
@@ -51,7 +51,7 @@ impl<S: FarRead> Model for Rows<S> {
     ghost invariant = { λ r. AreRows S.content record { slots = r.slots.items; size = r.size; numbers = r.numbers.items; texts = r.texts.items; number_objects = r.number_objects; text_objects = r.text_objects; alive = r.alive } };
 }
 
-impl<S: FarRead> Rows<S> {
+impl<S: FarTickets> Rows<S> {
     /// The rows of a table with this schema, before any row. The number tells the jobs of its objects from those of other
     /// tables. All memory for elements is taken here.
     ///

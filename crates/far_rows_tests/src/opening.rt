@@ -1,6 +1,6 @@
 // Tables that are opened: worked examples.
 use far_rows::{Rows, Slot};
-use far_store::{AgentStore, FarRead};
+use far_store::{AgentStore, FarTickets};
 use far_types::{Kind, Limits, Refusal, Schema};
 use std::alloc::Global;
 use std::test::Fail;
@@ -10,7 +10,7 @@ type Store<'a> = AgentStore<&'a HostRuntime>;
 
 /// An empty table of a column of numbers, one of texts and another of numbers, at the second call where the first finds no
 /// memory.
-fn opened<S: FarRead>(alloc: Global) -> Result<Rows<S>, Refusal> {
+fn opened<S: FarTickets>(alloc: Global) -> Result<Rows<S>, Refusal> {
     let schema = Schema::new(Vec::from_array(alloc, [Kind::Int, Kind::Text, Kind::Int])?)?;
     let limits = Limits {
         group: 4,
@@ -29,7 +29,7 @@ fn opened<S: FarRead>(alloc: Global) -> Result<Rows<S>, Refusal> {
 }
 
 /// How many pieces of a column's places `from` up to `to` are lent.
-fn pieces<S: FarRead>(
+fn pieces<S: FarTickets>(
     rows: &Rows<S>,
     column: usize,
     from: usize,
@@ -42,32 +42,32 @@ fn pieces<S: FarRead>(
 const SLOTS: [Slot; 3] = [Slot::Number(0), Slot::Text(0), Slot::Number(1)];
 
 /// Whether the columns have these slots, and of which kind they and the next would be.
-fn columns<S: FarRead>(alloc: Global) -> Result<(bool, [Option<Kind>; 4]), Refusal> {
+fn columns<S: FarTickets>(alloc: Global) -> Result<(bool, [Option<Kind>; 4]), Refusal> {
     let rows = opened::<S>(alloc)?;
     let kinds = [rows.kind(0), rows.kind(1), rows.kind(2), rows.kind(3)];
     Ok((rows.slots() == SLOTS.as_slice(), kinds))
 }
 
 /// How many places there are, and whether the first is alive.
-fn places<S: FarRead>(alloc: Global) -> Result<(usize, Option<bool>), Refusal> {
+fn places<S: FarTickets>(alloc: Global) -> Result<(usize, Option<bool>), Refusal> {
     let rows = opened::<S>(alloc)?;
     Ok((rows.len(), rows.is_alive(0)))
 }
 
 /// Why the first place has no cell in the last column, nor in the next.
-fn cells<S: FarRead>(alloc: Global) -> Result<[Option<Refusal>; 2], Refusal> {
+fn cells<S: FarTickets>(alloc: Global) -> Result<[Option<Refusal>; 2], Refusal> {
     let rows = opened::<S>(alloc)?;
     Ok([rows.cell(0, 2).err(), rows.cell(0, 3).err()])
 }
 
 /// Whether two row groups are here.
-fn groups<S: FarRead>(alloc: Global) -> Result<[Result<(), Refusal>; 2], Refusal> {
+fn groups<S: FarTickets>(alloc: Global) -> Result<[Result<(), Refusal>; 2], Refusal> {
     let rows = opened::<S>(alloc)?;
     Ok([rows.here(0), rows.here(9)])
 }
 
 /// How many pieces are lent of columns of numbers, of one of texts, and where there is none.
-fn numbers<S: FarRead>(alloc: Global) -> Result<[Result<usize, Refusal>; 4], Refusal> {
+fn numbers<S: FarTickets>(alloc: Global) -> Result<[Result<usize, Refusal>; 4], Refusal> {
     let rows = opened::<S>(alloc)?;
     Ok([
         pieces(&rows, 0, 0, 0),
@@ -78,7 +78,7 @@ fn numbers<S: FarRead>(alloc: Global) -> Result<[Result<usize, Refusal>; 4], Ref
 }
 
 /// Why no text is lent of a column of texts, of one of numbers, and where there is none.
-fn texts<S: FarRead>(alloc: Global) -> Result<[Option<Refusal>; 3], Refusal> {
+fn texts<S: FarTickets>(alloc: Global) -> Result<[Option<Refusal>; 3], Refusal> {
     let rows = opened::<S>(alloc)?;
     Ok([
         rows.text(1, 0).err(),

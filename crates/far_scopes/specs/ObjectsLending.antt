@@ -2,7 +2,7 @@
 use Rattle.std.specs.Prelude.{ℕ, List}
 use Rattle.std.specs.Borrow.{Lends, Fml, RattleType, MutBor, Array}
 use Rattle.far_codec.specs.declared.elem.Elem as elem
-use Rattle.far_store.specs.declared.store.FarRead as far
+use Rattle.far_store.specs.declared.store.FarTickets as far
 use Rattle.far_scopes.specs.Movement.{Movement}
 use Rattle.far_scopes.specs.Effects.{written, overwritten}
 use Rattle.far_scopes.specs.contracts.objects.Objects.{the_row}

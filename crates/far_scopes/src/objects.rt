@@ -21,14 +21,14 @@ use super::memory::LocalMemory;
 use super::recency::Recency;
 use far_codec::Elem;
 use far_pointer::Word;
-use far_store::FarRead;
+use far_store::FarTickets;
 use far_types::Refusal;
 use std::alloc::Global;
 use std::marker::Model;
 
 /// Objects, each a list of elements, that move between local memory and the far store of `S`.
 #[derive(Drop)]
-pub struct Objects<T: Elem, S: FarRead> {
+pub struct Objects<T: Elem, S: FarTickets> {
     number: u32,
     changes: u64,
     leavings: u64,
@@ -37,7 +37,7 @@ pub struct Objects<T: Elem, S: FarRead> {
     order: Recency,
 }
 
-impl<T: Elem, S: FarRead> Model for Objects<T, S> {
+impl<T: Elem, S: FarTickets> Model for Objects<T, S> {
     ghost use Rattle.far_scopes.specs.Movement.{Movement};
 
     ghost Value = { Movement T S.Ticket };
@@ -50,7 +50,7 @@ impl<T: Elem, S: FarRead> Model for Objects<T, S> {
     ghost invariant = { λ a. AreTracked T.meaning S.content (IsSpelled T.in_range T.has_spelling T.spelling) record { number = a.number; changes = a.changes; leavings = a.leavings; memory = a.memory; entries = a.entries.items; order = a.order } };
 }
 
-impl<T: Elem, S: FarRead> Objects<T, S> {
+impl<T: Elem, S: FarTickets> Objects<T, S> {
     /// No object. The frame's number is kept with them, which tells the jobs of one frame from those of another.
     ///
     /// All memory for elements is taken here. Refused with `NoMemory` (1) alone.

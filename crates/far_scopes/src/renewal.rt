@@ -1,6 +1,6 @@
 // The far copies of objects in another store.
 use super::entry::Entry;
-use far_store::FarRead;
+use far_store::FarTickets;
 use std::marker::Model;
 
 /// The far copies that `Objects::renewal` put into another store. Contracts see, by object number, the ticket of each
@@ -8,13 +8,13 @@ use std::marker::Model;
 ///
 /// It has the room for the records of the objects too, so that `Objects::renew` takes no memory.
 #[derive(Drop)]
-pub struct Renewal<N: FarRead> {
+pub struct Renewal<N: FarTickets> {
     pub(crate) tickets: Vec<Option<N::Ticket>>,
     /// The room: no record, and space for one for each ticket.
     pub(crate) entries: Vec<Entry<N::Ticket>>,
 }
 
-impl<N: FarRead> Model for Renewal<N> {
+impl<N: FarTickets> Model for Renewal<N> {
     ghost use Rattle.std.specs.Prelude.{List, Option};
 
     ghost Value = { List (Option N.Ticket) };

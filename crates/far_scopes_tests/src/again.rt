@@ -12,12 +12,12 @@ ghost use Rattle.far_scopes.specs.Renewal.{Renews, AreTicketsHere};
 
 use far_fixtures::digest_of;
 use far_scopes::{Objects, Renewal, Replacement, Scope};
-use far_store::{FarRead, FarStore, Meter};
+use far_store::{FarStore, FarTickets, Meter};
 use far_types::{Name, Refusal};
 use std::alloc::Global;
 
 /// Makes an object of this list, of column 0 and row group `group`.
-pub fn create<S: FarRead>(
+pub fn create<S: FarTickets>(
     objects: &mut Objects<i64, S>,
     group: u32,
     list: &[i64],
@@ -39,7 +39,7 @@ pub fn create<S: FarRead>(
 }
 
 /// Gives an object another list.
-pub fn replace<S: FarRead>(
+pub fn replace<S: FarTickets>(
     objects: &mut Objects<i64, S>,
     o: u32,
     list: &[i64],
@@ -57,7 +57,7 @@ pub fn replace<S: FarRead>(
 }
 
 /// Gives listed objects other lists together.
-pub fn replace_all<S: FarRead>(
+pub fn replace_all<S: FarTickets>(
     objects: &mut Objects<i64, S>,
     lists: &[Replacement<i64>],
 ) -> Result<(), Refusal>
@@ -74,7 +74,7 @@ pub fn replace_all<S: FarRead>(
 }
 
 /// Compacts a segment.
-pub fn compact<S: FarRead>(
+pub fn compact<S: FarTickets>(
     alloc: Global,
     objects: &mut Objects<i64, S>,
     segment: u32,
@@ -89,7 +89,7 @@ pub fn compact<S: FarRead>(
 }
 
 /// Pins objects together.
-pub fn enter<S: FarRead>(
+pub fn enter<S: FarTickets>(
     alloc: Global,
     objects: &mut Objects<i64, S>,
     listed: &[u32],
@@ -108,7 +108,7 @@ pub fn enter<S: FarRead>(
 }
 
 /// Brings an object back that is away.
-pub fn arrive<S: FarRead>(
+pub fn arrive<S: FarTickets>(
     objects: &mut Objects<i64, S>,
     o: u32,
     list: &[i64],

@@ -5,20 +5,20 @@ use crate::again::create;
 use crate::fixture::{empty, with_agent};
 use crate::script::{Call, Step, TWO_OF_FOUR, first_wrong, made};
 use far_scopes::Objects;
-use far_store::FarRead;
+use far_store::FarTickets;
 use far_types::Refusal;
 use std::alloc::Global;
 use std::test::Fail;
 
 /// Whether lists fit beside an object of two elements, which leaves space for two in the first segment and for four in the
 /// second: of four and two elements, of one and four, and of one, four and two.
-fn fit_beside_two<S: FarRead>(alloc: Global, store: &S) -> Result<[bool; 3], Refusal> {
+fn fit_beside_two<S: FarTickets>(alloc: Global, store: &S) -> Result<[bool; 3], Refusal> {
     let mut objects = empty(alloc, store)?;
     create(&mut objects, 0, &[1, 2])?;
     Ok(fit(&objects))
 }
 
-fn fit<S: FarRead>(objects: &Objects<i64, S>) -> [bool; 3] {
+fn fit<S: FarTickets>(objects: &Objects<i64, S>) -> [bool; 3] {
     [
         objects.fits_in_order(&[4, 2]),
         objects.fits_in_order(&[1, 4]),

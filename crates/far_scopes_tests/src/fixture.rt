@@ -6,7 +6,7 @@ ghost use Rattle.far_scopes.specs.Movement.{AreHere, is_local, list_of};
 use crate::again::create;
 use far_fixtures::{agent, no_objects, put};
 use far_scopes::Objects;
-use far_store::{AgentStore, FarRead, FarStore};
+use far_store::{AgentStore, FarStore, FarTickets};
 use far_types::Refusal;
 use std::alloc::Global;
 
@@ -22,7 +22,7 @@ pub fn with_agent<'r, R, F: FnOnce(Global, &AgentStore<&'r HostRuntime>) -> Resu
 }
 
 /// No object, in two segments of four numbers; two writes and one leaving each.
-pub fn empty<S: FarRead>(alloc: Global, store: &S) -> Result<Objects<i64, S>, Refusal>
+pub fn empty<S: FarTickets>(alloc: Global, store: &S) -> Result<Objects<i64, S>, Refusal>
     ensures none { IfOk result (λ m. m.entries ≡ []) }
     ensures leaves { IfOk result (λ m. m.leavings ≡ 1) }
 {
@@ -30,7 +30,7 @@ pub fn empty<S: FarRead>(alloc: Global, store: &S) -> Result<Objects<i64, S>, Re
 }
 
 /// Makes two objects of these lists, of the row groups 0 and 1.
-pub fn create_two<S: FarRead>(
+pub fn create_two<S: FarTickets>(
     objects: &mut Objects<i64, S>,
     first: &[i64],
     second: &[i64],
@@ -68,7 +68,7 @@ pub fn create_away<S: FarStore>(
 }
 
 /// Whether an object is local and has this list.
-pub fn has<S: FarRead>(objects: &Objects<i64, S>, o: u32, list: &[i64]) -> bool
+pub fn has<S: FarTickets>(objects: &Objects<i64, S>, o: u32, list: &[i64]) -> bool
     requires { o < length objects.now.entries }
 {
     match objects.lend(o) {

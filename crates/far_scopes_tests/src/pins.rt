@@ -6,17 +6,20 @@ use crate::fixture::{create_two, empty, with_agent};
 use crate::script::{Call, Step, TWO_OF_FOUR, first_wrong, made};
 use far_fixtures::put;
 use far_scopes::Objects;
-use far_store::{FarRead, FarStore};
+use far_store::{FarStore, FarTickets};
 use far_types::Refusal;
 use std::alloc::Global;
 use std::test::Fail;
 
-fn pins_given_back<S: FarRead>(alloc: Global, store: &S) -> Result<u32, Refusal> {
+fn pins_given_back<S: FarTickets>(alloc: Global, store: &S) -> Result<u32, Refusal> {
     pins_of_a_scope(alloc, &mut empty(alloc, store)?)
 }
 
 /// How many pins two objects give back that were pinned together, the first of them twice.
-fn pins_of_a_scope<S: FarRead>(alloc: Global, objects: &mut Objects<i64, S>) -> Result<u32, Refusal>
+fn pins_of_a_scope<S: FarTickets>(
+    alloc: Global,
+    objects: &mut Objects<i64, S>,
+) -> Result<u32, Refusal>
     requires { objects.old.entries ≡ [] }
 {
     create_two(objects, &[1], &[2])?;
@@ -51,7 +54,10 @@ fn send_second_away<S: FarStore>(
 }
 
 /// Why two objects are not pinned together, and how many pins the first has then.
-fn refused_scope<S: FarRead>(alloc: Global, objects: &mut Objects<i64, S>) -> (Option<Refusal>, u32)
+fn refused_scope<S: FarTickets>(
+    alloc: Global,
+    objects: &mut Objects<i64, S>,
+) -> (Option<Refusal>, u32)
     requires { length objects.old.entries ≡ 2 }
 {
     match enter(alloc, objects, &[0, 1]) {

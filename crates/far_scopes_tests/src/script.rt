@@ -6,7 +6,7 @@ use crate::fixture::has;
 use far_fixtures::{agent, no_objects};
 use far_pointer::{At, Pointer};
 use far_scopes::{Objects, Replacement};
-use far_store::{AgentStore, FarRead};
+use far_store::{AgentStore, FarTickets};
 use far_types::Refusal;
 use std::alloc::Global;
 
@@ -97,7 +97,7 @@ pub fn first_wrong(rt: &HostRuntime, room: Room, steps: &[Step]) -> Result<Optio
     first_wrong_in(rt.alloc(), &store, room, steps)
 }
 
-fn first_wrong_in<S: FarRead>(
+fn first_wrong_in<S: FarTickets>(
     alloc: Global,
     store: &S,
     room: Room,
@@ -108,7 +108,7 @@ fn first_wrong_in<S: FarRead>(
     play(alloc, &mut objects, steps)
 }
 
-fn play<S: FarRead>(
+fn play<S: FarTickets>(
     alloc: Global,
     objects: &mut Objects<i64, S>,
     steps: &[Step],
@@ -122,7 +122,7 @@ fn play<S: FarRead>(
 }
 
 /// Whether a step comes out.
-fn comes_out<S: FarRead>(
+fn comes_out<S: FarTickets>(
     alloc: Global,
     objects: &mut Objects<i64, S>,
     step: &Step,
@@ -137,7 +137,7 @@ fn comes_out<S: FarRead>(
 }
 
 /// Whether what a step says of objects is so.
-fn is_so<S: FarRead>(objects: &Objects<i64, S>, step: &Step) -> bool {
+fn is_so<S: FarTickets>(objects: &Objects<i64, S>, step: &Step) -> bool {
     match *step {
         Step::List(o, list) => lists(objects, o, list),
         Step::Version(o, times) => o < objects.count() && objects.version(o) == times,
@@ -151,7 +151,7 @@ fn is_so<S: FarRead>(objects: &Objects<i64, S>, step: &Step) -> bool {
 }
 
 /// Makes a call that is served.
-fn served<S: FarRead>(
+fn served<S: FarTickets>(
     alloc: Global,
     objects: &mut Objects<i64, S>,
     call: Call,
@@ -161,7 +161,7 @@ fn served<S: FarRead>(
 }
 
 /// Makes a call.
-fn make<S: FarRead>(
+fn make<S: FarTickets>(
     alloc: Global,
     objects: &mut Objects<i64, S>,
     call: Call,
@@ -183,7 +183,7 @@ fn make<S: FarRead>(
     }
 }
 
-fn create_as<S: FarRead>(
+fn create_as<S: FarTickets>(
     objects: &mut Objects<i64, S>,
     number: u32,
     group: u32,
@@ -199,7 +199,7 @@ fn create_as<S: FarRead>(
     }
 }
 
-fn replace_one<S: FarRead>(
+fn replace_one<S: FarTickets>(
     objects: &mut Objects<i64, S>,
     o: u32,
     list: &[i64],
@@ -210,7 +210,7 @@ fn replace_one<S: FarRead>(
     replace(objects, o, list)
 }
 
-fn give<S: FarRead>(
+fn give<S: FarTickets>(
     alloc: Global,
     objects: &mut Objects<i64, S>,
     o: u32,
@@ -223,7 +223,7 @@ fn give<S: FarRead>(
     replace_all(objects, &lists)
 }
 
-fn give_both<S: FarRead>(
+fn give_both<S: FarTickets>(
     alloc: Global,
     objects: &mut Objects<i64, S>,
     second: &[i64],
@@ -248,7 +248,7 @@ fn given(alloc: Global, object: u32, list: &[i64]) -> Result<Replacement<i64>, R
     Ok(Replacement { object, list })
 }
 
-fn write_first<S: FarRead>(
+fn write_first<S: FarTickets>(
     objects: &mut Objects<i64, S>,
     o: u32,
     number: i64,
@@ -263,7 +263,7 @@ fn write_first<S: FarRead>(
     Ok(())
 }
 
-fn write_all<S: FarRead>(
+fn write_all<S: FarTickets>(
     objects: &mut Objects<i64, S>,
     o: u32,
     number: i64,
@@ -276,7 +276,11 @@ fn write_all<S: FarRead>(
     Ok(())
 }
 
-fn pin_often<S: FarRead>(objects: &mut Objects<i64, S>, o: u32, times: u32) -> Result<(), Refusal> {
+fn pin_often<S: FarTickets>(
+    objects: &mut Objects<i64, S>,
+    o: u32,
+    times: u32,
+) -> Result<(), Refusal> {
     for _ in 0..times {
         if o >= objects.count() {
             return Err(Refusal::NoRow);
@@ -287,7 +291,7 @@ fn pin_often<S: FarRead>(objects: &mut Objects<i64, S>, o: u32, times: u32) -> R
 }
 
 /// Unmakes the last object, where there is one, it is local and has no pin.
-fn uncreate<S: FarRead>(objects: &mut Objects<i64, S>) -> Result<bool, Refusal> {
+fn uncreate<S: FarTickets>(objects: &mut Objects<i64, S>) -> Result<bool, Refusal> {
     let count = objects.count();
     if count == 0 {
         return Ok(false);
@@ -300,7 +304,7 @@ fn uncreate<S: FarRead>(objects: &mut Objects<i64, S>) -> Result<bool, Refusal> 
     Ok(true)
 }
 
-fn touch<S: FarRead>(objects: &mut Objects<i64, S>, o: u32) -> bool {
+fn touch<S: FarTickets>(objects: &mut Objects<i64, S>, o: u32) -> bool {
     let is_there = o < objects.count();
     if is_there {
         objects.touch(o);
@@ -308,12 +312,12 @@ fn touch<S: FarRead>(objects: &mut Objects<i64, S>, o: u32) -> bool {
     is_there
 }
 
-fn lists<S: FarRead>(objects: &Objects<i64, S>, o: u32, list: &[i64]) -> bool {
+fn lists<S: FarTickets>(objects: &Objects<i64, S>, o: u32, list: &[i64]) -> bool {
     o < objects.count() && has(objects, o, list)
 }
 
 /// Whether an object is named so.
-fn is_named<S: FarRead>(objects: &Objects<i64, S>, o: u32, column: u32, group: u32) -> bool {
+fn is_named<S: FarTickets>(objects: &Objects<i64, S>, o: u32, column: u32, group: u32) -> bool {
     if o >= objects.count() {
         return false;
     }
@@ -321,7 +325,7 @@ fn is_named<S: FarRead>(objects: &Objects<i64, S>, o: u32, column: u32, group: u
     name.column == column && name.group == group
 }
 
-fn is_cold_at<S: FarRead>(objects: &Objects<i64, S>, o: u32, at: At) -> bool {
+fn is_cold_at<S: FarTickets>(objects: &Objects<i64, S>, o: u32, at: At) -> bool {
     let cold = Pointer::Local {
         at,
         dirty: true,

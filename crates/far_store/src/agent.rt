@@ -4,7 +4,7 @@ ghost use Rattle.far_store.specs.Agents.{IsOf};
 ghost use Rattle.far_store.specs.Faults.{RefusedBy};
 
 use crate::Meter;
-use crate::store::{FarRead, FarStore};
+use crate::store::{FarRead, FarStore, FarTickets};
 use boxcar::Pushed;
 use far_types::Refusal;
 use std::alloc::Global;
@@ -48,7 +48,7 @@ impl<R: Drop> AgentStore<R> {
     }
 }
 
-impl<R: Sync + Drop> FarRead for AgentStore<R> {
+impl<R: Sync + Drop> FarTickets for AgentStore<R> {
     type Ticket = Pushed<Vec<u8>>;
 
     ghost content = { λ t. t.value.items };
@@ -60,24 +60,6 @@ impl<R: Sync + Drop> FarRead for AgentStore<R> {
     ghost is_of = { IsOf };
 
     ghost capacity_of = { λ s. s.capacity };
-
-    fn get(
-        &self,
-        _alloc: Global,
-        meter: &mut Meter,
-        ticket: &Pushed<Vec<u8>>,
-        buffer: &mut Vec<u8>,
-    ) -> Result<(), Refusal>
-        requires { IsOf ticket.now self.now.name }
-        ensures content { OnOk result (buffer.new.items ≡ ticket.now.value.items) }
-        ensures empty { OnErr result (buffer.new.items ≡ []) }
-        ensures faultless { meter.new ≡ meter.old }
-        ensures memory { IfErr result (λ e. e ≡ Refusal.NoMemory) }
-    {
-        buffer.clear();
-        buffer.extend_from_slice(self.contents.value(ticket))?;
-        Ok(())
-    }
 
     fn again(&self, ticket: &Pushed<Vec<u8>>) -> Pushed<Vec<u8>> {
         ticket.again()
@@ -94,6 +76,26 @@ impl<R: Sync + Drop> FarRead for AgentStore<R> {
         // At run time nothing happens here: the vector tells the proof that one number has one content.
         self.contents.agrees(a, b);
         true
+    }
+}
+
+impl<R: Sync + Drop> FarRead for AgentStore<R> {
+    fn get(
+        &self,
+        _alloc: Global,
+        meter: &mut Meter,
+        ticket: &Pushed<Vec<u8>>,
+        buffer: &mut Vec<u8>,
+    ) -> Result<(), Refusal>
+        requires { IsOf ticket.now self.now.name }
+        ensures content { OnOk result (buffer.new.items ≡ ticket.now.value.items) }
+        ensures empty { OnErr result (buffer.new.items ≡ []) }
+        ensures faultless { meter.new ≡ meter.old }
+        ensures memory { IfErr result (λ e. e ≡ Refusal.NoMemory) }
+    {
+        buffer.clear();
+        buffer.extend_from_slice(self.contents.value(ticket))?;
+        Ok(())
     }
 }
 

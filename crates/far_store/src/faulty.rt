@@ -2,7 +2,7 @@
 ghost use Rattle.std.specs.Prelude.{◌≡◌, ◌<◌, IsTrue};
 
 use crate::Meter;
-use crate::store::{FarRead, FarStore};
+use crate::store::{FarRead, FarStore, FarTickets};
 use far_types::Refusal;
 use std::alloc::Global;
 use std::marker::Model;
@@ -41,7 +41,7 @@ impl<S> FaultyStore<S> {
     }
 }
 
-impl<S: FarRead> FarRead for FaultyStore<S> {
+impl<S: FarTickets> FarTickets for FaultyStore<S> {
     type Ticket = S::Ticket;
 
     ghost content = { S.content };
@@ -54,6 +54,20 @@ impl<S: FarRead> FarRead for FaultyStore<S> {
 
     ghost capacity_of = { S.capacity_of };
 
+    fn again(&self, ticket: &S::Ticket) -> S::Ticket {
+        self.store.again(ticket)
+    }
+
+    fn number(&self, ticket: &S::Ticket) -> u64 {
+        self.store.number(ticket)
+    }
+
+    fn same(&self, a: &S::Ticket, b: &S::Ticket) -> bool {
+        self.store.same(a, b)
+    }
+}
+
+impl<S: FarRead> FarRead for FaultyStore<S> {
     fn get(
         &self,
         alloc: Global,
@@ -71,18 +85,6 @@ impl<S: FarRead> FarRead for FaultyStore<S> {
             self.gets.take_back();
         }
         answer
-    }
-
-    fn again(&self, ticket: &S::Ticket) -> S::Ticket {
-        self.store.again(ticket)
-    }
-
-    fn number(&self, ticket: &S::Ticket) -> u64 {
-        self.store.number(ticket)
-    }
-
-    fn same(&self, a: &S::Ticket, b: &S::Ticket) -> bool {
-        self.store.same(a, b)
     }
 }
 

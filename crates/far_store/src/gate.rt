@@ -2,7 +2,7 @@
 ghost use Rattle.std.specs.Prelude.{◌≡◌};
 
 use crate::Meter;
-use crate::store::{FarRead, FarStore};
+use crate::store::{FarRead, FarStore, FarTickets};
 use far_types::Refusal;
 use std::alloc::Global;
 use std::marker::Model;
@@ -107,7 +107,7 @@ fn rest(turn: u32) {
     }
 }
 
-impl<S: FarRead> FarRead for GateStore<S> {
+impl<S: FarTickets> FarTickets for GateStore<S> {
     type Ticket = S::Ticket;
 
     ghost content = { S.content };
@@ -120,16 +120,6 @@ impl<S: FarRead> FarRead for GateStore<S> {
 
     ghost capacity_of = { S.capacity_of };
 
-    fn get(
-        &self,
-        alloc: Global,
-        meter: &mut Meter,
-        ticket: &S::Ticket,
-        buffer: &mut Vec<u8>,
-    ) -> Result<(), Refusal> {
-        self.store.get(alloc, meter, ticket, buffer)
-    }
-
     fn again(&self, ticket: &S::Ticket) -> S::Ticket {
         self.store.again(ticket)
     }
@@ -140,6 +130,18 @@ impl<S: FarRead> FarRead for GateStore<S> {
 
     fn same(&self, a: &S::Ticket, b: &S::Ticket) -> bool {
         self.store.same(a, b)
+    }
+}
+
+impl<S: FarRead> FarRead for GateStore<S> {
+    fn get(
+        &self,
+        alloc: Global,
+        meter: &mut Meter,
+        ticket: &S::Ticket,
+        buffer: &mut Vec<u8>,
+    ) -> Result<(), Refusal> {
+        self.store.get(alloc, meter, ticket, buffer)
     }
 }
 

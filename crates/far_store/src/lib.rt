@@ -2,8 +2,9 @@
 //! The far store: where the contents of objects lie that are not in local memory.
 //!
 //! A content is a list of bytes. [`FarStore::put`] gives a ticket for it, and [`FarRead::get`] gives the ticket's
-//! content back, as often as one likes. The table above knows no more of a store than these two traits say, so it
-//! runs over any store: [`AgentStore`] in this process, [`FaultyStore`] and [`GateStore`] to try what happens when
+//! content back, as often as one likes; [`FarTickets`] tells one ticket from another without asking the store. The table
+//! above knows no more of a store than these three traits say, so it runs over any store: [`AgentStore`] in this
+//! process, [`FaultyStore`] and [`GateStore`] to try what happens when
 //! a call fails or takes long, or one of your own (docs/FAR_STORE.md).
 //!
 //! Stores are shared by threads, and nothing is ever removed from one.
@@ -18,4 +19,4 @@ pub use agent::AgentStore;
 pub use faulty::FaultyStore;
 pub use gate::GateStore;
 pub use meter::Meter;
-pub use store::{FarRead, FarStore};
+pub use store::{FarRead, FarStore, FarTickets};

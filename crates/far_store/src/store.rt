@@ -6,12 +6,12 @@ use crate::Meter;
 use far_types::Refusal;
 use std::alloc::Global;
 
-/// What can be read of a far store.
+/// What a table knows of a far store's tickets, without talking to the store.
 ///
-/// It is apart from [`FarStore`] since only putting may have to wait for other threads. A caller that only reads
-/// asks for `FarRead`, and is known to return. A far side behind a small interface is AIFM's remote device (OSDI
-/// 2020); tickets that name one content for good are this project's own.
-pub trait FarRead: Sync + Drop {
+/// It is apart from [`FarRead`] and [`FarStore`] since each of these may wait: a store behind a network waits in every
+/// read. What stands under a lock asks for `FarTickets` alone, and is known to return. A far side behind a small
+/// interface is AIFM's remote device (OSDI 2020); tickets that name one content for good are this project's own.
+pub trait FarTickets: Sync + Drop {
     /// What stands for one content that was put. It is kept by value, outlives every borrow of the store, and goes
     /// from thread to thread.
     type Ticket: Send + Sync + Drop;
@@ -31,22 +31,6 @@ pub trait FarRead: Sync + Drop {
     /// How many numbers a store may give out.
     ghost capacity_of: { Self → ℕ };
 
-    /// Writes the ticket's content into the buffer, in place of what the buffer has. Refused with `FarFault` (21)
-    /// where the store fails in this call, and with `NoMemory` (1); the buffer is then empty.
-    fn get(
-        &self,
-        alloc: Global,
-        meter: &mut Meter,
-        ticket: &Self::Ticket,
-        buffer: &mut Vec<u8>,
-    ) -> Result<(), Refusal>
-        requires few { meter.old < 2 ^ 63 }
-        requires here { is_of ticket.now (name self.now) }
-        ensures content { OnOk result (buffer.new.items ≡ content ticket.now) }
-        ensures empty { OnErr result (buffer.new.items ≡ []) }
-        ensures faults { meter.new ≡ meter.old + faults_in result }
-        ensures refused { RefusedBy (21 ∷ 1 ∷ []) result };
-
     /// The same ticket once more: its number, its content and its store are the same. Takes no memory.
     fn again(&self, ticket: &Self::Ticket) -> Self::Ticket
         requires { is_of ticket.now (name self.now) }
@@ -63,6 +47,25 @@ pub trait FarRead: Sync + Drop {
         requires b_here { is_of b.now (name self.now) }
         ensures number { IsTrue result ↔ (number_of a.now ≡ number_of b.now) }
         ensures content { IsTrue result → content a.now ≡ content b.now };
+}
+
+/// What can be read of a far store.
+pub trait FarRead: FarTickets {
+    /// Writes the ticket's content into the buffer, in place of what the buffer has. Refused with `FarFault` (21)
+    /// where the store fails in this call, and with `NoMemory` (1); the buffer is then empty.
+    fn get(
+        &self,
+        alloc: Global,
+        meter: &mut Meter,
+        ticket: &Self::Ticket,
+        buffer: &mut Vec<u8>,
+    ) -> Result<(), Refusal>
+        requires few { meter.old < 2 ^ 63 }
+        requires here { Self.is_of ticket.now (Self.name self.now) }
+        ensures content { OnOk result (buffer.new.items ≡ Self.content ticket.now) }
+        ensures empty { OnErr result (buffer.new.items ≡ []) }
+        ensures faults { meter.new ≡ meter.old + faults_in result }
+        ensures refused { RefusedBy (21 ∷ 1 ∷ []) result };
 }
 
 /// A far store: contents are put into it, and read by the tickets that it gives for them.

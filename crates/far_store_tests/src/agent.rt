@@ -6,7 +6,7 @@ use crate::generic::{
     FULL, answer_of_put, carry_over, gets_all, puts_all, reads, reads_alike, round_trip,
 };
 use crate::shelf_store::ShelfStore;
-use far_store::{AgentStore, FarRead, FarStore, Meter};
+use far_store::{AgentStore, FarRead, FarStore, FarTickets, Meter};
 use far_types::Refusal;
 use std::alloc::{AllocError, Global};
 use std::sync::Wait;

@@ -2,7 +2,7 @@
 ghost use Rattle.std.specs.Prelude.{◌≡◌, ◌+◌, ◌<◌, ◌^◌, [], ◌∷◌, All, IfOk, IfSome};
 ghost use Rattle.far_store.specs.Faults.{faults_in, RefusedBy};
 
-use far_store::{FarRead, FarStore, Meter};
+use far_store::{FarRead, FarStore, FarTickets, Meter};
 use far_types::Refusal;
 use std::alloc::Global;
 

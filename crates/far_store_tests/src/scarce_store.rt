@@ -1,5 +1,5 @@
 // A store that finds no memory for its first put and its first get.
-use far_store::{FarRead, FarStore, Meter};
+use far_store::{FarRead, FarStore, FarTickets, Meter};
 use far_types::Refusal;
 use std::alloc::Global;
 use std::sync::atomic::{AtomicBool, Ordering};
@@ -21,7 +21,7 @@ impl<S> ScarceStore<S> {
     }
 }
 
-impl<S: FarRead> FarRead for ScarceStore<S> {
+impl<S: FarTickets> FarTickets for ScarceStore<S> {
     type Ticket = S::Ticket;
 
     ghost content = { S.content };
@@ -34,6 +34,20 @@ impl<S: FarRead> FarRead for ScarceStore<S> {
 
     ghost capacity_of = { λ s. S.capacity_of s.store };
 
+    fn again(&self, ticket: &S::Ticket) -> S::Ticket {
+        self.store.again(ticket)
+    }
+
+    fn number(&self, ticket: &S::Ticket) -> u64 {
+        self.store.number(ticket)
+    }
+
+    fn same(&self, a: &S::Ticket, b: &S::Ticket) -> bool {
+        self.store.same(a, b)
+    }
+}
+
+impl<S: FarRead> FarRead for ScarceStore<S> {
     fn get(
         &self,
         alloc: Global,
@@ -46,18 +60,6 @@ impl<S: FarRead> FarRead for ScarceStore<S> {
             return Err(Refusal::NoMemory);
         }
         self.store.get(alloc, meter, ticket, buffer)
-    }
-
-    fn again(&self, ticket: &S::Ticket) -> S::Ticket {
-        self.store.again(ticket)
-    }
-
-    fn number(&self, ticket: &S::Ticket) -> u64 {
-        self.store.number(ticket)
-    }
-
-    fn same(&self, a: &S::Ticket, b: &S::Ticket) -> bool {
-        self.store.same(a, b)
     }
 }
 

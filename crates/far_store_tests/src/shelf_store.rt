@@ -3,7 +3,7 @@ ghost use Rattle.std.specs.Prelude.{ℕ, List, ◌≡◌, ◌<◌, ⊤, map, len
 
 use boxcar::slot::{OnceSlot, SlotRule, Written};
 use boxcar::tag::Tag;
-use far_store::{FarRead, FarStore, Meter};
+use far_store::{FarRead, FarStore, FarTickets, Meter};
 use far_types::Refusal;
 use std::alloc::Global;
 use std::marker::Model;
@@ -39,7 +39,7 @@ impl SlotRule<Vec<u8>> for AnyContent {
 impl ShelfStore {
     /// A store of `capacity` places. Refused with `NoMemory` (1) alone.
     pub fn new(alloc: Global, capacity: usize) -> Result<ShelfStore, Refusal>
-        ensures { IfOk result (λ s. ⟦<ShelfStore as FarRead>⟧.capacity_of s ≡ capacity) }
+        ensures { IfOk result (λ s. ⟦<ShelfStore as FarTickets>⟧.capacity_of s ≡ capacity) }
     {
         let mut places = Vec::new(alloc);
         places.resize_with(capacity, || OnceSlot::new(&Tag::empty()))?;
@@ -50,7 +50,7 @@ impl ShelfStore {
     }
 }
 
-impl FarRead for ShelfStore {
+impl FarTickets for ShelfStore {
     type Ticket = Shelved;
 
     ghost content = { λ t. t.2 };
@@ -62,18 +62,6 @@ impl FarRead for ShelfStore {
     ghost is_of = { λ t name. (t.0 < length name) × (t.1 ≡ slice_index name t.0) };
 
     ghost capacity_of = { λ s. vec_len s.places };
-
-    fn get(
-        &self,
-        _alloc: Global,
-        _meter: &mut Meter,
-        ticket: &Shelved,
-        buffer: &mut Vec<u8>,
-    ) -> Result<(), Refusal> {
-        buffer.clear();
-        buffer.extend_from_slice(self.places[ticket.place].value(&ticket.written))?;
-        Ok(())
-    }
 
     fn again(&self, ticket: &Shelved) -> Shelved {
         Shelved {
@@ -92,6 +80,20 @@ impl FarRead for ShelfStore {
         }
         a.written.agrees(&b.written);
         true
+    }
+}
+
+impl FarRead for ShelfStore {
+    fn get(
+        &self,
+        _alloc: Global,
+        _meter: &mut Meter,
+        ticket: &Shelved,
+        buffer: &mut Vec<u8>,
+    ) -> Result<(), Refusal> {
+        buffer.clear();
+        buffer.extend_from_slice(self.places[ticket.place].value(&ticket.written))?;
+        Ok(())
     }
 }
 

@@ -8,20 +8,20 @@ ghost use Rattle.far_vector.specs.Refusing.{pieces_refusal};
 use crate::vector::FarVector;
 use far_codec::Elem;
 use far_scopes::Objects;
-use far_store::FarRead;
+use far_store::FarTickets;
 use std::marker::Model;
 
 /// A part of a vector, piece by piece: a slice of each row group that has some of it, lent in place by its object. None is
 /// empty.
 #[derive(Drop)]
-pub struct Pieces<'a, T: Elem, S: FarRead> {
+pub struct Pieces<'a, T: Elem, S: FarTickets> {
     vector: &'a FarVector<T>,
     objects: &'a Objects<T, S>,
     from: usize,
     to: usize,
 }
 
-impl<'a, T: Elem, S: FarRead> Model for Pieces<'a, T, S> {
+impl<'a, T: Elem, S: FarTickets> Model for Pieces<'a, T, S> {
     ghost use Rattle.std.specs.Prelude.{List};
     ghost use Rattle.std.specs.Coded.{coded_list};
 
@@ -39,7 +39,7 @@ impl<'a, T: Elem, S: FarRead> Model for Pieces<'a, T, S> {
     ghost invariant = { λ p. IsLendable T.meaning S.content p.objects.now p.vector.now p.from p.to };
 }
 
-impl<'a, T: Elem, S: FarRead> Pieces<'a, T, S> {
+impl<'a, T: Elem, S: FarTickets> Pieces<'a, T, S> {
     // The pieces of a part that may be lent.
     pub(crate) fn new(
         vector: &'a FarVector<T>,

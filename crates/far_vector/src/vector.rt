@@ -9,7 +9,7 @@ mod writing;
 
 use far_codec::Elem;
 use far_scopes::Objects;
-use far_store::FarRead;
+use far_store::FarTickets;
 use far_types::Refusal;
 use std::alloc::Global;
 use std::marker::Model;
@@ -85,7 +85,7 @@ impl<T: Elem> FarVector<T> {
     }
 
     // The object with a place, which is one of the objects: that is known of objects by the contract of `number`.
-    fn object_at<S: FarRead>(&self, objects: &Objects<T, S>, i: usize) -> u32
+    fn object_at<S: FarTickets>(&self, objects: &Objects<T, S>, i: usize) -> u32
         requires is { IsVector (list_of T.meaning S.content objects.now) self.now }
         requires within { i < length self.now.objects * self.now.size }
         ensures object { result ≡ object_at self.now i }

@@ -8,7 +8,7 @@ ghost use Rattle.far_vector.specs.Effects.{pushed, pushed_in};
 use far_codec::Elem;
 use far_fixtures::{Element, digest_of, with, with_optional};
 use far_scopes::Objects;
-use far_store::FarRead;
+use far_store::FarTickets;
 use far_types::Refusal;
 use far_vector::FarVector;
 use std::alloc::Global;
@@ -26,7 +26,7 @@ pub fn no_elements<T: Elem>(alloc: Global, size: u32, blank: T) -> Result<FarVec
 }
 
 /// Pushes an element; there are few objects.
-pub fn push<T: Element, S: FarRead>(
+pub fn push<T: Element, S: FarTickets>(
     vector: &mut FarVector<T>,
     objects: &mut Objects<T, S>,
     x: T,
@@ -47,7 +47,7 @@ pub fn push<T: Element, S: FarRead>(
 }
 
 /// A number that all goes into that is known of a vector and of its objects. Allocates nothing.
-fn digest<T: Element, S: FarRead>(objects: &Objects<T, S>, vector: &FarVector<T>) -> u64 {
+fn digest<T: Element, S: FarTickets>(objects: &Objects<T, S>, vector: &FarVector<T>) -> u64 {
     let mut digest = with(digest_of(objects), vector.len() as u64);
     for group in 0..objects.count() {
         digest = with_optional(digest, vector.object(group).map(u64::from));

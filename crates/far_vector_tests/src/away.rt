@@ -8,7 +8,7 @@ use crate::again::push;
 use crate::fixture::{filled, room_for_four, with_agent};
 use far_fixtures::{Element, put};
 use far_scopes::Objects;
-use far_store::{FarRead, FarStore};
+use far_store::{FarStore, FarTickets};
 use far_types::Refusal;
 use far_vector::FarVector;
 use std::alloc::Global;
@@ -49,7 +49,7 @@ fn send_last_away<T: Element, S: FarStore>(
 }
 
 /// Why a part is not lent.
-fn part_refused<T: Element, S: FarRead>(
+fn part_refused<T: Element, S: FarTickets>(
     vector: &FarVector<T>,
     objects: &Objects<T, S>,
 ) -> Option<Refusal>
@@ -59,7 +59,7 @@ fn part_refused<T: Element, S: FarRead>(
 }
 
 /// Why all elements are not lent piece by piece.
-fn pieces_refused<T: Element, S: FarRead>(
+fn pieces_refused<T: Element, S: FarTickets>(
     vector: &FarVector<T>,
     objects: &Objects<T, S>,
 ) -> Option<Refusal>
@@ -69,7 +69,7 @@ fn pieces_refused<T: Element, S: FarRead>(
 }
 
 /// Why the last of five elements is neither read nor written, and none is added behind it.
-fn all_refused<T: Element, S: FarRead>(
+fn all_refused<T: Element, S: FarTickets>(
     vector: &mut FarVector<T>,
     objects: &mut Objects<T, S>,
     x: T,

@@ -7,7 +7,7 @@ use crate::again::{no_elements, push};
 use far_codec::Elem;
 use far_fixtures::{Element, agent, no_objects};
 use far_scopes::Objects;
-use far_store::{AgentStore, FarRead};
+use far_store::{AgentStore, FarTickets};
 use far_types::Refusal;
 use far_vector::FarVector;
 use std::alloc::Global;
@@ -24,7 +24,7 @@ pub fn with_agent<'r, R, F: FnOnce(Global, &AgentStore<&'r HostRuntime>) -> Resu
 }
 
 /// No object, in four segments of four elements; five writes and one leaving each.
-pub fn room_for_four<T: Elem, S: FarRead>(
+pub fn room_for_four<T: Elem, S: FarTickets>(
     alloc: Global,
     store: &S,
 ) -> Result<Objects<T, S>, Refusal> {
@@ -32,7 +32,7 @@ pub fn room_for_four<T: Elem, S: FarRead>(
 }
 
 /// Pushes elements; there are few objects.
-pub fn push_all<T: Element, S: FarRead>(
+pub fn push_all<T: Element, S: FarTickets>(
     vector: &mut FarVector<T>,
     objects: &mut Objects<T, S>,
     elements: &[T],
@@ -47,7 +47,7 @@ pub fn push_all<T: Element, S: FarRead>(
 }
 
 /// A vector of these elements, in row groups of four.
-pub fn filled<T: Element, S: FarRead>(
+pub fn filled<T: Element, S: FarTickets>(
     alloc: Global,
     objects: &mut Objects<T, S>,
     blank: T,

@@ -7,14 +7,14 @@ use crate::again::{no_elements, push};
 use crate::fixture::{room_for_four, with_agent};
 use far_fixtures::Element;
 use far_scopes::Objects;
-use far_store::FarRead;
+use far_store::FarTickets;
 use far_types::Refusal;
 use far_vector::FarVector;
 use std::alloc::Global;
 use std::test::Fail;
 
 /// How many elements and objects there are once the first element is pushed and taken back.
-fn take_back<T: Element, S: FarRead>(
+fn take_back<T: Element, S: FarTickets>(
     vector: &mut FarVector<T>,
     objects: &mut Objects<T, S>,
     x: T,
@@ -33,7 +33,7 @@ fn take_back<T: Element, S: FarRead>(
 }
 
 /// The same of a number in row groups of four.
-fn taken_back_in<S: FarRead>(
+fn taken_back_in<S: FarTickets>(
     alloc: Global,
     objects: &mut Objects<i64, S>,
 ) -> Result<(usize, u32), Refusal> {
@@ -41,7 +41,7 @@ fn taken_back_in<S: FarRead>(
     take_back(&mut vector, objects, 1)
 }
 
-fn taken_back<S: FarRead>(alloc: Global, store: &S) -> Result<(usize, u32), Refusal> {
+fn taken_back<S: FarTickets>(alloc: Global, store: &S) -> Result<(usize, u32), Refusal> {
     taken_back_in(alloc, &mut room_for_four(alloc, store)?)
 }
 

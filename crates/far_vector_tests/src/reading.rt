@@ -6,14 +6,14 @@ use crate::again::no_elements;
 use crate::fixture::{filled, one_to_five, push_all, room_for_four, with_agent};
 use far_fixtures::Element;
 use far_scopes::Objects;
-use far_store::FarRead;
+use far_store::FarTickets;
 use far_types::Refusal;
 use far_vector::FarVector;
 use std::alloc::Global;
 use std::test::Fail;
 
 /// Whether a vector has this element at place 4, and these at the places 1 and 2.
-fn has<T: Element, S: FarRead>(
+fn has<T: Element, S: FarTickets>(
     vector: &FarVector<T>,
     objects: &Objects<T, S>,
     last: T,
@@ -25,7 +25,7 @@ fn has<T: Element, S: FarRead>(
 }
 
 /// The same of five numbers that lie in row groups of four.
-fn five_are_read_in<S: FarRead>(
+fn five_are_read_in<S: FarTickets>(
     alloc: Global,
     objects: &mut Objects<Option<i64>, S>,
 ) -> Result<bool, Refusal> {
@@ -33,12 +33,12 @@ fn five_are_read_in<S: FarRead>(
     has(&vector, objects, Some(5), &[Some(2), Some(3)])
 }
 
-fn five_are_read<S: FarRead>(alloc: Global, store: &S) -> Result<bool, Refusal> {
+fn five_are_read<S: FarTickets>(alloc: Global, store: &S) -> Result<bool, Refusal> {
     five_are_read_in(alloc, &mut room_for_four(alloc, store)?)
 }
 
 /// How many pieces all elements have, and how long the first two are.
-fn lengths<T: Element, S: FarRead>(
+fn lengths<T: Element, S: FarTickets>(
     vector: &FarVector<T>,
     objects: &Objects<T, S>,
 ) -> Result<(usize, Option<usize>, Option<usize>), Refusal>
@@ -52,7 +52,7 @@ fn lengths<T: Element, S: FarRead>(
 }
 
 /// The same of five numbers that lie in row groups of four.
-fn piece_lengths_in<S: FarRead>(
+fn piece_lengths_in<S: FarTickets>(
     alloc: Global,
     objects: &mut Objects<Option<i64>, S>,
 ) -> Result<(usize, Option<usize>, Option<usize>), Refusal> {
@@ -60,7 +60,7 @@ fn piece_lengths_in<S: FarRead>(
     lengths(&vector, objects)
 }
 
-fn piece_lengths<S: FarRead>(
+fn piece_lengths<S: FarTickets>(
     alloc: Global,
     store: &S,
 ) -> Result<(usize, Option<usize>, Option<usize>), Refusal> {
@@ -69,7 +69,7 @@ fn piece_lengths<S: FarRead>(
 
 /// How many of three numbers in row groups of two there are, and the objects of the second row group and of one that is not
 /// there.
-fn objects_in<S: FarRead>(
+fn objects_in<S: FarTickets>(
     alloc: Global,
     objects: &mut Objects<i64, S>,
 ) -> Result<(usize, Option<u32>, Option<u32>), Refusal> {
@@ -78,7 +78,7 @@ fn objects_in<S: FarRead>(
     Ok((vector.len(), vector.object(1), vector.object(2)))
 }
 
-fn objects_of<S: FarRead>(
+fn objects_of<S: FarTickets>(
     alloc: Global,
     store: &S,
 ) -> Result<(usize, Option<u32>, Option<u32>), Refusal> {

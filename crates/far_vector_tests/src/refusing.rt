@@ -5,14 +5,14 @@ ghost use Rattle.far_vector.specs.Vector.{IsVector};
 use crate::fixture::{filled, one_to_five, room_for_four, with_agent};
 use far_fixtures::{Element, no_objects};
 use far_scopes::Objects;
-use far_store::FarRead;
+use far_store::FarTickets;
 use far_types::Refusal;
 use far_vector::FarVector;
 use std::alloc::Global;
 use std::test::Fail;
 
 /// Why a part that crosses row groups is refused.
-fn crossing<T: Element, S: FarRead>(
+fn crossing<T: Element, S: FarTickets>(
     vector: &FarVector<T>,
     objects: &Objects<T, S>,
 ) -> Option<Refusal>
@@ -22,7 +22,7 @@ fn crossing<T: Element, S: FarRead>(
 }
 
 /// Why pieces past the end are refused.
-fn past_the_end<T: Element, S: FarRead>(
+fn past_the_end<T: Element, S: FarTickets>(
     vector: &FarVector<T>,
     objects: &Objects<T, S>,
 ) -> Option<Refusal>
@@ -32,7 +32,7 @@ fn past_the_end<T: Element, S: FarRead>(
 }
 
 /// The same of five numbers, in row groups of four.
-fn out_of_range_in<S: FarRead>(
+fn out_of_range_in<S: FarTickets>(
     alloc: Global,
     objects: &mut Objects<Option<i64>, S>,
 ) -> Result<[Option<Refusal>; 2], Refusal> {
@@ -40,12 +40,12 @@ fn out_of_range_in<S: FarRead>(
     Ok([crossing(&vector, objects), past_the_end(&vector, objects)])
 }
 
-fn out_of_range<S: FarRead>(alloc: Global, store: &S) -> Result<[Option<Refusal>; 2], Refusal> {
+fn out_of_range<S: FarTickets>(alloc: Global, store: &S) -> Result<[Option<Refusal>; 2], Refusal> {
     out_of_range_in(alloc, &mut room_for_four(alloc, store)?)
 }
 
 /// Why an element that may be written once is not written a second time, and an empty part is not refused.
-fn written_twice<T: Element, S: FarRead>(
+fn written_twice<T: Element, S: FarTickets>(
     vector: &FarVector<T>,
     objects: &mut Objects<T, S>,
     first: T,
@@ -62,7 +62,7 @@ fn written_twice<T: Element, S: FarRead>(
 }
 
 /// The same of a number.
-fn used_up_in<S: FarRead>(
+fn used_up_in<S: FarTickets>(
     alloc: Global,
     objects: &mut Objects<i64, S>,
 ) -> Result<[Option<Refusal>; 3], Refusal> {
@@ -70,7 +70,7 @@ fn used_up_in<S: FarRead>(
     written_twice(&vector, objects, 2, 3)
 }
 
-fn used_up<S: FarRead>(alloc: Global, store: &S) -> Result<[Option<Refusal>; 3], Refusal> {
+fn used_up<S: FarTickets>(alloc: Global, store: &S) -> Result<[Option<Refusal>; 3], Refusal> {
     used_up_in(alloc, &mut no_objects(alloc, store, 4, 4, 1, 1)?)
 }
 

@@ -7,14 +7,14 @@ ghost use Rattle.far_vector.specs.Refusing.{write_part_refusal};
 use crate::fixture::{filled, one_to_five, room_for_four, with_agent};
 use far_fixtures::Element;
 use far_scopes::Objects;
-use far_store::FarRead;
+use far_store::FarTickets;
 use far_types::Refusal;
 use far_vector::FarVector;
 use std::alloc::Global;
 use std::test::Fail;
 
 /// Writes an element over the first of a part that may be written, which leaves the vector one.
-fn overwrite<T: Element, S: FarRead>(
+fn overwrite<T: Element, S: FarTickets>(
     objects: &mut Objects<T, S>,
     vector: &FarVector<T>,
     from: usize,
@@ -32,7 +32,7 @@ fn overwrite<T: Element, S: FarRead>(
 }
 
 /// Writes an element over the last of five in place, and sets the first.
-fn write_both<T: Element, S: FarRead>(
+fn write_both<T: Element, S: FarTickets>(
     vector: &FarVector<T>,
     objects: &mut Objects<T, S>,
     last: T,
@@ -48,7 +48,7 @@ fn write_both<T: Element, S: FarRead>(
 }
 
 /// The last of five numbers once 6 is written over it in place, and the first once 9 is set there.
-fn written_in<S: FarRead>(
+fn written_in<S: FarTickets>(
     alloc: Global,
     objects: &mut Objects<Option<i64>, S>,
 ) -> Result<[Option<i64>; 2], Refusal> {
@@ -58,7 +58,7 @@ fn written_in<S: FarRead>(
 }
 
 /// The last of five elements and the first.
-fn ends<T: Element, S: FarRead>(
+fn ends<T: Element, S: FarTickets>(
     vector: &FarVector<T>,
     objects: &Objects<T, S>,
 ) -> Result<[T; 2], Refusal>
@@ -67,7 +67,7 @@ fn ends<T: Element, S: FarRead>(
     Ok([vector.get(objects, 4)?, vector.get(objects, 0)?])
 }
 
-fn written<S: FarRead>(alloc: Global, store: &S) -> Result<[Option<i64>; 2], Refusal> {
+fn written<S: FarTickets>(alloc: Global, store: &S) -> Result<[Option<i64>; 2], Refusal> {
     written_in(alloc, &mut room_for_four(alloc, store)?)
 }
 

@@ -15,7 +15,7 @@ mod groups;
 use super::IntColumn;
 use checking::{all_begin, all_here, all_writable, groups_fit, known_shapes};
 use far_scopes::Objects;
-use far_store::FarRead;
+use far_store::FarTickets;
 use far_types::Refusal;
 use filling::fill_places;
 use groups::{begin_groups, unbegin_groups};
@@ -27,7 +27,7 @@ use groups::{begin_groups, unbegin_groups};
 /// the other, do not find room beside all that is there; elsewhere with `Absent` (16) exactly where some column's last object is
 /// away, naming the first such, else with `EditsUsedUp` (24) exactly where some last object was written as often as objects
 /// may be.
-pub fn may_push_numbers<S: FarRead>(
+pub fn may_push_numbers<S: FarTickets>(
     objects: &Objects<Option<i64>, S>,
     columns: &[IntColumn],
 ) -> Result<(), Refusal>
@@ -54,7 +54,7 @@ pub fn may_push_numbers<S: FarRead>(
 ///
 /// `may_push_numbers` tells before what is refused, but for memory; `unpush_numbers` takes a call back that began row groups
 /// (`last`, `undone`).
-pub fn push_numbers<S: FarRead>(
+pub fn push_numbers<S: FarTickets>(
     objects: &mut Objects<Option<i64>, S>,
     columns: &mut [IntColumn],
     numbers: &[Option<i64>],
@@ -88,7 +88,10 @@ pub fn push_numbers<S: FarRead>(
 
 /// Takes back a `push_numbers` that began row groups: the number of each column, the only one of its last row group, and
 /// that row group's object; the object that was made last goes first. Takes no memory.
-pub fn unpush_numbers<S: FarRead>(objects: &mut Objects<Option<i64>, S>, columns: &mut [IntColumn])
+pub fn unpush_numbers<S: FarTickets>(
+    objects: &mut Objects<Option<i64>, S>,
+    columns: &mut [IntColumn],
+)
     requires are { AreNumberColumns (number_lists S.content objects.old) columns.old }
     requires begun { AreBegunLast objects.old columns.old }
     ensures unpushed { columns.new ≡ map unpushed columns.old }

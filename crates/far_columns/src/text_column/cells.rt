@@ -9,7 +9,7 @@ ghost use Rattle.far_columns.specs.Lending.{texts_refusal, AreLent};
 use super::TextColumn;
 use crate::alive::Alive;
 use far_scopes::Objects;
-use far_store::FarRead;
+use far_store::FarTickets;
 use far_types::Refusal;
 use std::marker::Model;
 
@@ -26,14 +26,14 @@ pub struct TextCell<'a> {
 ///
 /// It lends each text in place, and looks at the head of one form, one bit of its mask and two ends for it.
 #[derive(Drop)]
-pub struct TextCells<'a, S: FarRead> {
+pub struct TextCells<'a, S: FarTickets> {
     column: &'a TextColumn,
     objects: &'a Objects<u8, S>,
     flags: &'a [bool],
     place: usize,
 }
 
-impl<'a, S: FarRead> Model for TextCells<'a, S> {
+impl<'a, S: FarTickets> Model for TextCells<'a, S> {
     ghost use Rattle.std.specs.Prelude.{ℕ, Bool, List, Option, drop, length};
     ghost use Rattle.std.specs.List.{zip};
     ghost use Rattle.far_columns.specs.Texts.{lists_of, texts_in};
@@ -46,7 +46,7 @@ impl<'a, S: FarRead> Model for TextCells<'a, S> {
     ghost invariant = { λ t. AreLent S.content t.objects.now t.column.now t.place (length t.flags.now) };
 }
 
-impl<'a, S: FarRead> TextCells<'a, S> {
+impl<'a, S: FarTickets> TextCells<'a, S> {
     // The texts from a place on, as many as there are flags.
     fn new(
         column: &'a TextColumn,
@@ -89,7 +89,7 @@ impl<'a, S: FarRead> TextCells<'a, S> {
 
 impl TextColumn {
     // Whether the objects of the row groups `first` to `end` are local; the refusal names the first that is away.
-    fn all_here<S: FarRead>(
+    fn all_here<S: FarTickets>(
         &self,
         objects: &Objects<u8, S>,
         first: usize,
@@ -110,7 +110,7 @@ impl TextColumn {
     ///
     /// Refused with `OutOfRange` (14) exactly where `from` is behind `to` or `to` past the end, else with `Absent` (16)
     /// exactly where the object of a row group that the part touches is away, naming the first such.
-    pub fn texts<'a, S: FarRead>(
+    pub fn texts<'a, S: FarTickets>(
         &'a self,
         objects: &'a Objects<u8, S>,
         alive: &'a Alive,

@@ -10,7 +10,7 @@ ghost use Rattle.far_columns.specs.Refusing.{length_refusal, next_length_refusal
 use super::TextColumn;
 use far_codec::{length_with, length_with_next};
 use far_scopes::Objects;
-use far_store::FarRead;
+use far_store::FarTickets;
 use far_types::{Refusal, Text};
 
 /// How many bytes a text has; none where it is missing.
@@ -45,7 +45,7 @@ impl TextColumn {
     ///
     /// Refused with `OutOfRange` (14) exactly past the end, else with `Absent` (16) exactly where the object of the row
     /// group is away.
-    pub fn form_length_with<S: FarRead>(
+    pub fn form_length_with<S: FarTickets>(
         &self,
         objects: &Objects<u8, S>,
         place: usize,
@@ -65,7 +65,7 @@ impl TextColumn {
     /// How many bytes the form of the next place's row group has once the place has this text. Takes no memory.
     ///
     /// Refused with `Absent` (16) exactly where the row group is begun and its object is away.
-    pub fn form_length_with_next<S: FarRead>(
+    pub fn form_length_with_next<S: FarTickets>(
         &self,
         objects: &Objects<u8, S>,
         text: &Option<Text>,

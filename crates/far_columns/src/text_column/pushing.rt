@@ -15,13 +15,13 @@ use super::TextColumn;
 use super::lengths::text_length;
 use far_codec::{form_of, form_with_next};
 use far_scopes::Objects;
-use far_store::FarRead;
+use far_store::FarTickets;
 use far_types::{Name, Refusal, Text};
 use std::alloc::Global;
 
 impl TextColumn {
     // Whether the next place may get this text, but for want of memory.
-    fn may_push<S: FarRead>(
+    fn may_push<S: FarTickets>(
         &self,
         objects: &Objects<u8, S>,
         text: &Option<Text>,
@@ -47,7 +47,7 @@ impl TextColumn {
     }
 
     // The form of the next place's row group once the place has this text.
-    pub(crate) fn form_pushed<S: FarRead>(
+    pub(crate) fn form_pushed<S: FarTickets>(
         &self,
         alloc: Global,
         objects: &Objects<u8, S>,
@@ -70,7 +70,7 @@ impl TextColumn {
     }
 
     // What is known of the column and of the objects before a text is pushed: the next object's number has no list.
-    pub(super) fn known_before_push<S: FarRead>(&self, objects: &Objects<u8, S>)
+    pub(super) fn known_before_push<S: FarTickets>(&self, objects: &Objects<u8, S>)
         requires { IsTextColumn (lists_of S.content objects.now) self.now }
         ensures objects { length self.now.objects ≤ length objects.now.entries }
         ensures groups { HasGroups self.now }
@@ -81,7 +81,7 @@ impl TextColumn {
     }
 
     // The next place begins a row group, whose form this is.
-    fn begin_group<S: FarRead>(
+    fn begin_group<S: FarTickets>(
         &mut self,
         objects: &mut Objects<u8, S>,
         form: &[u8],
@@ -112,7 +112,7 @@ impl TextColumn {
     }
 
     // The next place's row group, which is begun, has this form.
-    fn extend_group<S: FarRead>(
+    fn extend_group<S: FarTickets>(
         &mut self,
         objects: &mut Objects<u8, S>,
         form: &[u8],
@@ -143,7 +143,7 @@ impl TextColumn {
     /// longer than one may be, else with `RegionFull` (17) exactly where no segment has the space, else with `EditsUsedUp`
     /// (24) exactly where the row group is begun and its object was written as often as objects may be, else with
     /// `NoMemory` (1) alone; then nothing is changed.
-    pub fn push<S: FarRead>(
+    pub fn push<S: FarTickets>(
         &mut self,
         alloc: Global,
         objects: &mut Objects<u8, S>,

@@ -9,12 +9,12 @@ ghost use Rattle.far_columns.specs.Refusing.{text_refusal};
 use super::TextColumn;
 use far_codec::text_of;
 use far_scopes::Objects;
-use far_store::FarRead;
+use far_store::FarTickets;
 use far_types::Refusal;
 
 impl TextColumn {
     // The object of a row group that is begun.
-    pub(super) fn object_in_use<S: FarRead>(&self, objects: &Objects<u8, S>, group: usize) -> u32
+    pub(super) fn object_in_use<S: FarTickets>(&self, objects: &Objects<u8, S>, group: usize) -> u32
         requires begun { group < length self.now.objects }
         requires is { IsTextColumn (lists_of S.content objects.now) self.now }
         ensures object { result ≡ slice_index self.now.objects group }
@@ -26,7 +26,7 @@ impl TextColumn {
     }
 
     // The far form of a row group that is begun, lent in place.
-    pub(super) fn form<'a, S: FarRead>(
+    pub(super) fn form<'a, S: FarTickets>(
         &self,
         objects: &'a Objects<u8, S>,
         group: usize,
@@ -42,7 +42,7 @@ impl TextColumn {
     }
 
     // The far form of the last row group, in which the next place lies, lent in place.
-    pub(super) fn last_form<'a, S: FarRead>(
+    pub(super) fn last_form<'a, S: FarTickets>(
         &self,
         objects: &'a Objects<u8, S>,
     ) -> Result<&'a [u8], Refusal>
@@ -58,7 +58,7 @@ impl TextColumn {
     ///
     /// Refused with `NoRow` (8) exactly past the end, else with `Absent` (16) exactly where the object of the place's row
     /// group is away.
-    pub fn text<'a, S: FarRead>(
+    pub fn text<'a, S: FarTickets>(
         &self,
         objects: &'a Objects<u8, S>,
         place: usize,

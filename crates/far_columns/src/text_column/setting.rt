@@ -13,7 +13,7 @@ use super::TextColumn;
 use super::lengths::text_length;
 use far_codec::form_with;
 use far_scopes::Objects;
-use far_store::FarRead;
+use far_store::FarTickets;
 use far_types::{Refusal, Text};
 use std::alloc::Global;
 
@@ -25,7 +25,7 @@ impl TextColumn {
     /// else with `ChunkFull` (11) exactly where the new form would be longer than one may be, else with `RegionFull` (17)
     /// exactly where no segment has the space, else with `EditsUsedUp` (24) exactly where the object was written as often
     /// as objects may be. Where it is not refused, `set` can be refused with `NoMemory` (1) alone.
-    pub fn may_set<S: FarRead>(
+    pub fn may_set<S: FarTickets>(
         &self,
         objects: &Objects<u8, S>,
         place: usize,
@@ -46,7 +46,7 @@ impl TextColumn {
     }
 
     // The form of a place's row group once the place has this text, which may be set.
-    fn form_set<S: FarRead>(
+    fn form_set<S: FarTickets>(
         &self,
         alloc: Global,
         objects: &Objects<u8, S>,
@@ -72,7 +72,7 @@ impl TextColumn {
     /// new form would be longer than one may be, else with `RegionFull` (17) exactly where no segment has the space, else
     /// with `EditsUsedUp` (24) exactly where the object was written as often as objects may be, else with `NoMemory` (1)
     /// alone; then nothing is changed.
-    pub fn set<S: FarRead>(
+    pub fn set<S: FarTickets>(
         &self,
         alloc: Global,
         objects: &mut Objects<u8, S>,

@@ -15,7 +15,7 @@ use super::TextColumn;
 pub use asking::may_push_texts;
 use checking::{all_begin, may_make_forms};
 use far_scopes::Objects;
-use far_store::FarRead;
+use far_store::FarTickets;
 use far_types::{Refusal, Text};
 use forms::{known_together, next_forms};
 use growing::{begin_groups, extend_groups};
@@ -31,7 +31,7 @@ use std::alloc::Global;
 /// placed one after the other, do not find room beside all that is there; else with `EditsUsedUp` (24) where the row
 /// groups are begun and some last object was written as often as objects may be; and with `NoMemory` (1) where a growth
 /// was refused, which may come before it is seen that 17 or 24 applies. Then nothing is changed.
-pub fn push_texts<S: FarRead>(
+pub fn push_texts<S: FarTickets>(
     alloc: Global,
     objects: &mut Objects<u8, S>,
     columns: &mut [TextColumn],

@@ -11,7 +11,7 @@ use crate::script::{Layout, Line, PairCall, WRONG, found, is_due};
 use far_columns::{Alive, IntColumn, may_push_numbers, push_numbers};
 use far_fixtures::{digest_of, no_objects, with, with_optional};
 use far_scopes::Objects;
-use far_store::{FarRead, FarStore};
+use far_store::{FarStore, FarTickets};
 use far_types::Refusal;
 use far_vector::laws::vectors_stay_together;
 use std::alloc::Global;
@@ -96,7 +96,7 @@ impl<'a, S: FarStore> TwoNumberColumns<'a, S> {
 }
 
 // Two columns without a number.
-fn no_numbers<S: FarRead>(
+fn no_numbers<S: FarTickets>(
     alloc: Global,
     _objects: &Objects<Option<i64>, S>,
     size: u32,
@@ -111,7 +111,7 @@ fn no_numbers<S: FarRead>(
 }
 
 // The first column, or the second.
-fn column_of<'a, S: FarRead>(
+fn column_of<'a, S: FarTickets>(
     _objects: &Objects<Option<i64>, S>,
     columns: &'a [IntColumn],
     k: usize,
@@ -141,7 +141,7 @@ fn have_objects(columns: &[IntColumn], group: u32, first: u32, second: u32) -> b
 }
 
 // Pushes a number to each column; there are few objects.
-fn push<S: FarRead>(
+fn push<S: FarTickets>(
     objects: &mut Objects<Option<i64>, S>,
     columns: &mut [IntColumn],
     numbers: &[Option<i64>],

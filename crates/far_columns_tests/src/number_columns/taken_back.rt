@@ -8,13 +8,13 @@ ghost use Rattle.far_columns.specs.NumbersBack.{AreBegunLast};
 use far_columns::{IntColumn, push_numbers, unpush_numbers};
 use far_fixtures::{agent, no_objects};
 use far_scopes::Objects;
-use far_store::FarRead;
+use far_store::FarTickets;
 use far_types::Refusal;
 use std::alloc::Global;
 use std::test::Fail;
 
 /// Two columns without a number, in row groups of one place.
-fn two_columns<S: FarRead>(
+fn two_columns<S: FarTickets>(
     alloc: Global,
     _objects: &Objects<Option<i64>, S>,
 ) -> Result<[IntColumn; 2], Refusal>
@@ -25,7 +25,7 @@ fn two_columns<S: FarRead>(
 }
 
 /// Pushes a number to each column; there are few objects.
-fn push<S: FarRead>(
+fn push<S: FarTickets>(
     objects: &mut Objects<Option<i64>, S>,
     columns: &mut [IntColumn],
     numbers: [Option<i64>; 2],
@@ -43,7 +43,7 @@ fn push<S: FarRead>(
 }
 
 /// Two columns with one number each, so that the next places begin row groups.
-fn one_in_each<S: FarRead>(
+fn one_in_each<S: FarTickets>(
     alloc: Global,
     objects: &mut Objects<Option<i64>, S>,
     numbers: [Option<i64>; 2],
@@ -58,7 +58,7 @@ fn one_in_each<S: FarRead>(
 }
 
 /// Whether a column has so many numbers, which are in objects of their own, and ends with this one in this object.
-fn ends_with<S: FarRead>(
+fn ends_with<S: FarTickets>(
     objects: &Objects<Option<i64>, S>,
     column: &IntColumn,
     len: u32,
@@ -75,7 +75,7 @@ fn ends_with<S: FarRead>(
 }
 
 /// Whether two columns have one number each, and no other objects.
-fn have_one<S: FarRead>(objects: &Objects<Option<i64>, S>, columns: &[IntColumn]) -> bool
+fn have_one<S: FarTickets>(objects: &Objects<Option<i64>, S>, columns: &[IntColumn]) -> bool
     requires are { AreNumberColumns (number_lists S.content objects.now) columns.now }
     requires two { length columns.now ≡ 2 }
 {
@@ -85,7 +85,7 @@ fn have_one<S: FarRead>(objects: &Objects<Option<i64>, S>, columns: &[IntColumn]
 }
 
 /// Whether they have one more each, in two more objects.
-fn have_two<S: FarRead>(objects: &Objects<Option<i64>, S>, columns: &[IntColumn]) -> bool
+fn have_two<S: FarTickets>(objects: &Objects<Option<i64>, S>, columns: &[IntColumn]) -> bool
     requires are { AreNumberColumns (number_lists S.content objects.now) columns.now }
     requires two { length columns.now ≡ 2 }
 {
@@ -96,7 +96,7 @@ fn have_two<S: FarRead>(objects: &Objects<Option<i64>, S>, columns: &[IntColumn]
 
 /// Numbers that begin row groups are pushed and taken back: whether the columns and the objects are as before, and whether
 /// other numbers get the same objects then.
-fn begin_again<S: FarRead>(
+fn begin_again<S: FarTickets>(
     alloc: Global,
     objects: &mut Objects<Option<i64>, S>,
 ) -> Result<bool, Refusal> {
@@ -108,7 +108,7 @@ fn begin_again<S: FarRead>(
     Ok(kept && have_two(objects, &columns))
 }
 
-fn begin_again_in<S: FarRead>(alloc: Global, store: &S) -> Result<bool, Refusal> {
+fn begin_again_in<S: FarTickets>(alloc: Global, store: &S) -> Result<bool, Refusal> {
     let mut objects = no_objects(alloc, store, 2, 8, 9, 9)?;
     begin_again(alloc, &mut objects)
 }

@@ -12,7 +12,7 @@ use crate::lending::lend_numbers;
 use far_columns::{Alive, IntColumn};
 use far_random::Draws;
 use far_scopes::Objects;
-use far_store::{FarRead, FarStore};
+use far_store::{FarStore, FarTickets};
 use far_types::Refusal;
 use std::alloc::Global;
 
@@ -129,7 +129,7 @@ impl NumberSteps {
     }
 
     /// Lends a part of a column, and clears the flag where it begins.
-    fn lend<S: FarRead>(
+    fn lend<S: FarTickets>(
         &mut self,
         objects: &Objects<Option<i64>, S>,
         column: &IntColumn,
@@ -153,7 +153,7 @@ impl NumberSteps {
     }
 
     /// Whether all columns are as they should be.
-    pub fn agree_all<S: FarRead>(
+    pub fn agree_all<S: FarTickets>(
         &self,
         objects: &Objects<Option<i64>, S>,
         a: &IntColumn,
@@ -166,7 +166,7 @@ impl NumberSteps {
     }
 
     // Whether a column is as it should be.
-    fn agree<S: FarRead>(
+    fn agree<S: FarTickets>(
         &self,
         objects: &Objects<Option<i64>, S>,
         column: &IntColumn,

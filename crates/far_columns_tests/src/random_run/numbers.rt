@@ -9,7 +9,7 @@ use super::{CHANGES, LEAVINGS};
 use crate::moving::{bring_numbers_back, send_numbers_away};
 use far_columns::IntColumn;
 use far_scopes::Objects;
-use far_store::{FarRead, FarStore};
+use far_store::{FarStore, FarTickets};
 use far_types::Refusal;
 use far_vector::laws::vectors_stay_together;
 use std::alloc::Global;
@@ -83,7 +83,7 @@ fn unpush<S: FarStore>(
 }
 
 // Whether the last push of a column made the last object, and that is local and has no pin.
-fn may_unpush<S: FarRead>(objects: &Objects<Option<i64>, S>, column: &IntColumn) -> bool
+fn may_unpush<S: FarTickets>(objects: &Objects<Option<i64>, S>, column: &IntColumn) -> bool
     requires size { column.now.size ≡ 4 }
     ensures alone { IsTrue result → column.now.len ≡ (length column.now.objects - 1) * column.now.size + 1 }
     ensures last { IsTrue result → slice_get column.now.objects (length column.now.objects - 1) ≡ Some (length objects.now.entries - 1) }

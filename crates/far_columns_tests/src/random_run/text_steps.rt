@@ -11,7 +11,7 @@ use crate::lending::lend_texts;
 use far_columns::{Alive, TextColumn};
 use far_random::Draws;
 use far_scopes::Objects;
-use far_store::{FarRead, FarStore};
+use far_store::{FarStore, FarTickets};
 use far_types::{Refusal, Text};
 use std::alloc::Global;
 
@@ -183,7 +183,7 @@ impl TextSteps {
     }
 
     /// Lends a part of a column, and clears the flag where it begins.
-    fn lend<S: FarRead>(
+    fn lend<S: FarTickets>(
         &mut self,
         objects: &Objects<u8, S>,
         column: &TextColumn,
@@ -207,7 +207,7 @@ impl TextSteps {
     }
 
     /// Whether all columns are as they should be.
-    pub fn agree_all<S: FarRead>(
+    pub fn agree_all<S: FarTickets>(
         &self,
         objects: &Objects<u8, S>,
         d: &TextColumn,
@@ -219,7 +219,7 @@ impl TextSteps {
     }
 
     // Whether a column is as it should be.
-    fn agree<S: FarRead>(&self, objects: &Objects<u8, S>, column: &TextColumn, k: usize) -> bool
+    fn agree<S: FarTickets>(&self, objects: &Objects<u8, S>, column: &TextColumn, k: usize) -> bool
         requires { IsTextColumn (lists_of S.content objects.now) column.now }
     {
         let (Some(plain), Some(alive)) = (self.plain.get(k), self.alive.get(k)) else {

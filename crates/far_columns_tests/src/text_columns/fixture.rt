@@ -12,7 +12,7 @@ use far_columns::laws::columns_stay_together;
 use far_columns::{Alive, TextColumn, may_push_texts, push_texts};
 use far_fixtures::{digest_of, no_objects, with, with_optional};
 use far_scopes::Objects;
-use far_store::{FarRead, FarStore};
+use far_store::{FarStore, FarTickets};
 use far_types::{Refusal, Text};
 use std::alloc::Global;
 use std::marker::Model;
@@ -107,7 +107,7 @@ impl<'a, S: FarStore> TwoTextColumns<'a, S> {
 }
 
 // Two columns without a text.
-fn no_texts<S: FarRead>(
+fn no_texts<S: FarTickets>(
     alloc: Global,
     _objects: &Objects<u8, S>,
     size: usize,
@@ -125,7 +125,7 @@ fn no_texts<S: FarRead>(
 }
 
 // The first column, or the second.
-fn column_of<'a, S: FarRead>(
+fn column_of<'a, S: FarTickets>(
     _objects: &Objects<u8, S>,
     columns: &'a [TextColumn],
     k: usize,
@@ -156,7 +156,7 @@ fn have_objects(columns: &[TextColumn], group: u32, first: u32, second: u32) -> 
 }
 
 // Pushes a text to each column; there are few objects.
-fn push<S: FarRead>(
+fn push<S: FarTickets>(
     alloc: Global,
     objects: &mut Objects<u8, S>,
     columns: &mut [TextColumn],
@@ -173,7 +173,7 @@ fn push<S: FarRead>(
 }
 
 // Sets the text of a column at a place.
-fn set_text<S: FarRead>(
+fn set_text<S: FarTickets>(
     alloc: Global,
     objects: &mut Objects<u8, S>,
     columns: &[TextColumn],

@@ -7,10 +7,10 @@ ghost use Rattle.far_rows.specs.Refusing.{push_refusal};
 use super::Rows;
 use crate::new_row::NewRow;
 use far_columns::{may_push_numbers, may_push_texts};
-use far_store::FarRead;
+use far_store::FarTickets;
 use far_types::Refusal;
 
-impl<S: FarRead> Rows<S> {
+impl<S: FarTickets> Rows<S> {
     /// Whether a row may be appended, whose texts have at most 4,096 bytes each. Takes no memory.
     ///
     /// Refused with `Absent` (16) exactly where the row group of the next place is begun and some object of it is away, naming

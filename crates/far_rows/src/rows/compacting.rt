@@ -6,11 +6,11 @@ ghost use Rattle.far_scopes.specs.Movement.{AreHere};
 ghost use Rattle.far_rows.specs.Rows.{cells_of};
 
 use super::Rows;
-use far_store::FarRead;
+use far_store::FarTickets;
 use far_types::Refusal;
 use std::alloc::Global;
 
-impl<S: FarRead> Rows<S> {
+impl<S: FarTickets> Rows<S> {
     /// Compacts a segment of the objects of numbers: its parts lie in the lowest other segment without parts from then on,
     /// one behind the other, those of hot objects first, and none of their objects is hot.
     ///

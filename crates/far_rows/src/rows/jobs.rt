@@ -12,11 +12,11 @@ ghost use Rattle.far_rows.specs.Jobs.{SpellsNumbers, SpellsTexts};
 
 use super::Rows;
 use far_evacuator::{Carried, Fetched, commit, install};
-use far_store::FarRead;
+use far_store::FarTickets;
 use far_types::Refusal;
 use std::alloc::Global;
 
-impl<S: FarRead> Rows<S> {
+impl<S: FarTickets> Rows<S> {
     /// Sends an object of numbers away whose far form was carried. Takes no memory.
     ///
     /// Refused with `StaleJob` (20) exactly where what it rests on does not hold any more (`IsCommittable`): it was begun on

@@ -13,10 +13,10 @@ ghost use Rattle.far_rows.specs.Lending.{lent_ints, lent_texts, numbers_of, text
 use super::Rows;
 use crate::slot::Slot;
 use far_columns::{Lents, TextCells};
-use far_store::FarRead;
+use far_store::FarTickets;
 use far_types::Refusal;
 
-impl<S: FarRead> Rows<S> {
+impl<S: FarTickets> Rows<S> {
     /// The numbers of the places `from` up to `to`, lent in place with the flags of their places, piece by piece: one for each
     /// row group that has some of them. Takes no memory.
     ///

@@ -10,10 +10,10 @@ use super::Rows;
 use crate::object::Object;
 use crate::slot::Slot;
 use far_scopes::Objects;
-use far_store::FarRead;
+use far_store::FarTickets;
 use far_types::Refusal;
 
-impl<S: FarRead> Rows<S> {
+impl<S: FarTickets> Rows<S> {
     /// The objects of numbers, lent for jobs to begin with. Takes no memory.
     pub fn number_objects(&self) -> &Objects<Option<i64>, S>
         ensures { result.now ≡ self.now.number_objects }

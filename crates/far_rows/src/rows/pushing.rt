@@ -16,7 +16,7 @@ use super::Rows;
 use crate::new_row::NewRow;
 use far_columns::{IntColumn, TextColumn, push_numbers, push_texts, unpush_numbers};
 use far_scopes::Objects;
-use far_store::FarRead;
+use far_store::FarTickets;
 use far_types::Refusal;
 use std::alloc::Global;
 
@@ -40,7 +40,7 @@ pub(super) fn known_texts(columns: &[TextColumn])
 
 // Gives each column its value of the row. Where row groups begin, the numbers are taken back if the texts are refused;
 // else the texts come first, and the numbers then cannot be refused.
-fn push_values<S: FarRead>(
+fn push_values<S: FarTickets>(
     alloc: Global,
     begins: bool,
     number_objects: &mut Objects<Option<i64>, S>,
@@ -96,7 +96,7 @@ fn push_values<S: FarRead>(
     Ok(())
 }
 
-impl<S: FarRead> Rows<S> {
+impl<S: FarTickets> Rows<S> {
     /// Appends a row, which is alive: each column gets its value. Where the place is the first of a row group, an object is
     /// made for each column; else the last object of each is written, all texts before a number.
     ///

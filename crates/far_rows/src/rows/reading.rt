@@ -17,10 +17,10 @@ use crate::cell_ref::CellRef;
 use crate::slot::Slot;
 use far_columns::{IntColumn, TextColumn};
 use far_scopes::Objects;
-use far_store::FarRead;
+use far_store::FarTickets;
 use far_types::Refusal;
 
-impl<S: FarRead> Rows<S> {
+impl<S: FarTickets> Rows<S> {
     /// Whether all objects of a row group are local. A row group of which no place is used has none. Takes no memory.
     ///
     /// Refused with `Absent` (16) exactly where one is away, naming the first in the order of the columns by the column and the
@@ -118,7 +118,7 @@ impl<S: FarRead> Rows<S> {
 }
 
 // Whether the object of a row group of a column of numbers is local, where there is one.
-fn numbers_are_here<S: FarRead>(
+fn numbers_are_here<S: FarTickets>(
     objects: &Objects<Option<i64>, S>,
     column: &IntColumn,
     group: u32,
@@ -135,7 +135,7 @@ fn numbers_are_here<S: FarRead>(
 }
 
 // Likewise of a column of texts.
-fn texts_are_here<S: FarRead>(
+fn texts_are_here<S: FarTickets>(
     objects: &Objects<u8, S>,
     column: &TextColumn,
     group: u32,

@@ -12,11 +12,11 @@ ghost use Rattle.far_rows.specs.Setting.{cell_of, kind_in, set_in, set_refusal, 
 use super::Rows;
 use crate::new_cell::NewCell;
 use crate::slot::Slot;
-use far_store::FarRead;
+use far_store::FarTickets;
 use far_types::{Kind, Refusal, Text};
 use std::alloc::Global;
 
-impl<S: FarRead> Rows<S> {
+impl<S: FarTickets> Rows<S> {
     /// Whether a value may be put in a column of a place. Takes no memory.
     ///
     /// Refused with `Absent` (16) exactly where some object of the place's row group is away, naming the first in the order of

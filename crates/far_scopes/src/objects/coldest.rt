@@ -5,9 +5,9 @@ ghost use Rattle.far_scopes.specs.Movement.{is_local, pins_of};
 
 use super::Objects;
 use far_codec::Elem;
-use far_store::FarRead;
+use far_store::FarTickets;
 
-impl<T: Elem, S: FarRead> Objects<T, S> {
+impl<T: Elem, S: FarTickets> Objects<T, S> {
     /// The object that goes away first: of those without pins that are not hot the one whose last use is the longest ago,
     /// and where there is none, that of all without pins. `None` exactly where no local object is without pins.
     ///

@@ -7,10 +7,10 @@ ghost use Rattle.far_scopes.specs.Effects.{created, uncreated};
 
 use super::{Entry, Objects};
 use far_codec::Elem;
-use far_store::FarRead;
+use far_store::FarTickets;
 use far_types::{Name, Refusal};
 
-impl<T: Elem, S: FarRead> Objects<T, S> {
+impl<T: Elem, S: FarTickets> Objects<T, S> {
     /// Makes an object of this list, and answers its number, which is the next: it is local, dirty, hot and used last,
     /// and was never written, away or pinned. `uncreate` undoes it (`undone`). Lists of further lengths that found room in
     /// order behind this one still do (`next`).

@@ -6,11 +6,11 @@ ghost use Rattle.far_scopes.specs.Movement.{list_of, AreClean, AreHere};
 
 use super::Objects;
 use far_codec::Elem;
-use far_store::FarRead;
+use far_store::FarTickets;
 use far_types::Refusal;
 use std::alloc::Global;
 
-impl<T: Elem, S: FarRead> Objects<T, S> {
+impl<T: Elem, S: FarTickets> Objects<T, S> {
     /// Compacts a segment: its parts lie in the lowest other segment without parts from then on, one behind the other,
     /// those of hot objects first, then the others, each by where they lay; and none of their objects is hot. Every
     /// list, what is local, dirty or away, and the order of use stay.

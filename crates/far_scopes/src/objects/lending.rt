@@ -11,10 +11,10 @@ ghost use Rattle.far_scopes.specs.ObjectsLending.{lends_written};
 use super::Objects;
 use far_codec::Elem;
 use far_pointer::Pointer;
-use far_store::FarRead;
+use far_store::FarTickets;
 use far_types::Refusal;
 
-impl<T: Elem, S: FarRead> Objects<T, S> {
+impl<T: Elem, S: FarTickets> Objects<T, S> {
     /// The list of an object, lent in place. Takes no memory.
     ///
     /// Refused with `Absent` (16) exactly where the object is away.
@@ -53,7 +53,7 @@ impl<T: Elem, S: FarRead> Objects<T, S> {
     pub fn lend_mut(&mut self, o: u32) -> &mut [T]
         requires within { o < length self.old.entries }
         requires free { write_refusal self.old o ≡ None }
-        ensures* writes_back { sem 𝓛 (lends_written T.row S.row S.Ticket.row T.Elem S.FarRead self.entry o 0 result) }
+        ensures* writes_back { sem 𝓛 (lends_written T.row S.row S.Ticket.row T.Elem S.FarTickets self.entry o 0 result) }
         ensures lent { list_in self.old.memory o ≡ Some result.now }
         ensures alone { (list : List T) → length list ≡ length result.now → ChangesList (list_of T.meaning S.content self.old) (list_of T.meaning S.content (overwritten (written self.old o) o 0 list)) o (Some list) }
         ensures clean { (list : List T) → length list ≡ length result.now → AreClean T.meaning S.content self.old → AreClean T.meaning S.content (overwritten (written self.old o) o 0 list) }
@@ -73,7 +73,7 @@ impl<T: Elem, S: FarRead> Objects<T, S> {
         requires free { write_refusal self.old o ≡ None }
         requires ordered { from ≤ to }
         requires there { IsSomeAnd (list_in self.old.memory o) (λ list. to ≤ length list) }
-        ensures* writes_back { sem 𝓛 (lends_written T.row S.row S.Ticket.row T.Elem S.FarRead self.entry o from result) }
+        ensures* writes_back { sem 𝓛 (lends_written T.row S.row S.Ticket.row T.Elem S.FarTickets self.entry o from result) }
         ensures lent { IsSomeAnd (list_in self.old.memory o) (λ list. result.now ≡ slice_range list from to) }
         ensures alone { IsSomeAnd (list_in self.old.memory o) (λ list. (range : List T) → length range ≡ to - from → ChangesList (list_of T.meaning S.content self.old) (list_of T.meaning S.content (overwritten (written self.old o) o from range)) o (Some (take from list ++ (range ++ drop to list)))) }
         ensures clean { (range : List T) → length range ≡ to - from → AreClean T.meaning S.content self.old → AreClean T.meaning S.content (overwritten (written self.old o) o from range) }

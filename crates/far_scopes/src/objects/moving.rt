@@ -9,10 +9,10 @@ ghost use Rattle.far_scopes.specs.Effects.{departed, arrived, replaced};
 
 use super::Objects;
 use far_codec::Elem;
-use far_store::FarRead;
+use far_store::FarTickets;
 use far_types::Refusal;
 
-impl<T: Elem, S: FarRead> Objects<T, S> {
+impl<T: Elem, S: FarTickets> Objects<T, S> {
     /// Sends an object away whose far copy is this ticket's content. Its part is dropped and its record kept. Takes no
     /// memory.
     pub fn leave(&mut self, store: &S, o: u32, ticket: &S::Ticket)

@@ -6,10 +6,10 @@ ghost use Rattle.far_scopes.specs.Movement.{list_of, AreClean, AreHere, ChangesO
 
 use super::Objects;
 use far_codec::Elem;
-use far_store::FarRead;
+use far_store::FarTickets;
 use far_types::Refusal;
 
-impl<T: Elem, S: FarRead> Objects<T, S> {
+impl<T: Elem, S: FarTickets> Objects<T, S> {
     /// Pins an object once more. Takes no memory.
     ///
     /// Refused with `Absent` (16) exactly where the object is away, and with `EditsUsedUp` (24) exactly where it has 65,535

@@ -5,10 +5,10 @@ ghost use Rattle.far_scopes.specs.Movement.{entry_of, leavings_of};
 
 use super::Objects;
 use far_codec::Elem;
-use far_store::FarRead;
+use far_store::FarTickets;
 use far_types::Name;
 
-impl<T: Elem, S: FarRead> Objects<T, S> {
+impl<T: Elem, S: FarTickets> Objects<T, S> {
     /// How many objects there are: the numbers below are in use. Takes no memory.
     pub fn count(&self) -> u32
         ensures { result ≡ length self.now.entries }

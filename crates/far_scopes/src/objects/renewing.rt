@@ -7,7 +7,7 @@ ghost use Rattle.far_scopes.specs.Renewal.{Renews, renewed, AreTicketsHere};
 use super::{Entry, Objects};
 use crate::renewal::Renewal;
 use far_codec::Elem;
-use far_store::{FarRead, FarStore, Meter};
+use far_store::{FarRead, FarStore, FarTickets, Meter};
 use far_types::Refusal;
 use std::alloc::Global;
 
@@ -51,11 +51,13 @@ impl<T: Elem, S: FarRead> Objects<T, S> {
         }
         Ok(Renewal { tickets, entries })
     }
+}
 
+impl<T: Elem, S: FarTickets> Objects<T, S> {
     /// The same objects, whose far copies are those of the renewal from now on. Those that are away have their tickets
     /// there; the local ones are dirty, since they have no copy there. Every list, what is local, hot or pinned, versions,
     /// leavings, the order of use and the room stay. Takes no memory.
-    pub fn renew<N: FarRead>(self, renewal: Renewal<N>) -> Objects<T, N>
+    pub fn renew<N: FarTickets>(self, renewal: Renewal<N>) -> Objects<T, N>
         requires { Renews S.content N.content self renewal }
         ensures renewed { result ≡ renewed self renewal }
         ensures lists { (p : ℕ) → list_of T.meaning N.content result p ≡ list_of T.meaning S.content self p }

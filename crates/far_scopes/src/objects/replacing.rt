@@ -11,10 +11,10 @@ use super::Objects;
 use crate::entry::Entry;
 use crate::replacement::Replacement;
 use far_codec::Elem;
-use far_store::FarRead;
+use far_store::FarTickets;
 use far_types::Refusal;
 
-impl<T: Elem, S: FarRead> Objects<T, S> {
+impl<T: Elem, S: FarTickets> Objects<T, S> {
     /// Gives an object another list: the new part is placed before the old one is dropped. The object counts as written:
     /// it is dirty, hot and used last, and its version is one more. Its ticket stays.
     ///

@@ -8,11 +8,11 @@ ghost use Rattle.far_scopes.specs.Entering.{pinned_all, enter_refusal, pins_over
 use super::Objects;
 use crate::scope::Scope;
 use far_codec::Elem;
-use far_store::FarRead;
+use far_store::FarTickets;
 use far_types::Refusal;
 use std::alloc::Global;
 
-impl<T: Elem, S: FarRead> Objects<T, S> {
+impl<T: Elem, S: FarTickets> Objects<T, S> {
     /// Pins objects together, one pin for each listing, all or none. The scope must be spent by `close`.
     ///
     /// Refused with `Absent` (16) exactly where a listed object is away, naming the first such; with `EditsUsedUp` (24)

@@ -12,7 +12,7 @@ ghost use Rattle.far_vector.specs.Refusing.{push_refusal};
 use super::FarVector;
 use far_codec::Elem;
 use far_scopes::Objects;
-use far_store::FarRead;
+use far_store::FarTickets;
 use far_types::{Name, Refusal};
 
 impl<T: Elem> FarVector<T> {
@@ -26,7 +26,7 @@ impl<T: Elem> FarVector<T> {
     /// Whether the object of the next place is local, whose row group is begun. Takes no memory.
     ///
     /// Refused with `Absent` (16) exactly where it is away.
-    pub fn next_is_here<S: FarRead>(&self, objects: &Objects<T, S>) -> Result<(), Refusal>
+    pub fn next_is_here<S: FarTickets>(&self, objects: &Objects<T, S>) -> Result<(), Refusal>
         requires is { IsVector (list_of T.meaning S.content objects.now) self.now }
         requires begun { is_full self.now ≡ false }
         ensures { refusal_in result ≡ lend_refusal objects.now (object_at self.now self.now.len) }
@@ -39,7 +39,7 @@ impl<T: Elem> FarVector<T> {
     ///
     /// Refused with `Absent` (16) exactly where it is away, else with `EditsUsedUp` (24) exactly where it was written as
     /// often as objects may be.
-    pub fn next_is_writable<S: FarRead>(&self, objects: &Objects<T, S>) -> Result<(), Refusal>
+    pub fn next_is_writable<S: FarTickets>(&self, objects: &Objects<T, S>) -> Result<(), Refusal>
         requires is { IsVector (list_of T.meaning S.content objects.now) self.now }
         requires begun { is_full self.now ≡ false }
         ensures { refusal_in result ≡ write_refusal objects.now (object_at self.now self.now.len) }
@@ -54,7 +54,7 @@ impl<T: Elem> FarVector<T> {
     /// `NoMemory` (1) alone. Elsewhere refused with `Absent` (16) exactly where the last row group's object is away, else with
     /// `EditsUsedUp` (24) exactly where that was written as often as objects may be, and takes no memory. Then nothing is
     /// changed.
-    pub fn push<S: FarRead>(&mut self, objects: &mut Objects<T, S>, x: T) -> Result<(), Refusal>
+    pub fn push<S: FarTickets>(&mut self, objects: &mut Objects<T, S>, x: T) -> Result<(), Refusal>
         requires is { IsVector (list_of T.meaning S.content objects.old) self.old }
         requires few { is_full self.old ≡ true → length objects.old.entries < 2 ^ 28 }
         ensures pushed { OnOk result (self.new ≡ pushed self.old (length objects.old.entries)) }
@@ -81,7 +81,11 @@ impl<T: Elem> FarVector<T> {
     }
 
     // Adds an element where all places are used: in an object of its own.
-    fn begin_group<S: FarRead>(&mut self, objects: &mut Objects<T, S>, x: T) -> Result<(), Refusal>
+    fn begin_group<S: FarTickets>(
+        &mut self,
+        objects: &mut Objects<T, S>,
+        x: T,
+    ) -> Result<(), Refusal>
         requires full { is_full self.old ≡ true }
         requires is { IsVector (list_of T.meaning S.content objects.old) self.old }
         requires few { length objects.old.entries < 2 ^ 28 }
@@ -119,7 +123,11 @@ impl<T: Elem> FarVector<T> {
     }
 
     // Adds an element where the last row group has a place that is not used.
-    fn fill_place<S: FarRead>(&mut self, objects: &mut Objects<T, S>, x: T) -> Result<(), Refusal>
+    fn fill_place<S: FarTickets>(
+        &mut self,
+        objects: &mut Objects<T, S>,
+        x: T,
+    ) -> Result<(), Refusal>
         requires room { is_full self.old ≡ false }
         requires is { IsVector (list_of T.meaning S.content objects.old) self.old }
         ensures pushed { OnOk result (self.new ≡ record self.old { len = self.old.len + 1 }) }
@@ -141,7 +149,7 @@ impl<T: Elem> FarVector<T> {
     }
 
     /// Takes back a push that made an object: its element, the only one of its row group, and the object. Takes no memory.
-    pub fn unpush<S: FarRead>(&mut self, objects: &mut Objects<T, S>)
+    pub fn unpush<S: FarTickets>(&mut self, objects: &mut Objects<T, S>)
         requires is { IsVector (list_of T.meaning S.content objects.old) self.old }
         requires alone { self.old.len ≡ (length self.old.objects - 1) * self.old.size + 1 }
         requires last { slice_get self.old.objects (length self.old.objects - 1) ≡ Some (length objects.old.entries - 1) }

@@ -12,7 +12,7 @@ use super::FarVector;
 use crate::pieces::Pieces;
 use far_codec::Elem;
 use far_scopes::Objects;
-use far_store::FarRead;
+use far_store::FarTickets;
 use far_types::Refusal;
 
 impl<T: Elem> FarVector<T> {
@@ -20,7 +20,7 @@ impl<T: Elem> FarVector<T> {
     ///
     /// Refused with `OutOfRange` (14) exactly where the list has no such place, else with `Absent` (16) exactly where the
     /// object of its row group is away.
-    pub fn get<S: FarRead>(&self, objects: &Objects<T, S>, i: usize) -> Result<T, Refusal>
+    pub fn get<S: FarTickets>(&self, objects: &Objects<T, S>, i: usize) -> Result<T, Refusal>
         requires { IsVector (list_of T.meaning S.content objects.now) self.now }
         ensures element { IfOk result (λ x. slice_get (elements (list_of T.meaning S.content objects.now) self.now) i ≡ Some x) }
         ensures refused { refusal_in result ≡ get_refusal objects.now self.now i }
@@ -36,7 +36,7 @@ impl<T: Elem> FarVector<T> {
     ///
     /// Refused with `OutOfRange` (14) exactly where `from` is above `to`, `to` is past the end, or the part is not empty and
     /// crosses row groups; else with `Absent` (16) exactly where it is not empty and the object of its row group is away.
-    pub fn part<'a, S: FarRead>(
+    pub fn part<'a, S: FarTickets>(
         &self,
         objects: &'a Objects<T, S>,
         from: usize,
@@ -60,7 +60,7 @@ impl<T: Elem> FarVector<T> {
     ///
     /// Refused with `OutOfRange` (14) exactly where `from` is above `to` or `to` is past the end; else with `Absent` (16)
     /// exactly where the object of a row group with some of them is away, naming the first such.
-    pub fn pieces<'a, S: FarRead>(
+    pub fn pieces<'a, S: FarTickets>(
         &'a self,
         objects: &'a Objects<T, S>,
         from: usize,
@@ -82,7 +82,7 @@ impl<T: Elem> FarVector<T> {
     }
 
     // Whether the objects of row groups `first` up to `end` are local; the refusal names the first that is away.
-    fn all_here<S: FarRead>(
+    fn all_here<S: FarTickets>(
         &self,
         objects: &Objects<T, S>,
         first: usize,

@@ -12,7 +12,7 @@ ghost use Rattle.far_vector.specs.Refusing.{set_refusal, write_part_refusal};
 use super::FarVector;
 use far_codec::Elem;
 use far_scopes::Objects;
-use far_store::FarRead;
+use far_store::FarTickets;
 use far_types::Refusal;
 
 impl<T: Elem> FarVector<T> {
@@ -21,7 +21,7 @@ impl<T: Elem> FarVector<T> {
     /// Refused with `OutOfRange` (14) exactly where the list has no such place, else with `Absent` (16) exactly where the
     /// object of its row group is away, else with `EditsUsedUp` (24) exactly where that was written as often as objects may
     /// be; then nothing is changed.
-    pub fn set<S: FarRead>(
+    pub fn set<S: FarTickets>(
         &self,
         objects: &mut Objects<T, S>,
         i: usize,
@@ -48,7 +48,7 @@ impl<T: Elem> FarVector<T> {
     }
 
     /// Whether the element of a place may be written. Takes no memory, and is refused exactly as `set` is.
-    pub fn may_set<S: FarRead>(&self, objects: &Objects<T, S>, i: usize) -> Result<(), Refusal>
+    pub fn may_set<S: FarTickets>(&self, objects: &Objects<T, S>, i: usize) -> Result<(), Refusal>
         requires { IsVector (list_of T.meaning S.content objects.now) self.now }
         ensures { refusal_in result ≡ set_refusal objects.now self.now i }
     {
@@ -64,7 +64,7 @@ impl<T: Elem> FarVector<T> {
     /// Refused with `OutOfRange` (14) exactly where `from` is above `to`, `to` is past the end, or the part is not empty and
     /// crosses row groups; else, if it is not empty, with `Absent` (16) exactly where the object of its row group is away, and
     /// with `EditsUsedUp` (24) exactly where that was written as often as objects may be.
-    pub fn may_write_part<S: FarRead>(
+    pub fn may_write_part<S: FarTickets>(
         &self,
         objects: &Objects<T, S>,
         from: usize,
@@ -84,7 +84,7 @@ impl<T: Elem> FarVector<T> {
     /// memory.
     ///
     /// The object of their row group counts as written. What the borrow leaves is the part, and no other element changes.
-    pub fn part_mut<'a, S: FarRead>(
+    pub fn part_mut<'a, S: FarTickets>(
         objects: &'a mut Objects<T, S>,
         vector: &FarVector<T>,
         from: usize,
@@ -93,7 +93,7 @@ impl<T: Elem> FarVector<T> {
         requires is { IsVector (list_of T.meaning S.content objects.old) vector.now }
         requires some { from < to }
         requires free { write_part_refusal objects.old vector.now from to ≡ None }
-        ensures* writes_back { sem 𝓛 (lends_written T.row S.row S.Ticket.row T.Elem S.FarRead objects.entry (object_at vector.now from) (from % vector.now.size) result) }
+        ensures* writes_back { sem 𝓛 (lends_written T.row S.row S.Ticket.row T.Elem S.FarTickets objects.entry (object_at vector.now from) (from % vector.now.size) result) }
         ensures lent { result.now ≡ slice_range (elements (list_of T.meaning S.content objects.old) vector.now) from to }
         ensures elements { (range : List T) → length range ≡ to - from → let now = list_of T.meaning S.content (range_written objects.old vector.now from range) in let was = elements (list_of T.meaning S.content objects.old) vector.now in elements now vector.now ≡ take from was ++ (range ++ drop to was) }
         ensures is { (range : List T) → length range ≡ to - from → IsVector (list_of T.meaning S.content (range_written objects.old vector.now from range)) vector.now }
@@ -110,7 +110,7 @@ impl<T: Elem> FarVector<T> {
     }
 
     // Writes the element of a place, which may be one that is not yet used, of a row group that may be written.
-    pub(super) fn write<S: FarRead>(&self, objects: &mut Objects<T, S>, i: usize, x: T)
+    pub(super) fn write<S: FarTickets>(&self, objects: &mut Objects<T, S>, i: usize, x: T)
         requires is { IsVector (list_of T.meaning S.content objects.old) self.now }
         requires within { i < length self.now.objects * self.now.size }
         requires free { write_refusal objects.old (object_at self.now i) ≡ None }
@@ -129,7 +129,7 @@ impl<T: Elem> FarVector<T> {
 
     // The object with a place of a row group that may be written, which has its list in local memory: that is known by the
     // contract of `lend`.
-    fn writable_at<S: FarRead>(&self, objects: &Objects<T, S>, i: usize) -> u32
+    fn writable_at<S: FarTickets>(&self, objects: &Objects<T, S>, i: usize) -> u32
         requires is { IsVector (list_of T.meaning S.content objects.now) self.now }
         requires within { i < length self.now.objects * self.now.size }
         requires free { write_refusal objects.now (object_at self.now i) ≡ None }

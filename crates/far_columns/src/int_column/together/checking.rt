@@ -10,7 +10,7 @@ ghost use Rattle.far_columns.specs.NumbersTogether.{all_begin, absents, some_wri
 
 use crate::int_column::IntColumn;
 use far_scopes::Objects;
-use far_store::FarRead;
+use far_store::FarTickets;
 use far_types::Refusal;
 
 // Whether row groups begin at the next places.
@@ -35,7 +35,7 @@ pub(super) fn known_shapes(columns: &[IntColumn])
 }
 
 // Whether the objects of the last row groups are local; the refusal names the first that is away.
-pub(super) fn all_here<S: FarRead>(
+pub(super) fn all_here<S: FarTickets>(
     objects: &Objects<Option<i64>, S>,
     columns: &[IntColumn],
 ) -> Result<(), Refusal>
@@ -50,7 +50,7 @@ pub(super) fn all_here<S: FarRead>(
 }
 
 // Whether the objects of the last row groups, which are local, may be written.
-pub(super) fn all_writable<S: FarRead>(
+pub(super) fn all_writable<S: FarTickets>(
     objects: &Objects<Option<i64>, S>,
     columns: &[IntColumn],
 ) -> Result<(), Refusal>
@@ -67,7 +67,7 @@ pub(super) fn all_writable<S: FarRead>(
 }
 
 // Whether new row groups, placed in order, find room.
-pub(super) fn groups_fit<S: FarRead>(
+pub(super) fn groups_fit<S: FarTickets>(
     objects: &Objects<Option<i64>, S>,
     columns: &[IntColumn],
 ) -> Result<(), Refusal>

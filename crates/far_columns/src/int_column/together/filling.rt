@@ -11,10 +11,10 @@ ghost use Rattle.far_columns.specs.NumbersTogether.{all_pushed, all_numbers_with
 
 use crate::int_column::IntColumn;
 use far_scopes::Objects;
-use far_store::FarRead;
+use far_store::FarTickets;
 
 // Each column, whose last row group has a place that is not used and may be written, has a number more.
-pub(super) fn fill_places<S: FarRead>(
+pub(super) fn fill_places<S: FarTickets>(
     objects: &mut Objects<Option<i64>, S>,
     columns: &mut [IntColumn],
     numbers: &[Option<i64>],

@@ -11,11 +11,11 @@ ghost use Rattle.far_columns.specs.NumbersBack.{KeepsBelow, AreBegunFrom, AreBeg
 
 use crate::int_column::IntColumn;
 use far_scopes::Objects;
-use far_store::FarRead;
+use far_store::FarTickets;
 use far_types::Refusal;
 
 // The next places begin row groups: each column gets an object for its number, or none does.
-pub(super) fn begin_groups<S: FarRead>(
+pub(super) fn begin_groups<S: FarTickets>(
     objects: &mut Objects<Option<i64>, S>,
     columns: &mut [IntColumn],
     numbers: &[Option<i64>],
@@ -56,7 +56,7 @@ pub(super) fn begin_groups<S: FarRead>(
 }
 
 // The row groups that were begun last, one a column, are taken back with their objects, the last that was made first.
-pub(super) fn unbegin_groups<S: FarRead>(
+pub(super) fn unbegin_groups<S: FarTickets>(
     objects: &mut Objects<Option<i64>, S>,
     columns: &mut [IntColumn],
 )

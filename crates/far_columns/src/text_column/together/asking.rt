@@ -12,11 +12,11 @@ ghost use Rattle.far_columns.specs.RefusingTogether.{last_tests, push_texts_refu
 use super::checking::{all_begin, known_groups, may_make_forms};
 use crate::text_column::TextColumn;
 use far_scopes::Objects;
-use far_store::FarRead;
+use far_store::FarTickets;
 use far_types::{Refusal, Text};
 
 // How long the new forms are, in the order of the columns, of which a table has at most 16.
-fn next_lens<S: FarRead>(
+fn next_lens<S: FarTickets>(
     objects: &Objects<u8, S>,
     columns: &[TextColumn],
     texts: &[Option<Text>],
@@ -39,7 +39,7 @@ fn next_lens<S: FarRead>(
 
 impl TextColumn {
     // Whether the object of the last row group, which is not full, may be written.
-    fn last_is_writable<S: FarRead>(&self, objects: &Objects<u8, S>) -> Result<(), Refusal>
+    fn last_is_writable<S: FarTickets>(&self, objects: &Objects<u8, S>) -> Result<(), Refusal>
         requires begun { begins_group self.now ≡ false }
         requires is { IsTextColumn (lists_of S.content objects.now) self.now }
         ensures { refusal_in result ≡ write_refusal objects.now (last_object self.now) }
@@ -50,7 +50,10 @@ impl TextColumn {
 }
 
 // Whether the objects of the last row groups, which are local, may be written.
-fn all_writable<S: FarRead>(objects: &Objects<u8, S>, columns: &[TextColumn]) -> Result<(), Refusal>
+fn all_writable<S: FarTickets>(
+    objects: &Objects<u8, S>,
+    columns: &[TextColumn],
+) -> Result<(), Refusal>
     requires each { All (IsTextColumn (lists_of S.content objects.now)) columns.now }
     requires begun { All (λ c. begins_group c ≡ false) columns.now }
     requires here { All (λ c. next_length_refusal S.content objects.now c ≡ None) columns.now }
@@ -63,7 +66,7 @@ fn all_writable<S: FarRead>(objects: &Objects<u8, S>, columns: &[TextColumn]) ->
 }
 
 // Whether the new forms, which may be made, find room, and objects that get another form may be written.
-fn may_place_forms<S: FarRead>(
+fn may_place_forms<S: FarTickets>(
     objects: &Objects<u8, S>,
     columns: &[TextColumn],
     texts: &[Option<Text>],
@@ -93,7 +96,7 @@ fn may_place_forms<S: FarRead>(
 /// else with `RegionFull` (17) exactly where the new forms, placed one after the other, do not find room beside all that is
 /// there; else with `EditsUsedUp` (24) exactly where the row groups are begun and some last object was written as often as
 /// objects may be. Where it is not refused, `push_texts` can be refused with `NoMemory` (1) alone.
-pub fn may_push_texts<S: FarRead>(
+pub fn may_push_texts<S: FarTickets>(
     objects: &Objects<u8, S>,
     columns: &[TextColumn],
     texts: &[Option<Text>],

@@ -11,7 +11,7 @@ ghost use Rattle.far_columns.specs.RefusingTogether.{any_too_long, any_full, abs
 use crate::text_column::TextColumn;
 use crate::text_column::lengths::text_length;
 use far_scopes::Objects;
-use far_store::FarRead;
+use far_store::FarTickets;
 use far_types::{Refusal, Text};
 
 // Whether no text is too long.
@@ -48,7 +48,7 @@ pub(super) fn known_groups(columns: &[TextColumn])
 }
 
 // Whether the objects of the last row groups are local; the refusal names the first that is away.
-fn all_here<S: FarRead>(objects: &Objects<u8, S>, columns: &[TextColumn]) -> Result<(), Refusal>
+fn all_here<S: FarTickets>(objects: &Objects<u8, S>, columns: &[TextColumn]) -> Result<(), Refusal>
     requires each { All (IsTextColumn (lists_of S.content objects.now)) columns.now }
     requires begun { All (λ c. begins_group c ≡ false) columns.now }
     ensures { refusal_in result ≡ first_of (absents objects.now columns.now) }
@@ -60,7 +60,7 @@ fn all_here<S: FarRead>(objects: &Objects<u8, S>, columns: &[TextColumn]) -> Res
 }
 
 // Whether no new form is longer than it may be.
-fn none_full<S: FarRead>(
+fn none_full<S: FarTickets>(
     objects: &Objects<u8, S>,
     columns: &[TextColumn],
     texts: &[Option<Text>],
@@ -81,7 +81,7 @@ fn none_full<S: FarRead>(
 }
 
 // Whether the next places may get these texts, but for what is seen while the new forms are made and placed.
-pub(super) fn may_make_forms<S: FarRead>(
+pub(super) fn may_make_forms<S: FarTickets>(
     objects: &Objects<u8, S>,
     columns: &[TextColumn],
     texts: &[Option<Text>],

@@ -9,12 +9,12 @@ ghost use Rattle.far_columns.specs.RefusingTogether.{any_full};
 
 use crate::text_column::TextColumn;
 use far_scopes::{Objects, Replacement};
-use far_store::FarRead;
+use far_store::FarTickets;
 use far_types::{Refusal, Text};
 use std::alloc::Global;
 
 // What is known of the columns and of the objects before texts are pushed: a number that is not given yet has no list.
-pub(super) fn known_together<S: FarRead>(objects: &Objects<u8, S>, columns: &[TextColumn])
+pub(super) fn known_together<S: FarTickets>(objects: &Objects<u8, S>, columns: &[TextColumn])
     requires { All (IsTextColumn (lists_of S.content objects.now)) columns.now }
     ensures objects { All (λ c. length c.objects ≤ length objects.now.entries) columns.now }
     ensures groups { All HasGroups columns.now }
@@ -41,7 +41,7 @@ impl TextColumn {
 }
 
 // The form for each column's next text, beside its object.
-pub(super) fn next_forms<S: FarRead>(
+pub(super) fn next_forms<S: FarTickets>(
     alloc: Global,
     objects: &Objects<u8, S>,
     columns: &[TextColumn],

@@ -13,11 +13,11 @@ ghost use Rattle.far_columns.specs.Together.{all_pushed, ChangesTo, given_forms,
 
 use crate::text_column::TextColumn;
 use far_scopes::{Objects, Replacement};
-use far_store::FarRead;
+use far_store::FarTickets;
 use far_types::{Name, Refusal};
 
 // The next places begin row groups, whose forms these are: an object is made for each column, or for none.
-pub(super) fn begin_groups<S: FarRead>(
+pub(super) fn begin_groups<S: FarTickets>(
     objects: &mut Objects<u8, S>,
     columns: &mut [TextColumn],
     forms: &[Replacement<u8>],
@@ -73,7 +73,7 @@ fn lengthen(columns: &mut [TextColumn])
 }
 
 // The last row groups, which are not full, get these forms: all of them, or none.
-pub(super) fn extend_groups<S: FarRead>(
+pub(super) fn extend_groups<S: FarTickets>(
     objects: &mut Objects<u8, S>,
     columns: &mut [TextColumn],
     forms: &[Replacement<u8>],

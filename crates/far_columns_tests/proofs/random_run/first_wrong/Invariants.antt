@@ -8,4 +8,4 @@ use Rattle.far_columns_tests.proofs.random_run.first_wrong.Given as goal
 
 abbrev pub invariant-loop-step : goal.invariant-loop-step
 invariant-loop-step g l =
-    AreVectors (number_lists g.S.FarRead.content l.numbers) (l.a ∷ l.b ∷ l.c ∷ []) × ((l.a.size ≡ 4) × (l.b.size ≡ 4) × (l.c.size ≡ 4)) × AreHere g.S.FarRead.is_of (g.S.FarRead.name l.fn.store) l.numbers × AreTextColumns (lists_of g.S.FarRead.content l.texts) (l.d ∷ l.e ∷ []) × AreHere g.S.FarRead.is_of (g.S.FarRead.name l.fn.store) l.texts
+    AreVectors (number_lists g.S.FarTickets.content l.numbers) (l.a ∷ l.b ∷ l.c ∷ []) × ((l.a.size ≡ 4) × (l.b.size ≡ 4) × (l.c.size ≡ 4)) × AreHere g.S.FarTickets.is_of (g.S.FarTickets.name l.fn.store) l.numbers × AreTextColumns (lists_of g.S.FarTickets.content l.texts) (l.d ∷ l.e ∷ []) × AreHere g.S.FarTickets.is_of (g.S.FarTickets.name l.fn.store) l.texts

@@ -11,7 +11,7 @@ pub returns-in-Dirty-clause-copied : goal.returns-in-Dirty-clause-copied
 returns-in-Dirty-clause-copied g c =
     let spelled = subst (IsSpelledForm (IsSpelled g.T.Elem.in_range g.T.Elem.has_spelling g.T.Elem.spelling)) c.in-Dirty.is c.job.invariant in
     let carried = rw (← c.job.view_is) at c.carried.invariant in
-    let content = subst (λ form. IsFormTicket g.S.FarRead.content form c.carried.inside.ticket) c.in-Dirty.is carried in
+    let content = subst (λ form. IsFormTicket g.S.FarTickets.content form c.carried.inside.ticket) c.in-Dirty.is carried in
     rw (← c.carried.view_is) (λ found. rw content (spelled-here g.T.Elem.in_range g.T.Elem.has_spelling g.T.Elem.spelling
     (g.met.T.Elem g.world.𝓛 g.world.𝓜 g.world.𝓡 ((λ s x. x), (λ x. x), (λ x. x), λ x. x)).one_list
     c.in-Dirty.form spelled c.args.list.now (c.spells.ensures.range found) (sym (c.deref.ensures.value ∙ c.form.view_is) ∙ c.spells.ensures.exact.0 found)))
@@ -21,4 +21,4 @@ returns-then-not-dirty-clause-copied g c =
     let within = rw (← c.carried.view_is, ← c.job.view_is) at c.requires.within in
     let lent = rw (← c.carried.view_is, ← c.job.view_is) at c.requires.lent in
     let clean = ap (λ w. option_map_or is_dirty w false) c.word.ensures.word ∙ sym c.dirty.ensures ∙ c.if-not-dirty.true in
-    rw (← c.carried.view_is) (λ same. clean-spelled g.T.Elem.meaning g.S.FarRead.content _ c.args.objects.now c.requires.tracked c.job.inside.object within c.requires.clean clean c.args.list.now lent _ (c.is_under.ensures.content same))
+    rw (← c.carried.view_is) (λ same. clean-spelled g.T.Elem.meaning g.S.FarTickets.content _ c.args.objects.now c.requires.tracked c.job.inside.object within c.requires.clean clean c.args.list.now lent _ (c.is_under.ensures.content same))

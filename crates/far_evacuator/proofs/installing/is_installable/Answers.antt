@@ -13,7 +13,7 @@ returns-then-leavings-job-clause-exact g c =
         away = away;
         leavings = sym c.leavings.ensures ∙ c.if-leavings-job.true;
         ticket = c.is_under.ensures.number.0 under;
-        form = away-form g.T.Elem.meaning g.S.FarRead.content _ _ c.number.ensures.tracked c.job.inside.object within away c.fetched.inside.bytes.items (c.is_under.ensures.content under ∙ ap Some (sym bytes));
+        form = away-form g.T.Elem.meaning g.S.FarTickets.content _ _ c.number.ensures.tracked c.job.inside.object within away c.fetched.inside.bytes.items (c.is_under.ensures.content under ∙ ap Some (sym bytes));
       }),
       λ h. c.is_under.ensures.number.1 h.ticket,
     )

@@ -6,7 +6,7 @@ use Rattle.far_offload.proofs.content.contents_under.Goals as goal
 
 pub loop-number-preserved : goal.loop-number-preserved
 loop-number-preserved g c =
-    let content = g.S.FarRead.content in
+    let content = g.S.FarTickets.content in
     let tickets = c.args.tickets.now in
     let i = c.loop-number.number-index in
     record {

@@ -6,5 +6,5 @@ use Rattle.far_offload_tests.proofs.rows.put_texts.Goals as goal
 
 pub returns-clause-form : goal.returns-clause-form
 returns-clause-form g c =
-    let content = g.S.FarRead.content in
+    let content = g.S.FarTickets.content in
     IfOk-weaker c.put.result (λ ticket. content ticket ≡ c.deref.result.now) (λ ticket. IsForm (content ticket)) (λ ticket is. inr (subst IsTextsForm (sym (is ∙ c.deref.ensures.value)) c.in_ok-form.ensures)) c.put.ensures.content

@@ -19,7 +19,7 @@ returns-then-all_begin-clause-are g c =
     (λ same _. rw (same.0, same.1) c.requires.are)
 
 pub all_here-requires-clause-begun : goal.all_here-requires-clause-begun
-all_here-requires-clause-begun g c κs within = none-begin (number_lists g.S.FarRead.content c.args.objects.now) c.args.columns.now c.requires.are c.known_shapes.ensures (sym c.if-all_begin.ensures)
+all_here-requires-clause-begun g c κs within = none-begin (number_lists g.S.FarTickets.content c.args.objects.now) c.args.columns.now c.requires.are c.known_shapes.ensures (sym c.if-all_begin.ensures)
 
 pub returns-in_err-all_here-clause-refused : goal.returns-in_err-all_here-clause-refused
 returns-in_err-all_here-clause-refused g c =
@@ -28,7 +28,7 @@ returns-in_err-all_here-clause-refused g c =
     rw (p.1, p.2) (inl (due-begun m c.args.columns.now (sym c.if-all_begin.ensures) ∙ ap (λ r. option_or r (first_of (some_written_out m c.args.columns.now ∷ []))) (sym c.in_err-all_here.ensures)))
 
 pub all_writable-requires-clause-begun : goal.all_writable-requires-clause-begun
-all_writable-requires-clause-begun g c κs within = none-begin (number_lists g.S.FarRead.content c.args.objects.now) c.args.columns.now c.requires.are c.known_shapes.ensures (sym c.if-all_begin.ensures)
+all_writable-requires-clause-begun g c κs within = none-begin (number_lists g.S.FarTickets.content c.args.objects.now) c.args.columns.now c.requires.are c.known_shapes.ensures (sym c.if-all_begin.ensures)
 
 pub returns-in_err-all_writable-clause-refused : goal.returns-in_err-all_writable-clause-refused
 returns-in_err-all_writable-clause-refused g c =
@@ -37,7 +37,7 @@ returns-in_err-all_writable-clause-refused g c =
     rw (p.1, p.2) (inl (due-begun m c.args.columns.now (sym c.if-all_begin.ensures) ∙ ap (λ r. option_or r (first_of (some_written_out m c.args.columns.now ∷ []))) (sym c.in_ok-all_here.ensures) ∙ sym c.in_err-all_writable.ensures.refused))
 
 pub fill_places-requires-clause-begun : goal.fill_places-requires-clause-begun
-fill_places-requires-clause-begun g c κs within = none-begin (number_lists g.S.FarRead.content c.args.objects.now) c.args.columns.now c.requires.are c.known_shapes.ensures (sym c.if-all_begin.ensures)
+fill_places-requires-clause-begun g c κs within = none-begin (number_lists g.S.FarTickets.content c.args.objects.now) c.args.columns.now c.requires.are c.known_shapes.ensures (sym c.if-all_begin.ensures)
 
 pub returns-clause-are : goal.returns-clause-are
 returns-clause-are g c = record {

@@ -9,8 +9,8 @@ pub returns-clause-objects : goal.returns-clause-objects
 returns-clause-objects g c =
     let m = c.args.objects.now in
     let column = c.args.self.now in
-    few-objects (lists_of g.S.FarRead.content m) column (length m.entries) c.requires
-    (λ k below. in-use _ g.S.FarRead.content _ m c.number-number.ensures.tracked _ _ (group-list (lists_of g.S.FarRead.content m) column c.requires k below))
+    few-objects (lists_of g.S.FarTickets.content m) column (length m.entries) c.requires
+    (λ k below. in-use _ g.S.FarTickets.content _ m c.number-number.ensures.tracked _ _ (group-list (lists_of g.S.FarTickets.content m) column c.requires k below))
 
 pub returns-clause-fresh : goal.returns-clause-fresh
-returns-clause-fresh g c = no-list _ g.S.FarRead.content _ c.args.objects.now c.number-number.ensures.tracked (length c.args.objects.now.entries) (omega arith)
+returns-clause-fresh g c = no-list _ g.S.FarTickets.content _ c.args.objects.now c.number-number.ensures.tracked (length c.args.objects.now.entries) (omega arith)

@@ -10,7 +10,7 @@ use Rattle.far_columns.proofs.text_column.TextColumn.push.Goals as goal
 
 pub returns-then-begins_group-clause-moved : goal.returns-then-begins_group-clause-moved
 returns-then-begins_group-clause-moved g c =
-    let content = g.S.FarRead.content in
+    let content = g.S.FarTickets.content in
     let m = c.args.objects.now in
     let old : Lists = lists_of content m in
     let column = c.args.self.now in
@@ -23,7 +23,7 @@ returns-then-begins_group-clause-moved g c =
 
 pub returns-then-begins_group-clause-is : goal.returns-then-begins_group-clause-is
 returns-then-begins_group-clause-is g c =
-    let content = g.S.FarRead.content in
+    let content = g.S.FarTickets.content in
     let m = c.args.objects.now in
     let old : Lists = lists_of content m in
     let column = c.args.self.now in
@@ -42,7 +42,7 @@ returns-then-begins_group-clause-is g c =
 
 pub returns-then-begins_group-clause-texts : goal.returns-then-begins_group-clause-texts
 returns-then-begins_group-clause-texts g c =
-    let content = g.S.FarRead.content in
+    let content = g.S.FarTickets.content in
     let m = c.args.objects.now in
     let old : Lists = lists_of content m in
     let column = c.args.self.now in
@@ -59,7 +59,7 @@ returns-then-begins_group-clause-texts g c =
 
 pub returns-then-begins_group-clause-others : goal.returns-then-begins_group-clause-others
 returns-then-begins_group-clause-others g c =
-    let content = g.S.FarRead.content in
+    let content = g.S.FarTickets.content in
     let m = c.args.objects.now in
     let old : Lists = lists_of content m in
     let column = c.args.self.now in
@@ -77,12 +77,12 @@ returns-then-begins_group-clause-others g c =
 pub returns-then-begins_group-clause-apart : goal.returns-then-begins_group-clause-apart
 returns-then-begins_group-clause-apart g c =
     by-outcome c.begin_group.result c.begin_group.ensures.pushed c.begin_group.ensures.kept
-    (λ now. λ d is apart. subst (λ w. AreApart w d) (sym now) (pushed-apart (lists_of g.S.FarRead.content c.args.objects.now) c.args.self.now d (length c.args.objects.now.entries) c.known_before_push.ensures.fresh is apart))
+    (λ now. λ d is apart. subst (λ w. AreApart w d) (sym now) (pushed-apart (lists_of g.S.FarTickets.content c.args.objects.now) c.args.self.now d (length c.args.objects.now.entries) c.known_before_push.ensures.fresh is apart))
     (λ kept. λ d is apart. subst (λ w. AreApart w d) (sym kept) apart)
 
 pub returns-clause-moved : goal.returns-clause-moved
 returns-clause-moved g c =
-    let content = g.S.FarRead.content in
+    let content = g.S.FarTickets.content in
     let m = c.args.objects.now in
     let old : Lists = lists_of content m in
     let column = c.args.self.now in
@@ -95,7 +95,7 @@ returns-clause-moved g c =
 
 pub returns-clause-is : goal.returns-clause-is
 returns-clause-is g c =
-    let content = g.S.FarRead.content in
+    let content = g.S.FarTickets.content in
     let m = c.args.objects.now in
     let old : Lists = lists_of content m in
     let column = c.args.self.now in
@@ -112,7 +112,7 @@ returns-clause-is g c =
 
 pub returns-clause-texts : goal.returns-clause-texts
 returns-clause-texts g c =
-    let content = g.S.FarRead.content in
+    let content = g.S.FarTickets.content in
     let m = c.args.objects.now in
     let old : Lists = lists_of content m in
     let column = c.args.self.now in
@@ -127,7 +127,7 @@ returns-clause-texts g c =
 
 pub returns-clause-others : goal.returns-clause-others
 returns-clause-others g c =
-    let content = g.S.FarRead.content in
+    let content = g.S.FarTickets.content in
     let m = c.args.objects.now in
     let old : Lists = lists_of content m in
     let column = c.args.self.now in
@@ -143,5 +143,5 @@ returns-clause-others g c =
 pub returns-clause-apart : goal.returns-clause-apart
 returns-clause-apart g c =
     by-outcome c.extend_group.result c.extend_group.ensures.pushed c.extend_group.ensures.kept
-    (λ now. λ d is apart. subst (λ w. AreApart w d) (sym now) (pushed-apart (lists_of g.S.FarRead.content c.args.objects.now) c.args.self.now d (length c.args.objects.now.entries) c.known_before_push.ensures.fresh is apart))
+    (λ now. λ d is apart. subst (λ w. AreApart w d) (sym now) (pushed-apart (lists_of g.S.FarTickets.content c.args.objects.now) c.args.self.now d (length c.args.objects.now.entries) c.known_before_push.ensures.fresh is apart))
     (λ kept. λ d is apart. subst (λ w. AreApart w d) (sym kept) apart)

@@ -8,7 +8,7 @@ use Rattle.far_columns.proofs.text_column.TextColumn.set.Goals as goal
 
 pub returns-clause-is : goal.returns-clause-is
 returns-clause-is g c =
-    let content = g.S.FarRead.content in
+    let content = g.S.FarTickets.content in
     let old : Lists = lists_of content c.args.objects.now in
     let new : Lists = lists_of content c.replace.new.self in
     let column = c.args.self.now in
@@ -25,7 +25,7 @@ returns-clause-is g c =
 
 pub returns-clause-others : goal.returns-clause-others
 returns-clause-others g c =
-    let content = g.S.FarRead.content in
+    let content = g.S.FarTickets.content in
     let old : Lists = lists_of content c.args.objects.now in
     let new : Lists = lists_of content c.replace.new.self in
     let column = c.args.self.now in
@@ -41,7 +41,7 @@ returns-clause-others g c =
 
 pub returns-clause-texts : goal.returns-clause-texts
 returns-clause-texts g c =
-    let content = g.S.FarRead.content in
+    let content = g.S.FarTickets.content in
     let old : Lists = lists_of content c.args.objects.now in
     let new : Lists = lists_of content c.replace.new.self in
     let column = c.args.self.now in

@@ -24,12 +24,12 @@ new-requires-after_bounds g c κs outlives =
       here = λ p behind before. elim c.if-from-to-2.branch [
         | then-from-to-2+in_ok-all_here w ↦
             let none = subst (λ t. None ≡ first_absent m (slice_range column.objects (from / t.size) ((to - 1) / t.size + 1))) c.self.view_is w.in_ok-all_here.ensures in
-            part-free m g.S.FarRead.content column has from to w.if-from-to-2.true within none p behind (omega (arith, before, long))
+            part-free m g.S.FarTickets.content column has from to w.if-from-to-2.true within none p behind (omega (arith, before, long))
         | else-from-to-2 w ↦ absurd (omega (arith, behind, before, long, w.if-from-to-2.false))
       ];
     }
 
 pub returns-clause-lent : goal.returns-clause-lent
 returns-clause-lent g c =
-    let texts = texts_in (lists_of g.S.FarRead.content c.args.objects.now) c.args.self.now in
+    let texts = texts_in (lists_of g.S.FarTickets.content c.args.objects.now) c.args.self.now in
     c.new.ensures ∙ ap (zip (drop c.args.from texts)) c.flags.ensures ∙ zip-part texts c.args.alive.now c.args.from c.args.to

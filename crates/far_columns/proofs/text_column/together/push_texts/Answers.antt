@@ -23,7 +23,7 @@ use Rattle.far_columns.proofs.text_column.together.push_texts.Goals as goal
 pub next_forms-requires-clause-few : goal.next_forms-requires-clause-few
 next_forms-requires-clause-few g c κs within =
     let columns = c.args.columns.now in
-    let old : Lists = lists_of g.S.FarRead.content c.args.objects.now in
+    let old : Lists = lists_of g.S.FarTickets.content c.args.objects.now in
     λ k d below begins. c.requires.few (list_all-from_AllPass begins_group columns (all-begin old columns c.requires.are c.known_together.ensures.groups k d below begins))
 
 pub begin_groups-requires-clause-begin : goal.begin_groups-requires-clause-begin
@@ -32,7 +32,7 @@ begin_groups-requires-clause-begin g c κs within =
 
 pub begin_groups-requires-clause-even : goal.begin_groups-requires-clause-even
 begin_groups-requires-clause-even g c κs within =
-    let content = g.S.FarRead.content in
+    let content = g.S.FarTickets.content in
     let m = c.args.objects.now in
     let old : Lists = lists_of content m in
     let columns = c.args.columns.now in
@@ -49,7 +49,7 @@ begin_groups-requires-clause-even g c κs within =
 
 pub begin_groups-requires-clause-some : goal.begin_groups-requires-clause-some
 begin_groups-requires-clause-some g c κs within =
-    let content = g.S.FarRead.content in
+    let content = g.S.FarTickets.content in
     let m = c.args.objects.now in
     let old : Lists = lists_of content m in
     let columns = c.args.columns.now in
@@ -66,7 +66,7 @@ begin_groups-requires-clause-some g c κs within =
 
 pub begin_groups-requires-clause-numbered : goal.begin_groups-requires-clause-numbered
 begin_groups-requires-clause-numbered g c κs within =
-    let content = g.S.FarRead.content in
+    let content = g.S.FarTickets.content in
     let m = c.args.objects.now in
     let old : Lists = lists_of content m in
     let columns = c.args.columns.now in
@@ -83,11 +83,11 @@ begin_groups-requires-clause-numbered g c κs within =
 
 pub extend_groups-requires-clause-begun : goal.extend_groups-requires-clause-begun
 extend_groups-requires-clause-begun g c κs within =
-    none-begin (lists_of g.S.FarRead.content c.args.objects.now) c.args.columns.now c.requires.are c.known_together.ensures.groups (sym c.all_begin.ensures ∙ c.if-all_begin.false)
+    none-begin (lists_of g.S.FarTickets.content c.args.objects.now) c.args.columns.now c.requires.are c.known_together.ensures.groups (sym c.all_begin.ensures ∙ c.if-all_begin.false)
 
 pub extend_groups-requires-clause-some : goal.extend_groups-requires-clause-some
 extend_groups-requires-clause-some g c κs within =
-    let content = g.S.FarRead.content in
+    let content = g.S.FarTickets.content in
     let m = c.args.objects.now in
     let old : Lists = lists_of content m in
     let columns = c.args.columns.now in
@@ -105,7 +105,7 @@ extend_groups-requires-clause-some g c κs within =
 
 pub extend_groups-requires-clause-within : goal.extend_groups-requires-clause-within
 extend_groups-requires-clause-within g c κs within =
-    let content = g.S.FarRead.content in
+    let content = g.S.FarTickets.content in
     let m = c.args.objects.now in
     let old : Lists = lists_of content m in
     let columns = c.args.columns.now in
@@ -123,7 +123,7 @@ extend_groups-requires-clause-within g c κs within =
 
 pub extend_groups-requires-clause-once : goal.extend_groups-requires-clause-once
 extend_groups-requires-clause-once g c κs within =
-    let content = g.S.FarRead.content in
+    let content = g.S.FarTickets.content in
     let m = c.args.objects.now in
     let old : Lists = lists_of content m in
     let columns = c.args.columns.now in
@@ -141,7 +141,7 @@ extend_groups-requires-clause-once g c κs within =
 
 pub returns-then-all_begin-clause-begun : goal.returns-then-all_begin-clause-begun
 returns-then-all_begin-clause-begun g c =
-    let content = g.S.FarRead.content in
+    let content = g.S.FarTickets.content in
     let m = c.args.objects.now in
     let old : Lists = lists_of content m in
     let columns = c.args.columns.now in
@@ -158,7 +158,7 @@ returns-then-all_begin-clause-begun g c =
 
 pub returns-then-all_begin-clause-replaced : goal.returns-then-all_begin-clause-replaced
 returns-then-all_begin-clause-replaced g c =
-    let content = g.S.FarRead.content in
+    let content = g.S.FarTickets.content in
     let m = c.args.objects.now in
     let old : Lists = lists_of content m in
     let columns = c.args.columns.now in
@@ -175,7 +175,7 @@ returns-then-all_begin-clause-replaced g c =
 
 pub returns-then-all_begin-clause-lists : goal.returns-then-all_begin-clause-lists
 returns-then-all_begin-clause-lists g c =
-    let content = g.S.FarRead.content in
+    let content = g.S.FarTickets.content in
     let m = c.args.objects.now in
     let old : Lists = lists_of content m in
     let columns = c.args.columns.now in
@@ -193,7 +193,7 @@ returns-then-all_begin-clause-lists g c =
 
 pub returns-then-all_begin-clause-are : goal.returns-then-all_begin-clause-are
 returns-then-all_begin-clause-are g c =
-    let content = g.S.FarRead.content in
+    let content = g.S.FarTickets.content in
     let m = c.args.objects.now in
     let old : Lists = lists_of content m in
     let columns = c.args.columns.now in
@@ -213,7 +213,7 @@ returns-then-all_begin-clause-are g c =
 
 pub returns-then-all_begin-clause-texts : goal.returns-then-all_begin-clause-texts
 returns-then-all_begin-clause-texts g c =
-    let content = g.S.FarRead.content in
+    let content = g.S.FarTickets.content in
     let m = c.args.objects.now in
     let old : Lists = lists_of content m in
     let columns = c.args.columns.now in
@@ -232,7 +232,7 @@ returns-then-all_begin-clause-texts g c =
 
 pub returns-then-all_begin-clause-others : goal.returns-then-all_begin-clause-others
 returns-then-all_begin-clause-others g c =
-    let content = g.S.FarRead.content in
+    let content = g.S.FarTickets.content in
     let m = c.args.objects.now in
     let old : Lists = lists_of content m in
     let columns = c.args.columns.now in
@@ -252,7 +252,7 @@ returns-then-all_begin-clause-others g c =
 
 pub returns-then-all_begin-clause-apart : goal.returns-then-all_begin-clause-apart
 returns-then-all_begin-clause-apart g c =
-    let old : Lists = lists_of g.S.FarRead.content c.args.objects.now in
+    let old : Lists = lists_of g.S.FarTickets.content c.args.objects.now in
     let n = length c.args.objects.now.entries in
     by-outcome c.begin_groups.result c.begin_groups.ensures.pushed c.begin_groups.ensures.kept
     (λ now d is apart. subst (All (λ x. AreApart x d)) (sym now) (stays-apart old n c.args.columns.now c.requires.are c.known_together.ensures.groups c.known_together.ensures.fresh d is apart))
@@ -260,7 +260,7 @@ returns-then-all_begin-clause-apart g c =
 
 pub returns-then-all_begin-clause-free : goal.returns-then-all_begin-clause-free
 returns-then-all_begin-clause-free g c =
-    let content = g.S.FarRead.content in
+    let content = g.S.FarTickets.content in
     let m = c.args.objects.now in
     let old : Lists = lists_of content m in
     let columns = c.args.columns.now in
@@ -277,7 +277,7 @@ returns-then-all_begin-clause-free g c =
 
 pub returns-then-all_begin-clause-refused : goal.returns-then-all_begin-clause-refused
 returns-then-all_begin-clause-refused g c =
-    let content = g.S.FarRead.content in
+    let content = g.S.FarTickets.content in
     let m = c.args.objects.now in
     let old : Lists = lists_of content m in
     let columns = c.args.columns.now in
@@ -295,7 +295,7 @@ returns-then-all_begin-clause-refused g c =
 
 pub returns-clause-begun : goal.returns-clause-begun
 returns-clause-begun g c =
-    let content = g.S.FarRead.content in
+    let content = g.S.FarTickets.content in
     let m = c.args.objects.now in
     let old : Lists = lists_of content m in
     let columns = c.args.columns.now in
@@ -313,7 +313,7 @@ returns-clause-begun g c =
 
 pub returns-clause-replaced : goal.returns-clause-replaced
 returns-clause-replaced g c =
-    let content = g.S.FarRead.content in
+    let content = g.S.FarTickets.content in
     let m = c.args.objects.now in
     let old : Lists = lists_of content m in
     let columns = c.args.columns.now in
@@ -331,7 +331,7 @@ returns-clause-replaced g c =
 
 pub returns-clause-lists : goal.returns-clause-lists
 returns-clause-lists g c =
-    let content = g.S.FarRead.content in
+    let content = g.S.FarTickets.content in
     let m = c.args.objects.now in
     let old : Lists = lists_of content m in
     let columns = c.args.columns.now in
@@ -350,7 +350,7 @@ returns-clause-lists g c =
 
 pub returns-clause-are : goal.returns-clause-are
 returns-clause-are g c =
-    let content = g.S.FarRead.content in
+    let content = g.S.FarTickets.content in
     let m = c.args.objects.now in
     let old : Lists = lists_of content m in
     let columns = c.args.columns.now in
@@ -371,7 +371,7 @@ returns-clause-are g c =
 
 pub returns-clause-texts : goal.returns-clause-texts
 returns-clause-texts g c =
-    let content = g.S.FarRead.content in
+    let content = g.S.FarTickets.content in
     let m = c.args.objects.now in
     let old : Lists = lists_of content m in
     let columns = c.args.columns.now in
@@ -391,7 +391,7 @@ returns-clause-texts g c =
 
 pub returns-clause-others : goal.returns-clause-others
 returns-clause-others g c =
-    let content = g.S.FarRead.content in
+    let content = g.S.FarTickets.content in
     let m = c.args.objects.now in
     let old : Lists = lists_of content m in
     let columns = c.args.columns.now in
@@ -412,7 +412,7 @@ returns-clause-others g c =
 
 pub returns-clause-apart : goal.returns-clause-apart
 returns-clause-apart g c =
-    let old : Lists = lists_of g.S.FarRead.content c.args.objects.now in
+    let old : Lists = lists_of g.S.FarTickets.content c.args.objects.now in
     let n = length c.args.objects.now.entries in
     by-outcome c.extend_groups.result c.extend_groups.ensures.pushed c.extend_groups.ensures.kept
     (λ now d is apart. subst (All (λ x. AreApart x d)) (sym (now n)) (stays-apart old n c.args.columns.now c.requires.are c.known_together.ensures.groups c.known_together.ensures.fresh d is apart))
@@ -420,7 +420,7 @@ returns-clause-apart g c =
 
 pub returns-clause-free : goal.returns-clause-free
 returns-clause-free g c =
-    let content = g.S.FarRead.content in
+    let content = g.S.FarTickets.content in
     let m = c.args.objects.now in
     let old : Lists = lists_of content m in
     let columns = c.args.columns.now in
@@ -440,7 +440,7 @@ returns-clause-free g c =
 
 pub returns-clause-refused : goal.returns-clause-refused
 returns-clause-refused g c =
-    let content = g.S.FarRead.content in
+    let content = g.S.FarTickets.content in
     let m = c.args.objects.now in
     let old : Lists = lists_of content m in
     let columns = c.args.columns.now in
@@ -461,7 +461,7 @@ returns-clause-refused g c =
 
 pub returns-in_err-may_make_forms-clause-refused : goal.returns-in_err-may_make_forms-clause-refused
 returns-in_err-may_make_forms-clause-refused g c =
-    let content = g.S.FarRead.content in
+    let content = g.S.FarTickets.content in
     let m = c.args.objects.now in
     let columns = c.args.columns.now in
     let texts = c.args.texts.now in

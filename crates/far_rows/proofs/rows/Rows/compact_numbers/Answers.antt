@@ -4,7 +4,7 @@ use Rattle.far_rows.proofs.Moved.{numbers-moved, number-cells}
 use Rattle.far_rows.proofs.rows.Rows.compact_numbers.Goals as goal
 
 pub invariant_of-self : goal.invariant_of-self
-invariant_of-self g c = numbers-moved g.S.FarRead.content c.self.invariant c.compact.new.self c.compact.ensures.lists (ap names_of c.compact.ensures.kept) (c.compact.ensures.clean c.self.invariant.clean_numbers)
+invariant_of-self g c = numbers-moved g.S.FarTickets.content c.self.invariant c.compact.new.self c.compact.ensures.lists (ap names_of c.compact.ensures.kept) (c.compact.ensures.clean c.self.invariant.clean_numbers)
 
 pub returns-clause-cells : goal.returns-clause-cells
-returns-clause-cells g c = number-cells g.S.FarRead.content c.self.view_is c.compact.new.self c.compact.ensures.lists
+returns-clause-cells g c = number-cells g.S.FarTickets.content c.self.view_is c.compact.new.self c.compact.ensures.lists

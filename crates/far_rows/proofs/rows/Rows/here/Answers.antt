@@ -38,7 +38,7 @@ returns-in_err-is_here-clause-names g c =
     let at = c.loop-slot.slot-index in
     let s = get_or slots at (slot.Number 0) in
     let due = c.loop-slot.invariant ∙ next-due (absent_at c.args.self.now c.args.group) slots at s c.in_err-is_here.field-0.0 c.loop-slot-test.true (get_or_default slots at (slot.Number 0) s c.loop-slot-test.true) c.in_err-is_here.ensures in
-    rw (p.1, p.2) (sym due ∙ absents-named g.S.FarRead.content c.args.self.now c.len-len.ensures.rows c.args.group)
+    rw (p.1, p.2) (sym due ∙ absents-named g.S.FarTickets.content c.args.self.now c.len-len.ensures.rows c.args.group)
 
 pub returns-clause-names : goal.returns-clause-names
 returns-clause-names g c =
@@ -46,4 +46,4 @@ returns-clause-names g c =
     let none : drop c.loop-slot.slot-index slots ≡ [] = drop_all c.loop-slot.slot-index slots c.loop-slot-test.false in
     sym (ap (λ (ss : List Slot). first_of (map (absent_at c.args.self.now c.args.group) ss)) none)
     ∙ sym c.loop-slot.invariant
-    ∙ absents-named g.S.FarRead.content c.args.self.now c.len-len.ensures.rows c.args.group
+    ∙ absents-named g.S.FarTickets.content c.args.self.now c.len-len.ensures.rows c.args.group

@@ -19,11 +19,11 @@ returns-clause-cells g c =
     let slots = c.deref.ensures.value ∙ ap (λ (r : Rows g.row.S-Ticket.Denot). r.slots) c.self.view_is in
     let read = slice_get_read c.deref.result.now (length c.deref.result.now) c.args.column c.in-Some.slot.now refl (ltb-true _ _ (sym c.in-Some.ensures.lookup.0)) c.in-Some.ensures.lookup.1 in
     let lies = sym (ap (λ (ss : List Slot). slice_get ss c.args.column) slots) ∙ read ∙ ap Some c.in-Number.is in
-    let numbers = numbers_of g.S.FarRead.content c.args.self.now (slot.Number c.in-Number.number) in
+    let numbers = numbers_of g.S.FarTickets.content c.args.self.now (slot.Number c.in-Number.number) in
     IfOk-weaker c.ints_at.result
     (λ (lents : List (Numbers × List Bool)). flat_map (λ lent. lent.0) lents ≡ slice_range numbers c.args.from c.args.to)
-    (λ lents. option_map (λ (cells : List Cell). slice_range cells c.args.from c.args.to) (slice_get (cells_of g.S.FarRead.content c.args.self.now) c.args.column) ≡ Some (map int_cell (flat_map (λ lent. lent.0) lents)))
-    (λ lents is. part-cells g.S.FarRead.content c.args.self.now c.args.column c.in-Number.number c.args.from c.args.to lies (flat_map (λ lent. lent.0) lents) is)
+    (λ lents. option_map (λ (cells : List Cell). slice_range cells c.args.from c.args.to) (slice_get (cells_of g.S.FarTickets.content c.args.self.now) c.args.column) ≡ Some (map int_cell (flat_map (λ lent. lent.0) lents)))
+    (λ lents is. part-cells g.S.FarTickets.content c.args.self.now c.args.column c.in-Number.number c.args.from c.args.to lies (flat_map (λ lent. lent.0) lents) is)
     c.ints_at.ensures.joined
 
 pub returns-clause-refused : goal.returns-clause-refused
@@ -31,4 +31,4 @@ returns-clause-refused g c =
     let slots = c.deref.ensures.value ∙ ap (λ (r : Rows g.row.S-Ticket.Denot). r.slots) c.self.view_is in
     let read = slice_get_read c.deref.result.now (length c.deref.result.now) c.args.column c.in-Some.slot.now refl (ltb-true _ _ (sym c.in-Some.ensures.lookup.0)) c.in-Some.ensures.lookup.1 in
     let lies = sym (ap (λ (ss : List Slot). slice_get ss c.args.column) slots) ∙ read ∙ ap Some c.in-Number.is in
-    c.ints_at.ensures.refused ∙ sym (part-due g.S.FarRead.content c.args.self.now c.args.column c.in-Number.number c.args.from c.args.to lies)
+    c.ints_at.ensures.refused ∙ sym (part-due g.S.FarTickets.content c.args.self.now c.args.column c.in-Number.number c.args.from c.args.to lies)

@@ -15,23 +15,23 @@ use Rattle.far_rows.proofs.rows.Rows.ints_at.Goals as goal
 pub returns-clause-lent : goal.returns-clause-lent
 returns-clause-lent g c =
     let column = subst (λ (r : Rows g.row.S-Ticket.Denot). c.args.number < length r.numbers) (sym c.self.view_is) c.requires in
-    let part = λ (r : Rows g.row.S-Ticket.Denot). with_flags (pieces_of (numbers_of g.S.FarRead.content r (slot.Number c.args.number)) r.size c.args.from c.args.to) (slice_range r.alive c.args.from c.args.to) in
-    let numbers = numbers_in g.S.FarRead.content c.self.inside.number_objects c.index-column.result.now in
+    let part = λ (r : Rows g.row.S-Ticket.Denot). with_flags (pieces_of (numbers_of g.S.FarTickets.content r (slot.Number c.args.number)) r.size c.args.from c.args.to) (slice_range r.alive c.args.from c.args.to) in
+    let numbers = numbers_in g.S.FarTickets.content c.self.inside.number_objects c.index-column.result.now in
     let flags = slice_range c.self.inside.alive c.args.from c.args.to in
-    let same = pieces-read g.S.FarRead.content _ c.self.invariant c.args.number c.args.from c.args.to c.index-column.result.now column c.index-column.ensures flags ∙ ap part c.self.view_is in
+    let same = pieces-read g.S.FarTickets.content _ c.self.invariant c.args.number c.args.from c.args.to c.index-column.result.now column c.index-column.ensures flags ∙ ap part c.self.view_is in
     IfOk-weaker c.lent.result (λ (lents : List (Numbers × List Bool)). lents ≡ with_flags (pieces_of numbers c.index-column.result.now.size c.args.from c.args.to) flags) (λ lents. lents ≡ part c.args.self.now) (λ lents is. is ∙ same) c.lent.ensures.lent
 
 pub returns-clause-joined : goal.returns-clause-joined
 returns-clause-joined g c =
     let column = subst (λ (r : Rows g.row.S-Ticket.Denot). c.args.number < length r.numbers) (sym c.self.view_is) c.requires in
-    let part = λ (r : Rows g.row.S-Ticket.Denot). slice_range (numbers_of g.S.FarRead.content r (slot.Number c.args.number)) c.args.from c.args.to in
-    let numbers = numbers_in g.S.FarRead.content c.self.inside.number_objects c.index-column.result.now in
-    let same = range-read g.S.FarRead.content _ c.self.invariant c.args.number c.args.from c.args.to c.index-column.result.now column c.index-column.ensures ∙ ap part c.self.view_is in
+    let part = λ (r : Rows g.row.S-Ticket.Denot). slice_range (numbers_of g.S.FarTickets.content r (slot.Number c.args.number)) c.args.from c.args.to in
+    let numbers = numbers_in g.S.FarTickets.content c.self.inside.number_objects c.index-column.result.now in
+    let same = range-read g.S.FarTickets.content _ c.self.invariant c.args.number c.args.from c.args.to c.index-column.result.now column c.index-column.ensures ∙ ap part c.self.view_is in
     IfOk-weaker c.lent.result (λ (lents : List (Numbers × List Bool)). flat_map (λ lent. lent.0) lents ≡ slice_range numbers c.args.from c.args.to) (λ lents. flat_map (λ lent. lent.0) lents ≡ part c.args.self.now) (λ lents is. is ∙ same) c.lent.ensures.joined
 
 pub returns-clause-refused : goal.returns-clause-refused
 returns-clause-refused g c =
     let column = subst (λ (r : Rows g.row.S-Ticket.Denot). c.args.number < length r.numbers) (sym c.self.view_is) c.requires in
     c.lent.ensures.refused
-    ∙ part-refused g.S.FarRead.content _ c.self.invariant c.args.number c.args.from c.args.to c.index-column.result.now column c.index-column.ensures
+    ∙ part-refused g.S.FarTickets.content _ c.self.invariant c.args.number c.args.from c.args.to c.index-column.result.now column c.index-column.ensures
     ∙ ap (λ (r : Rows g.row.S-Ticket.Denot). first_of (no_range r c.args.from c.args.to ∷ map (λ h. absent_at r h (slot.Number c.args.number)) (touched r.size c.args.from c.args.to))) c.self.view_is

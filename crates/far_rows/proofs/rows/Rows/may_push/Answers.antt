@@ -12,13 +12,13 @@ returns-in_err-here g c =
     let r = c.args.self.now in
     let values = c.args.row.now in
     let p = err_from_is_err_and c.from_residual.result c.from_residual.ensures.1 in
-    let later = option_or (push_texts_refusal g.S.FarRead.content r.text_objects r.texts values.texts) (push_numbers_refusal r.number_objects r.numbers) in
+    let later = option_or (push_texts_refusal g.S.FarTickets.content r.text_objects r.texts values.texts) (push_numbers_refusal r.number_objects r.numbers) in
     let due : Some c.in_err-here.field-0.0 ≡ first_of (absents r (length r.alive / r.size)) = c.in_err-here.ensures.refused ∙ (λ k. first_of (absents r (c.len-len.ensures.len k / (c.self.view_is k).size))) in
     rw (p.1, p.2) (ap (λ o. option_or o later) due)
 
 pub returns-in_err-may_push_texts : goal.returns-in_err-may_push_texts
 returns-in_err-may_push_texts g c =
-    let content = g.S.FarRead.content in
+    let content = g.S.FarTickets.content in
     let r = c.args.self.now in
     let values = c.args.row.now in
     let p = err_from_is_err_and c.from_residual-in_err-may_push_texts.result c.from_residual-in_err-may_push_texts.ensures.1 in
@@ -33,7 +33,7 @@ returns-in_err-may_push_texts g c =
 
 pub returns : goal.returns
 returns g c =
-    let content = g.S.FarRead.content in
+    let content = g.S.FarTickets.content in
     let r = c.args.self.now in
     let values = c.args.row.now in
     let texts = push_texts_refusal content r.text_objects r.texts values.texts in

@@ -20,13 +20,13 @@ pub returns-in_err-here : goal.returns-in_err-here
 returns-in_err-here g c =
     let r = c.args.self.now in
     let p = err_from_is_err_and c.from_residual.result c.from_residual.ensures.1 in
-    let later = option_and_then (λ s. value_refusal g.S.FarRead.content r c.args.place s c.args.value.now) (slice_get r.slots c.args.column) in
+    let later = option_and_then (λ s. value_refusal g.S.FarTickets.content r c.args.place s c.args.value.now) (slice_get r.slots c.args.column) in
     let due : Some c.in_err-here.field-0.0 ≡ first_of (absents r (c.args.place / r.size)) = c.in_err-here.ensures.refused ∙ ap (λ rows. first_of (absents r (c.args.place / rows.size))) c.self.view_is in
     rw (p.1, p.2) (ap (λ o. option_or o later) due)
 
 pub returns-in-Number-Number : goal.returns-in-Number-Number
 returns-in-Number-Number g c =
-    let content = g.S.FarRead.content in
+    let content = g.S.FarTickets.content in
     let r = c.args.self.now in
     let s : Slot = slot.Number c.in-Number-Number.i in
     let v : Vector (Option ℤ) = c.index-in-Number-Number.result.now in
@@ -53,11 +53,11 @@ may_set-requires-in-Text-Text-after_bounds g c κs bounds =
     let at : slice_get r.slots c.args.column ≡ Some s = slice_get-get_or r.slots c.args.column c.index.result.now below ∙ ap Some (sym read ∙ c.in-Text-Text.is-0) in
     let inside : IsWithin (length r.numbers) (length r.texts) s = subst (IsWithin (length r.numbers) (length r.texts)) (get_or_from_slice_get r.slots c.args.column s s at) (c.len-len.ensures.rows.slots.within c.args.column s below) in
     let within = subst (λ rows. c.in-Text-Text.i < length rows.texts) (sym c.self.view_is) inside in
-    subst (IsTextColumn (lists_of g.S.FarRead.content c.self.inside.text_objects)) (sym c.index-in-Text-Text.ensures) (c.self.invariant.texts.beside.each c.in-Text-Text.i c.index-in-Text-Text.result.now within)
+    subst (IsTextColumn (lists_of g.S.FarTickets.content c.self.inside.text_objects)) (sym c.index-in-Text-Text.ensures) (c.self.invariant.texts.beside.each c.in-Text-Text.i c.index-in-Text-Text.result.now within)
 
 pub returns-in-Text-Text : goal.returns-in-Text-Text
 returns-in-Text-Text g c =
-    let content = g.S.FarRead.content in
+    let content = g.S.FarTickets.content in
     let r = c.args.self.now in
     let s : Slot = slot.Text c.in-Text-Text.i in
     let v : Texts = c.index-in-Text-Text.result.now in

@@ -8,7 +8,7 @@ pub invariant_of-result : goal.invariant_of-result
 invariant_of-result g c =
     let limits = c.args.limits.now in
     let rows : Rows g.row.S-Ticket.Denot = empty_rows c.args.schema.now limits c.args.number in
-    subst (AreRows g.S.FarRead.content) {x = rows} (sym (λ i. record {
+    subst (AreRows g.S.FarTickets.content) {x = rows} (sym (λ i. record {
       slots = c.in_ok-columns.ensures.slots i;
       size = limits.group;
       numbers = c.in_ok-columns.ensures.numbers i;
@@ -16,4 +16,4 @@ invariant_of-result g c =
       number_objects = c.in_ok-number_objects.ensures.empty i;
       text_objects = c.in_ok-text_objects.ensures.empty i;
       alive = c.new-3.ensures i;
-    })) (rows-are g.S.FarRead.content c.args.schema.now limits c.args.number c.columns_of.ensures.schema c.requires)
+    })) (rows-are g.S.FarTickets.content c.args.schema.now limits c.args.number c.columns_of.ensures.schema c.requires)

@@ -11,5 +11,5 @@ returns-clause-refused g c =
     let column = subst (λ (r : Rows g.row.S-Ticket.Denot). c.args.number < length r.numbers) (sym c.self.view_is) c.requires.column in
     let place = subst (λ (r : Rows g.row.S-Ticket.Denot). c.args.place < length r.alive) (sym c.self.view_is) c.requires.place in
     c.get.ensures.refused
-    ∙ number-refused g.S.FarRead.content _ c.self.invariant c.args.number c.args.place c.index-column.result.now column c.index-column.ensures place c.len-len.ensures.shaped
+    ∙ number-refused g.S.FarTickets.content _ c.self.invariant c.args.number c.args.place c.index-column.result.now column c.index-column.ensures place c.len-len.ensures.shaped
     ∙ ap (λ (r : Rows g.row.S-Ticket.Denot). first_of (absent_at r (c.args.place / r.size) (slot.Number c.args.number) ∷ [])) c.self.view_is

@@ -66,7 +66,7 @@ push_values-pushed-requires-clause-texts_few g c κs within begin =
 
 pub push_values-pushed-requires-clause-texts_free : goal.push_values-pushed-requires-clause-texts_free
 push_values-pushed-requires-clause-texts_free g c κs within =
-    let content = g.S.FarRead.content in
+    let content = g.S.FarTickets.content in
     let r = c.args.self.now in
     let values = c.args.row.now in
     let texts_due = push_texts_refusal content r.text_objects r.texts values.texts in
@@ -79,7 +79,7 @@ push_values-pushed-requires-clause-texts_free g c κs within =
 
 pub invariant_of-self-in_default : goal.invariant_of-self-in_default
 invariant_of-self-in_default g c =
-    let content = g.S.FarRead.content in
+    let content = g.S.FarTickets.content in
     let size = c.self.inside.size in
     let alive = c.self.inside.alive in
     let len = length alive in
@@ -155,7 +155,7 @@ invariant_of-self-in_default g c =
 
 pub returns-clause-cells : goal.returns-clause-cells
 returns-clause-cells g c =
-    let content = g.S.FarRead.content in
+    let content = g.S.FarTickets.content in
     let slots = c.self.inside.slots.items in
     let values = c.args.row.now in
     let inv = c.self.invariant in

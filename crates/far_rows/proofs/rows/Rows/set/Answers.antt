@@ -15,7 +15,7 @@ use Rattle.far_rows.proofs.rows.Rows.set.Goals as goal
 
 pub returns-in-Number-Number-clause-moved : goal.returns-in-Number-Number-clause-moved
 returns-in-Number-Number-clause-moved g c =
-    let content = g.S.FarRead.content in
+    let content = g.S.FarTickets.content in
     let r = c.args.self.now in
     let s : Slot = slot.Number c.in-Number-Number.i in
     let slots : List Slot = r.slots in
@@ -27,7 +27,7 @@ returns-in-Number-Number-clause-moved g c =
 
 pub returns-in-Number-Number-clause-cells : goal.returns-in-Number-Number-clause-cells
 returns-in-Number-Number-clause-cells g c =
-    let content = g.S.FarRead.content in
+    let content = g.S.FarTickets.content in
     let r = c.args.self.now in
     let i = c.in-Number-Number.i in
     let s : Slot = slot.Number i in
@@ -47,7 +47,7 @@ returns-in-Number-Number-clause-cells g c =
 
 pub returns-in-Text-Text-clause-moved : goal.returns-in-Text-Text-clause-moved
 returns-in-Text-Text-clause-moved g c =
-    let content = g.S.FarRead.content in
+    let content = g.S.FarTickets.content in
     let r = c.args.self.now in
     let s : Slot = slot.Text c.in-Text-Text.i in
     let slots : List Slot = r.slots in
@@ -60,7 +60,7 @@ returns-in-Text-Text-clause-moved g c =
 
 pub returns-in-Text-Text-clause-cells : goal.returns-in-Text-Text-clause-cells
 returns-in-Text-Text-clause-cells g c =
-    let content = g.S.FarRead.content in
+    let content = g.S.FarTickets.content in
     let r = c.args.self.now in
     let i = c.in-Text-Text.i in
     let s : Slot = slot.Text i in

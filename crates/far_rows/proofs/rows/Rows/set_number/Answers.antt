@@ -18,7 +18,7 @@ use Rattle.far_rows.proofs.rows.Rows.set_number.Goals as goal
 
 pub invariant_of-self : goal.invariant_of-self
 invariant_of-self g c =
-    let content = g.S.FarRead.content in
+    let content = g.S.FarTickets.content in
     let columns : NumberColumns = c.self.inside.numbers.items in
     let v : Vector (Option ℤ) = c.index_mut.result.now in
     let m = c.self.inside.number_objects in
@@ -80,11 +80,11 @@ returns-clause-moved g c =
       text_objects = c.self.inside.text_objects;
       alive = c.self.inside.alive;
     })
-    ∙ ap (λ r. set_in g.S.FarRead.content r place (slot.Number c.args.i) (new.Number c.args.number)) c.self.view_is
+    ∙ ap (λ r. set_in g.S.FarTickets.content r place (slot.Number c.args.i) (new.Number c.args.number)) c.self.view_is
 
 pub returns-clause-numbers : goal.returns-clause-numbers
 returns-clause-numbers g c =
-    let content = g.S.FarRead.content in
+    let content = g.S.FarTickets.content in
     let columns : NumberColumns = c.self.inside.numbers.items in
     let v : Vector (Option ℤ) = c.index_mut.result.now in
     let m = c.self.inside.number_objects in
@@ -108,4 +108,4 @@ returns-clause-numbers g c =
     ∙ ap (λ r. slice_set (all_numbers content r) i (slice_set (get_or (all_numbers content r) i []) place number)) c.self.view_is
 
 pub returns-clause-store : goal.returns-clause-store
-returns-clause-store g c = λ name here. c.in-Ok.ensures.store name (subst (λ r. AreHere g.S.FarRead.is_of name r.number_objects) (sym c.self.view_is) here)
+returns-clause-store g c = λ name here. c.in-Ok.ensures.store name (subst (λ r. AreHere g.S.FarTickets.is_of name r.number_objects) (sym c.self.view_is) here)

@@ -22,11 +22,11 @@ pub set-requires-after_bounds : goal.set-requires-after_bounds
 set-requires-after_bounds g c κs within =
     let columns : List Texts = c.self.inside.texts.items in
     let below = subst (λ r. c.args.i < length r.texts) (sym c.self.view_is) c.requires.within in
-    subst (IsTextColumn (lists_of g.S.FarRead.content c.self.inside.text_objects)) (sym c.index.ensures) (c.self.invariant.texts.beside.each c.args.i c.index.result.now below)
+    subst (IsTextColumn (lists_of g.S.FarTickets.content c.self.inside.text_objects)) (sym c.index.ensures) (c.self.invariant.texts.beside.each c.args.i c.index.result.now below)
 
 pub invariant_of-self : goal.invariant_of-self
 invariant_of-self g c =
-    let content = g.S.FarRead.content in
+    let content = g.S.FarTickets.content in
     let columns : List Texts = c.self.inside.texts.items in
     let v : Texts = c.index.result.now in
     let m = c.self.inside.text_objects in
@@ -57,7 +57,7 @@ invariant_of-self g c =
 
 pub returns-clause-moved : goal.returns-clause-moved
 returns-clause-moved g c =
-    let content = g.S.FarRead.content in
+    let content = g.S.FarTickets.content in
     let columns : List Texts = c.self.inside.texts.items in
     let v : Texts = c.index.result.now in
     let m = c.self.inside.text_objects in
@@ -79,7 +79,7 @@ returns-clause-moved g c =
 
 pub returns-clause-texts : goal.returns-clause-texts
 returns-clause-texts g c =
-    let content = g.S.FarRead.content in
+    let content = g.S.FarTickets.content in
     let columns : List Texts = c.self.inside.texts.items in
     let v : Texts = c.index.result.now in
     let m = c.self.inside.text_objects in
@@ -98,11 +98,11 @@ returns-clause-texts g c =
     ∙ ap (λ r. slice_set (all_texts content r) i (slice_set (get_or (all_texts content r) i []) c.args.place text)) c.self.view_is)
 
 pub returns-clause-store : goal.returns-clause-store
-returns-clause-store g c = λ name here. c.set.ensures.store name (subst (λ r. AreHere g.S.FarRead.is_of name r.text_objects) (sym c.self.view_is) here)
+returns-clause-store g c = λ name here. c.set.ensures.store name (subst (λ r. AreHere g.S.FarTickets.is_of name r.text_objects) (sym c.self.view_is) here)
 
 pub returns-clause-memory : goal.returns-clause-memory
 returns-clause-memory g c =
-    let content = g.S.FarRead.content in
+    let content = g.S.FarTickets.content in
     let columns : List Texts = c.self.inside.texts.items in
     let v : Texts = c.index.result.now in
     let m = c.self.inside.text_objects in

@@ -16,15 +16,15 @@ use Rattle.far_rows.proofs.rows.Rows.text_at.Goals as goal
 pub text-requires-after_bounds : goal.text-requires-after_bounds
 text-requires-after_bounds g c κs within =
     let column = subst (λ (r : Rows g.row.S-Ticket.Denot). c.args.text < length r.texts) (sym c.self.view_is) c.requires.column in
-    text-column g.S.FarRead.content _ c.self.invariant c.args.text c.index-column.result.now column c.index-column.ensures
+    text-column g.S.FarTickets.content _ c.self.invariant c.args.text c.index-column.result.now column c.index-column.ensures
 
 pub returns-clause-text : goal.returns-clause-text
 returns-clause-text g c =
     let column = subst (λ (r : Rows g.row.S-Ticket.Denot). c.args.text < length r.texts) (sym c.self.view_is) c.requires.column in
-    let texts = texts_in (lists_of g.S.FarRead.content c.self.inside.text_objects) c.index-column.result.now in
-    let cells = λ (r : Rows g.row.S-Ticket.Denot). column_in (all_numbers g.S.FarRead.content r) (all_texts g.S.FarRead.content r) (slot.Text c.args.text) in
+    let texts = texts_in (lists_of g.S.FarTickets.content c.self.inside.text_objects) c.index-column.result.now in
+    let cells = λ (r : Rows g.row.S-Ticket.Denot). column_in (all_numbers g.S.FarTickets.content r) (all_texts g.S.FarTickets.content r) (slot.Text c.args.text) in
     IfOk-weaker c.text.result (λ value. slice_get texts c.args.place ≡ Some (option_copied value)) (λ value. get_or (cells c.args.self.now) c.args.place cell.Missing ≡ text_cell (option_copied value))
-    (λ value is. sym (ap (λ (r : Rows g.row.S-Ticket.Denot). get_or (cells r) c.args.place cell.Missing) c.self.view_is) ∙ cell-of-text g.S.FarRead.content _ c.self.invariant c.args.text c.args.place c.index-column.result.now (option_copied value) column c.index-column.ensures is)
+    (λ value is. sym (ap (λ (r : Rows g.row.S-Ticket.Denot). get_or (cells r) c.args.place cell.Missing) c.self.view_is) ∙ cell-of-text g.S.FarTickets.content _ c.self.invariant c.args.text c.args.place c.index-column.result.now (option_copied value) column c.index-column.ensures is)
     c.text.ensures.text
 
 pub returns-clause-refused : goal.returns-clause-refused
@@ -32,5 +32,5 @@ returns-clause-refused g c =
     let column = subst (λ (r : Rows g.row.S-Ticket.Denot). c.args.text < length r.texts) (sym c.self.view_is) c.requires.column in
     let place = subst (λ (r : Rows g.row.S-Ticket.Denot). c.args.place < length r.alive) (sym c.self.view_is) c.requires.place in
     c.text.ensures.refused
-    ∙ text-refused g.S.FarRead.content _ c.self.invariant c.args.text c.args.place c.index-column.result.now column c.index-column.ensures place c.len-len.ensures.groups
+    ∙ text-refused g.S.FarTickets.content _ c.self.invariant c.args.text c.args.place c.index-column.result.now column c.index-column.ensures place c.len-len.ensures.groups
     ∙ ap (λ (r : Rows g.row.S-Ticket.Denot). first_of (absent_at r (c.args.place / r.size) (slot.Text c.args.text) ∷ [])) c.self.view_is

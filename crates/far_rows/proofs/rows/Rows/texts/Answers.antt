@@ -18,9 +18,9 @@ returns-clause-cells g c =
     let read = slice_get_read c.deref.result.now (length c.deref.result.now) c.args.column c.in-Some.slot.now refl (ltb-true _ _ (sym c.in-Some.ensures.lookup.0)) c.in-Some.ensures.lookup.1 in
     let lies = sym (ap (λ (ss : List Slot). slice_get ss c.args.column) slots) ∙ read ∙ ap Some c.in-Text.is in
     IfOk-weaker c.texts_at.result
-    (λ (lent : List (Option (List ℕ) × Bool)). map (λ t. t.0) lent ≡ slice_range (texts_of g.S.FarRead.content c.args.self.now (slot.Text c.in-Text.text)) c.args.from c.args.to)
-    (λ lent. option_map (λ (cells : List Cell). slice_range cells c.args.from c.args.to) (slice_get (cells_of g.S.FarRead.content c.args.self.now) c.args.column) ≡ Some (map (λ t. text_cell t.0) lent))
-    (λ lent is. part-cells g.S.FarRead.content c.args.self.now c.args.column c.in-Text.text c.args.from c.args.to lies lent is)
+    (λ (lent : List (Option (List ℕ) × Bool)). map (λ t. t.0) lent ≡ slice_range (texts_of g.S.FarTickets.content c.args.self.now (slot.Text c.in-Text.text)) c.args.from c.args.to)
+    (λ lent. option_map (λ (cells : List Cell). slice_range cells c.args.from c.args.to) (slice_get (cells_of g.S.FarTickets.content c.args.self.now) c.args.column) ≡ Some (map (λ t. text_cell t.0) lent))
+    (λ lent is. part-cells g.S.FarTickets.content c.args.self.now c.args.column c.in-Text.text c.args.from c.args.to lies lent is)
     c.texts_at.ensures.texts
 
 pub returns-clause-refused : goal.returns-clause-refused
@@ -28,4 +28,4 @@ returns-clause-refused g c =
     let slots = c.deref.ensures.value ∙ ap (λ (r : Rows g.row.S-Ticket.Denot). r.slots) c.self.view_is in
     let read = slice_get_read c.deref.result.now (length c.deref.result.now) c.args.column c.in-Some.slot.now refl (ltb-true _ _ (sym c.in-Some.ensures.lookup.0)) c.in-Some.ensures.lookup.1 in
     let lies = sym (ap (λ (ss : List Slot). slice_get ss c.args.column) slots) ∙ read ∙ ap Some c.in-Text.is in
-    c.texts_at.ensures.refused ∙ sym (part-due g.S.FarRead.content c.args.self.now c.args.column c.in-Text.text c.args.from c.args.to lies)
+    c.texts_at.ensures.refused ∙ sym (part-due g.S.FarTickets.content c.args.self.now c.args.column c.in-Text.text c.args.from c.args.to lies)

@@ -16,45 +16,45 @@ use Rattle.far_rows.proofs.rows.Rows.texts_at.Goals as goal
 pub texts-requires-clause-is : goal.texts-requires-clause-is
 texts-requires-clause-is g c κs bounds =
     let column = subst (λ (r : Rows g.row.S-Ticket.Denot). c.args.text < length r.texts) (sym c.self.view_is) c.requires in
-    text-column g.S.FarRead.content _ c.self.invariant c.args.text c.index-column.result.now column c.index-column.ensures
+    text-column g.S.FarTickets.content _ c.self.invariant c.args.text c.index-column.result.now column c.index-column.ensures
 
 pub texts-requires-clause-even : goal.texts-requires-clause-even
 texts-requires-clause-even g c κs bounds =
     let column = subst (λ (r : Rows g.row.S-Ticket.Denot). c.args.text < length r.texts) (sym c.self.view_is) c.requires in
-    flags-even g.S.FarRead.content _ c.self.invariant c.args.text c.args.from c.args.to c.index-column.result.now column c.index-column.ensures
+    flags-even g.S.FarTickets.content _ c.self.invariant c.args.text c.args.from c.args.to c.index-column.result.now column c.index-column.ensures
 
 pub returns-clause-lent : goal.returns-clause-lent
 returns-clause-lent g c =
     let column = subst (λ (r : Rows g.row.S-Ticket.Denot). c.args.text < length r.texts) (sym c.self.view_is) c.requires in
-    let part = λ (r : Rows g.row.S-Ticket.Denot). zip (slice_range (texts_of g.S.FarRead.content r (slot.Text c.args.text)) c.args.from c.args.to) (slice_range r.alive c.args.from c.args.to) in
-    let texts = texts_in (lists_of g.S.FarRead.content c.self.inside.text_objects) c.index-column.result.now in
+    let part = λ (r : Rows g.row.S-Ticket.Denot). zip (slice_range (texts_of g.S.FarTickets.content r (slot.Text c.args.text)) c.args.from c.args.to) (slice_range r.alive c.args.from c.args.to) in
+    let texts = texts_in (lists_of g.S.FarTickets.content c.self.inside.text_objects) c.index-column.result.now in
     let flags = slice_range c.self.inside.alive c.args.from c.args.to in
-    let same = ap (λ (ts : List (Option (List ℕ))). zip (slice_range ts c.args.from c.args.to) flags) (texts-read g.S.FarRead.content _ c.self.invariant c.args.text c.args.from c.args.to c.index-column.result.now column c.index-column.ensures) ∙ ap part c.self.view_is in
+    let same = ap (λ (ts : List (Option (List ℕ))). zip (slice_range ts c.args.from c.args.to) flags) (texts-read g.S.FarTickets.content _ c.self.invariant c.args.text c.args.from c.args.to c.index-column.result.now column c.index-column.ensures) ∙ ap part c.self.view_is in
     IfOk-weaker c.texts.result (λ (lent : List (Option (List ℕ) × Bool)). lent ≡ zip (slice_range texts c.args.from c.args.to) flags) (λ lent. lent ≡ part c.args.self.now) (λ lent is. is ∙ same) c.texts.ensures.lent
 
 pub returns-clause-texts : goal.returns-clause-texts
 returns-clause-texts g c =
     let column = subst (λ (r : Rows g.row.S-Ticket.Denot). c.args.text < length r.texts) (sym c.self.view_is) c.requires in
-    let texts = texts_in (lists_of g.S.FarRead.content c.self.inside.text_objects) c.index-column.result.now in
+    let texts = texts_in (lists_of g.S.FarTickets.content c.self.inside.text_objects) c.index-column.result.now in
     let flags = slice_range c.self.inside.alive c.args.from c.args.to in
-    let part = λ (r : Rows g.row.S-Ticket.Denot). slice_range (texts_of g.S.FarRead.content r (slot.Text c.args.text)) c.args.from c.args.to in
+    let part = λ (r : Rows g.row.S-Ticket.Denot). slice_range (texts_of g.S.FarTickets.content r (slot.Text c.args.text)) c.args.from c.args.to in
     IfOk-weaker c.texts.result (λ (lent : List (Option (List ℕ) × Bool)). lent ≡ zip (slice_range texts c.args.from c.args.to) flags) (λ lent. map (λ t. t.0) lent ≡ part c.args.self.now)
-    (λ lent is. lent-values g.S.FarRead.content _ c.self.invariant c.args.text c.args.from c.args.to c.index-column.result.now column c.index-column.ensures c.len-len.ensures.groups lent is ∙ ap part c.self.view_is)
+    (λ lent is. lent-values g.S.FarTickets.content _ c.self.invariant c.args.text c.args.from c.args.to c.index-column.result.now column c.index-column.ensures c.len-len.ensures.groups lent is ∙ ap part c.self.view_is)
     c.texts.ensures.lent
 
 pub returns-clause-alive : goal.returns-clause-alive
 returns-clause-alive g c =
     let column = subst (λ (r : Rows g.row.S-Ticket.Denot). c.args.text < length r.texts) (sym c.self.view_is) c.requires in
-    let texts = texts_in (lists_of g.S.FarRead.content c.self.inside.text_objects) c.index-column.result.now in
+    let texts = texts_in (lists_of g.S.FarTickets.content c.self.inside.text_objects) c.index-column.result.now in
     let flags = slice_range c.self.inside.alive c.args.from c.args.to in
     let part = λ (r : Rows g.row.S-Ticket.Denot). slice_range r.alive c.args.from c.args.to in
     IfOk-weaker c.texts.result (λ (lent : List (Option (List ℕ) × Bool)). lent ≡ zip (slice_range texts c.args.from c.args.to) flags) (λ lent. map (λ t. t.1) lent ≡ part c.args.self.now)
-    (λ lent is. lent-flags g.S.FarRead.content _ c.self.invariant c.args.text c.args.from c.args.to c.index-column.result.now column c.index-column.ensures c.len-len.ensures.groups lent is ∙ ap part c.self.view_is)
+    (λ lent is. lent-flags g.S.FarTickets.content _ c.self.invariant c.args.text c.args.from c.args.to c.index-column.result.now column c.index-column.ensures c.len-len.ensures.groups lent is ∙ ap part c.self.view_is)
     c.texts.ensures.lent
 
 pub returns-clause-refused : goal.returns-clause-refused
 returns-clause-refused g c =
     let column = subst (λ (r : Rows g.row.S-Ticket.Denot). c.args.text < length r.texts) (sym c.self.view_is) c.requires in
     c.texts.ensures.refused
-    ∙ part-refused g.S.FarRead.content _ c.self.invariant c.args.text c.args.from c.args.to c.index-column.result.now column c.index-column.ensures
+    ∙ part-refused g.S.FarTickets.content _ c.self.invariant c.args.text c.args.from c.args.to c.index-column.result.now column c.index-column.ensures
     ∙ ap (λ (r : Rows g.row.S-Ticket.Denot). first_of (no_range r c.args.from c.args.to ∷ map (λ h. absent_at r h (slot.Text c.args.text)) (touched r.size c.args.from c.args.to))) c.self.view_is

@@ -5,5 +5,5 @@ use Rattle.far_rows.proofs.rows.reading.texts_are_here.Goals as goal
 
 pub lend-requires-after_bounds : goal.lend-requires-after_bounds
 lend-requires-after_bounds g c κs within =
-    in-use (λ bytes. bytes) g.S.FarRead.content _ c.args.objects.now c.number-number.ensures.tracked c.in-Some.o (IsGroupForm c.args.column.now c.args.group)
+    in-use (λ bytes. bytes) g.S.FarTickets.content _ c.args.objects.now c.number-number.ensures.tracked c.in-Some.o (IsGroupForm c.args.column.now c.args.group)
     (c.requires.each c.args.group c.in-Some.o (sym c.object.ensures ∙ c.in-Some.is))

@@ -10,10 +10,10 @@ pub returns-clause-store : goal.returns-clause-store
 returns-clause-store g c =
     let none = drop_all c.loop-o.o-index c.args.scope (rw (← c.scope.view_is, ← c.deref-o-items.ensures.value) c.loop-o-test.false) in
     let all : (closed c.args.self.now c.args.scope).0 ≡ c.loop-o.self = c.loop-o.invariant.1 ∙ ap (λ objects. (closed c.loop-o.self objects).0) none in
-    λ name here. subst (AreHere g.S.FarRead.is_of name) all (here-closed g.S.FarRead.is_of name c.args.self.now c.args.scope here)
+    λ name here. subst (AreHere g.S.FarTickets.is_of name) all (here-closed g.S.FarTickets.is_of name c.args.self.now c.args.scope here)
 
 pub returns-clause-lists : goal.returns-clause-lists
 returns-clause-lists g c =
     let none = drop_all c.loop-o.o-index c.args.scope (rw (← c.scope.view_is, ← c.deref-o-items.ensures.value) c.loop-o-test.false) in
     let all : (closed c.args.self.now c.args.scope).0 ≡ c.loop-o.self = c.loop-o.invariant.1 ∙ ap (λ objects. (closed c.loop-o.self objects).0) none in
-    λ p. subst (λ m. list_of g.T.Elem.meaning g.S.FarRead.content m p ≡ list_of g.T.Elem.meaning g.S.FarRead.content c.args.self.now p) all (lists-closed g.T.Elem.meaning g.S.FarRead.content c.args.self.now c.args.scope p)
+    λ p. subst (λ m. list_of g.T.Elem.meaning g.S.FarTickets.content m p ≡ list_of g.T.Elem.meaning g.S.FarTickets.content c.args.self.now p) all (lists-closed g.T.Elem.meaning g.S.FarTickets.content c.args.self.now c.args.scope p)

@@ -10,4 +10,4 @@ invariant-loop-o g l =
     × ((closed l.fn.self l.fn.scope).0 ≡ (closed l.self (drop l.o-index l.fn.scope)).0)
     × ((closed l.fn.self l.fn.scope).1 ≡ l.taken + (closed l.self (drop l.o-index l.fn.scope)).1)
     × (l.taken ≤ l.o-index)
-    × (AreClean g.T.Elem.meaning g.S.FarRead.content l.fn.self → AreClean g.T.Elem.meaning g.S.FarRead.content l.self)
+    × (AreClean g.T.Elem.meaning g.S.FarTickets.content l.fn.self → AreClean g.T.Elem.meaning g.S.FarTickets.content l.self)

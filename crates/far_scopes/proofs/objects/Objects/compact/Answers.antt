@@ -5,15 +5,15 @@ use Rattle.far_scopes.proofs.objects.Objects.compact.Goals as goal
 
 pub invariant_of-self-2 : goal.invariant_of-self-2
 invariant_of-self-2 g c =
-    tracked-compacted g.T.Elem.meaning g.S.FarRead.content _ c.compact.new.self c.args.segment c.in_ok-compact.ensures.ok c.in_ok-compact.ensures.lists _ c.self.invariant
+    tracked-compacted g.T.Elem.meaning g.S.FarTickets.content _ c.compact.new.self c.args.segment c.in_ok-compact.ensures.ok c.in_ok-compact.ensures.lists _ c.self.invariant
 
 pub returns-clause-clean : goal.returns-clause-clean
 returns-clause-clean g c =
     let old : Movement g.row.T.Denot g.row.S-Ticket.Denot = record { number = c.self.inside.number; changes = c.self.inside.changes; leavings = c.self.inside.leavings; memory = c.self.inside.memory; entries = c.self.inside.entries.items; order = c.self.inside.order } in
-    λ clean. clean-compacted g.T.Elem.meaning g.S.FarRead.content old c.compact.new.self c.args.segment c.in_ok-compact.ensures.ok c.in_ok-compact.ensures.lists (subst (AreClean g.T.Elem.meaning g.S.FarRead.content) (sym c.self.view_is) clean)
+    λ clean. clean-compacted g.T.Elem.meaning g.S.FarTickets.content old c.compact.new.self c.args.segment c.in_ok-compact.ensures.ok c.in_ok-compact.ensures.lists (subst (AreClean g.T.Elem.meaning g.S.FarTickets.content) (sym c.self.view_is) clean)
 
 pub returns-clause-full : goal.returns-clause-full
 returns-clause-full g c = rw (← c.self.view_is) c.in_ok-compact.ensures.full
 
 pub returns-clause-store : goal.returns-clause-store
-returns-clause-store g c = λ name here. subst (AreHere g.S.FarRead.is_of name) (sym c.self.view_is) here
+returns-clause-store g c = λ name here. subst (AreHere g.S.FarTickets.is_of name) (sym c.self.view_is) here

@@ -6,13 +6,13 @@ use Rattle.far_scopes.proofs.FitsAll.{fits-next}
 use Rattle.far_scopes.proofs.objects.Objects.create.Goals as goal
 
 pub invariant_of-self-2 : goal.invariant_of-self-2
-invariant_of-self-2 g c = rw (c.push_reserved.ensures.items, c.in_ok-add.ensures.ok, c.len-o.ensures, c.reserve.new.self.ok.0, c.reserve.ensures.items) (tracked-made g.T.Elem.meaning g.S.FarRead.content _ _ c.self.invariant c.add-2.new.self _ c.args.name c.args.items.now (ap (λ m. m.words) c.in_default.ensures.ok) c.in_default.ensures.list c.requires.some (subst (λ m. length m.entries < 2 ^ 28) (sym c.self.view_is) c.requires.few))
+invariant_of-self-2 g c = rw (c.push_reserved.ensures.items, c.in_ok-add.ensures.ok, c.len-o.ensures, c.reserve.new.self.ok.0, c.reserve.ensures.items) (tracked-made g.T.Elem.meaning g.S.FarTickets.content _ _ c.self.invariant c.add-2.new.self _ c.args.name c.args.items.now (ap (λ m. m.words) c.in_default.ensures.ok) c.in_default.ensures.list c.requires.some (subst (λ m. length m.entries < 2 ^ 28) (sym c.self.view_is) c.requires.few))
 
 pub returns-clause-list : goal.returns-clause-list
-returns-clause-list g c = rw (← c.self.view_is, c.push_reserved.ensures.items, c.reserve.ensures.items) (lists-made g.T.Elem.meaning g.S.FarRead.content _ _ c.self.invariant c.add-2.new.self _ c.args.name c.args.items.now (ap (λ m. m.words) c.in_default.ensures.ok) c.in_default.ensures.list)
+returns-clause-list g c = rw (← c.self.view_is, c.push_reserved.ensures.items, c.reserve.ensures.items) (lists-made g.T.Elem.meaning g.S.FarTickets.content _ _ c.self.invariant c.add-2.new.self _ c.args.name c.args.items.now (ap (λ m. m.words) c.in_default.ensures.ok) c.in_default.ensures.list)
 
 pub returns-clause-clean : goal.returns-clause-clean
-returns-clause-clean g c = rw (← c.self.view_is, c.push_reserved.ensures.items, c.reserve.ensures.items) (clean-made g.T.Elem.meaning g.S.FarRead.content _ _ c.self.invariant c.add-2.new.self _ c.args.name c.args.items.now (ap (λ m. m.words) c.in_default.ensures.ok) c.in_default.ensures.list)
+returns-clause-clean g c = rw (← c.self.view_is, c.push_reserved.ensures.items, c.reserve.ensures.items) (clean-made g.T.Elem.meaning g.S.FarTickets.content _ _ c.self.invariant c.add-2.new.self _ c.args.name c.args.items.now (ap (λ m. m.words) c.in_default.ensures.ok) c.in_default.ensures.list)
 
 pub returns-clause-undone : goal.returns-clause-undone
 returns-clause-undone g c =
@@ -20,7 +20,7 @@ returns-clause-undone g c =
     rw (← c.self.view_is, c.push_reserved.ensures.items, c.in_ok-add.ensures.ok, c.len-o.ensures, c.reserve.new.self.ok.0, c.reserve.ensures.items, c.in_default.ensures.ok) (uncreated-created _ c.args.name c.args.items.now back)
 
 pub returns-clause-last : goal.returns-clause-last
-returns-clause-last g c = rw (← c.self.view_is, c.push_reserved.ensures.items, c.reserve.ensures.items) (last-made g.T.Elem.meaning g.S.FarRead.content _ _ c.self.invariant c.add-2.new.self _ c.args.name c.args.items.now (ap (λ m. m.words) c.in_default.ensures.ok) c.in_default.ensures.list)
+returns-clause-last g c = rw (← c.self.view_is, c.push_reserved.ensures.items, c.reserve.ensures.items) (last-made g.T.Elem.meaning g.S.FarTickets.content _ _ c.self.invariant c.add-2.new.self _ c.args.name c.args.items.now (ap (λ m. m.words) c.in_default.ensures.ok) c.in_default.ensures.list)
 
 pub returns-clause-next : goal.returns-clause-next
 returns-clause-next g c = λ lens. rw (← c.self.view_is, c.in_default.ensures.ok) (fits-next c.self.inside.memory.room c.args.items.now lens (sym c.fits.ensures ∙ c.if-not-fits.false))

@@ -12,7 +12,7 @@ pub lend_mut-requires-after_bounds : goal.lend_mut-requires-after_bounds
 lend_mut-requires-after_bounds g c = λ κs le. some-true (place_of c.self.inside.memory.words c.args.o) (subst (λ m. is_local m c.args.o ≡ true) (sym c.self.view_is) c.mark.ensures.local)
 
 pub invariant_of-self-lent : goal.invariant_of-self-lent
-invariant_of-self-lent g c w = tracked-overwritten g.T.Elem.meaning g.S.FarRead.content _ _ c.args.o 0 w c.self.invariant
+invariant_of-self-lent g c w = tracked-overwritten g.T.Elem.meaning g.S.FarTickets.content _ _ c.args.o 0 w c.self.invariant
 
 pub returns : goal.returns
 returns g c =
@@ -24,13 +24,13 @@ returns g c =
         lent = sym (parts c.args.o) ∙ subst (λ m. list_in m.memory c.args.o ≡ Some c.lend_mut.result.now) is c.lend_mut.ensures.lent;
         alone = λ list long.
             let change = subst (λ m. ChangesList (list_in m.memory) (list_in (overwritten m c.args.o 0 list).memory) c.args.o (Some list)) c.self.view_is (c.lend_mut.ensures.alone list long) in
-            subst (λ m. ChangesList (list_of g.T.Elem.meaning g.S.FarRead.content c.args.self.now) (list_of g.T.Elem.meaning g.S.FarRead.content (overwritten m c.args.o 0 list)) c.args.o (Some list)) c.mark.ensures.written
-            (list-since g.T.Elem.meaning g.S.FarRead.content (IsSpelled g.T.Elem.in_range g.T.Elem.has_spelling g.T.Elem.spelling) c.mark.new.self c.args.o 0 list list change c.args.self.now c.mark.ensures.lists);
+            subst (λ m. ChangesList (list_of g.T.Elem.meaning g.S.FarTickets.content c.args.self.now) (list_of g.T.Elem.meaning g.S.FarTickets.content (overwritten m c.args.o 0 list)) c.args.o (Some list)) c.mark.ensures.written
+            (list-since g.T.Elem.meaning g.S.FarTickets.content (IsSpelled g.T.Elem.in_range g.T.Elem.has_spelling g.T.Elem.spelling) c.mark.new.self c.args.o 0 list list change c.args.self.now c.mark.ensures.lists);
         clean = λ list long clean.
             let change = subst (λ m. ChangesList (list_in m.memory) (list_in (overwritten m c.args.o 0 list).memory) c.args.o (Some list)) c.self.view_is (c.lend_mut.ensures.alone list long) in
-            subst (λ m. AreClean g.T.Elem.meaning g.S.FarRead.content (overwritten m c.args.o 0 list)) c.mark.ensures.written
-            (clean-overwritten g.T.Elem.meaning g.S.FarRead.content (IsSpelled g.T.Elem.in_range g.T.Elem.has_spelling g.T.Elem.spelling) c.mark.new.self c.args.o 0 list list change c.mark.ensures.dirty (c.mark.ensures.clean clean));
+            subst (λ m. AreClean g.T.Elem.meaning g.S.FarTickets.content (overwritten m c.args.o 0 list)) c.mark.ensures.written
+            (clean-overwritten g.T.Elem.meaning g.S.FarTickets.content (IsSpelled g.T.Elem.in_range g.T.Elem.has_spelling g.T.Elem.spelling) c.mark.new.self c.args.o 0 list list change c.mark.ensures.dirty (c.mark.ensures.clean clean));
         others = others-overwritten c.args.self.now c.args.o 0;
-        store = λ list name here. here-written c.args.self.now c.args.o g.S.FarRead.is_of name here;
+        store = λ list name here. here-written c.args.self.now c.args.o g.S.FarTickets.is_of name here;
       },
     )

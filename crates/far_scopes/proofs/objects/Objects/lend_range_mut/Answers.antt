@@ -13,7 +13,7 @@ lend_range_mut-requires-clause-within g c =
     λ κs le. subst (λ m. IsSomeAnd (list_in m.memory c.args.o) (λ list. c.args.to ≤ length list)) (sym c.self.view_is) (subst (λ l. IsSomeAnd l (λ list. c.args.to ≤ length list)) (sym (c.mark.ensures.parts c.args.o)) c.requires.there)
 
 pub invariant_of-self-lent : goal.invariant_of-self-lent
-invariant_of-self-lent g c w = tracked-overwritten g.T.Elem.meaning g.S.FarRead.content _ _ c.args.o c.args.from w c.self.invariant
+invariant_of-self-lent g c w = tracked-overwritten g.T.Elem.meaning g.S.FarTickets.content _ _ c.args.o c.args.from w c.self.invariant
 
 pub returns : goal.returns
 returns g c =
@@ -25,13 +25,13 @@ returns g c =
         lent = subst (λ l. IsSomeAnd l (λ list. c.lend_range_mut.result.now ≡ slice_range list c.args.from c.args.to)) (ap (λ m. list_in m.memory c.args.o) c.self.view_is ∙ part) c.lend_range_mut.ensures.lent;
         alone =
             let alone = subst (λ m. IsSomeAnd (list_in m.memory c.args.o) (λ list. (range : List g.row.T.Denot) → length range ≡ c.args.to - c.args.from → ChangesList (list_in m.memory) (list_in (overwritten m c.args.o c.args.from range).memory) c.args.o (Some (take c.args.from list ++ (range ++ drop c.args.to list))))) c.self.view_is c.lend_range_mut.ensures.alone in
-            subst (λ m. IsSomeAnd (list_in c.args.self.now.memory c.args.o) (λ list. (range : List g.row.T.Denot) → length range ≡ c.args.to - c.args.from → ChangesList (list_of g.T.Elem.meaning g.S.FarRead.content c.args.self.now) (list_of g.T.Elem.meaning g.S.FarRead.content (overwritten m c.args.o c.args.from range)) c.args.o (Some (take c.args.from list ++ (range ++ drop c.args.to list))))) c.mark.ensures.written
-            (range-since g.T.Elem.meaning g.S.FarRead.content (IsSpelled g.T.Elem.in_range g.T.Elem.has_spelling g.T.Elem.spelling) c.args.self.now c.mark.new.self c.args.o c.args.from c.args.to c.mark.ensures.parts c.mark.ensures.lists alone);
+            subst (λ m. IsSomeAnd (list_in c.args.self.now.memory c.args.o) (λ list. (range : List g.row.T.Denot) → length range ≡ c.args.to - c.args.from → ChangesList (list_of g.T.Elem.meaning g.S.FarTickets.content c.args.self.now) (list_of g.T.Elem.meaning g.S.FarTickets.content (overwritten m c.args.o c.args.from range)) c.args.o (Some (take c.args.from list ++ (range ++ drop c.args.to list))))) c.mark.ensures.written
+            (range-since g.T.Elem.meaning g.S.FarTickets.content (IsSpelled g.T.Elem.in_range g.T.Elem.has_spelling g.T.Elem.spelling) c.args.self.now c.mark.new.self c.args.o c.args.from c.args.to c.mark.ensures.parts c.mark.ensures.lists alone);
         clean = λ range long clean.
             let alone = subst (λ m. IsSomeAnd (list_in m.memory c.args.o) (λ list. (range : List g.row.T.Denot) → length range ≡ c.args.to - c.args.from → ChangesList (list_in m.memory) (list_in (overwritten m c.args.o c.args.from range).memory) c.args.o (Some (take c.args.from list ++ (range ++ drop c.args.to list))))) c.self.view_is c.lend_range_mut.ensures.alone in
-            subst (λ m. AreClean g.T.Elem.meaning g.S.FarRead.content (overwritten m c.args.o c.args.from range)) c.mark.ensures.written
-            (clean-range g.T.Elem.meaning g.S.FarRead.content (IsSpelled g.T.Elem.in_range g.T.Elem.has_spelling g.T.Elem.spelling) c.args.self.now c.mark.new.self c.args.o c.args.from c.args.to c.mark.ensures.parts c.mark.ensures.lists c.mark.ensures.dirty alone range long (c.mark.ensures.clean clean));
+            subst (λ m. AreClean g.T.Elem.meaning g.S.FarTickets.content (overwritten m c.args.o c.args.from range)) c.mark.ensures.written
+            (clean-range g.T.Elem.meaning g.S.FarTickets.content (IsSpelled g.T.Elem.in_range g.T.Elem.has_spelling g.T.Elem.spelling) c.args.self.now c.mark.new.self c.args.o c.args.from c.args.to c.mark.ensures.parts c.mark.ensures.lists c.mark.ensures.dirty alone range long (c.mark.ensures.clean clean));
         others = others-overwritten c.args.self.now c.args.o c.args.from;
-        store = λ list name here. here-written c.args.self.now c.args.o g.S.FarRead.is_of name here;
+        store = λ list name here. here-written c.args.self.now c.args.o g.S.FarTickets.is_of name here;
       },
     )

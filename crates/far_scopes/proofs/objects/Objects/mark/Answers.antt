@@ -15,7 +15,7 @@ invariant_of-self g c =
     let version : version_of c.args.self.now c.args.o ≡ c.index_mut.result.now.version = rw (← c.self.view_is, was) refl in
     let left : c.index_mut.result.now.version < c.self.inside.changes = omega (arith, left-written c.args.self.now c.args.o c.requires.free, version, ap (λ m. m.changes) c.self.view_is) in
     let lists : (p : ℕ) → list_in (marked c.self.inside.memory c.args.o) p ≡ list_in c.self.inside.memory p = subst (λ memory. (p : ℕ) → list_in memory p ≡ list_in c.self.inside.memory p) c.mark.ensures.marked c.mark.ensures.lists in
-    rw (c.mark.ensures.marked, c.touch.ensures) (tracked-written g.T.Elem.meaning g.S.FarRead.content _ _ c.self.invariant c.args.o c.index_mut.result.now was local left lists)
+    rw (c.mark.ensures.marked, c.touch.ensures) (tracked-written g.T.Elem.meaning g.S.FarTickets.content _ _ c.self.invariant c.args.o c.index_mut.result.now was local left lists)
 
 pub returns-clause-written : goal.returns-clause-written
 returns-clause-written g c =
@@ -31,7 +31,7 @@ returns-clause-dirty g c =
     let version : version_of c.args.self.now c.args.o ≡ c.index_mut.result.now.version = rw (← c.self.view_is, was) refl in
     let left : c.index_mut.result.now.version < c.self.inside.changes = omega (arith, left-written c.args.self.now c.args.o c.requires.free, version, ap (λ m. m.changes) c.self.view_is) in
     let lists : (p : ℕ) → list_in (marked c.self.inside.memory c.args.o) p ≡ list_in c.self.inside.memory p = subst (λ memory. (p : ℕ) → list_in memory p ≡ list_in c.self.inside.memory p) c.mark.ensures.marked c.mark.ensures.lists in
-    rw c.mark.ensures.marked (dirty-written g.T.Elem.meaning g.S.FarRead.content _ _ c.self.invariant c.args.o c.index_mut.result.now was local left lists)
+    rw c.mark.ensures.marked (dirty-written g.T.Elem.meaning g.S.FarTickets.content _ _ c.self.invariant c.args.o c.index_mut.result.now was local left lists)
 
 pub returns-clause-local : goal.returns-clause-local
 returns-clause-local g c =
@@ -41,7 +41,7 @@ returns-clause-local g c =
     let version : version_of c.args.self.now c.args.o ≡ c.index_mut.result.now.version = rw (← c.self.view_is, was) refl in
     let left : c.index_mut.result.now.version < c.self.inside.changes = omega (arith, left-written c.args.self.now c.args.o c.requires.free, version, ap (λ m. m.changes) c.self.view_is) in
     let lists : (p : ℕ) → list_in (marked c.self.inside.memory c.args.o) p ≡ list_in c.self.inside.memory p = subst (λ memory. (p : ℕ) → list_in memory p ≡ list_in c.self.inside.memory p) c.mark.ensures.marked c.mark.ensures.lists in
-    rw c.mark.ensures.marked (local-still g.T.Elem.meaning g.S.FarRead.content _ _ c.self.invariant c.args.o c.index_mut.result.now was local left lists)
+    rw c.mark.ensures.marked (local-still g.T.Elem.meaning g.S.FarTickets.content _ _ c.self.invariant c.args.o c.index_mut.result.now was local left lists)
 
 pub returns-clause-parts : goal.returns-clause-parts
 returns-clause-parts g c = rw (← c.self.view_is) c.mark.ensures.lists
@@ -54,7 +54,7 @@ returns-clause-lists g c =
     let version : version_of c.args.self.now c.args.o ≡ c.index_mut.result.now.version = rw (← c.self.view_is, was) refl in
     let left : c.index_mut.result.now.version < c.self.inside.changes = omega (arith, left-written c.args.self.now c.args.o c.requires.free, version, ap (λ m. m.changes) c.self.view_is) in
     let lists : (p : ℕ) → list_in (marked c.self.inside.memory c.args.o) p ≡ list_in c.self.inside.memory p = subst (λ memory. (p : ℕ) → list_in memory p ≡ list_in c.self.inside.memory p) c.mark.ensures.marked c.mark.ensures.lists in
-    rw (c.mark.ensures.marked, ← c.self.view_is) (lists-same g.T.Elem.meaning g.S.FarRead.content _ _ c.self.invariant c.args.o c.index_mut.result.now was local left lists)
+    rw (c.mark.ensures.marked, ← c.self.view_is) (lists-same g.T.Elem.meaning g.S.FarTickets.content _ _ c.self.invariant c.args.o c.index_mut.result.now was local left lists)
 
 pub returns-clause-clean : goal.returns-clause-clean
 returns-clause-clean g c =
@@ -64,4 +64,4 @@ returns-clause-clean g c =
     let version : version_of c.args.self.now c.args.o ≡ c.index_mut.result.now.version = rw (← c.self.view_is, was) refl in
     let left : c.index_mut.result.now.version < c.self.inside.changes = omega (arith, left-written c.args.self.now c.args.o c.requires.free, version, ap (λ m. m.changes) c.self.view_is) in
     let lists : (p : ℕ) → list_in (marked c.self.inside.memory c.args.o) p ≡ list_in c.self.inside.memory p = subst (λ memory. (p : ℕ) → list_in memory p ≡ list_in c.self.inside.memory p) c.mark.ensures.marked c.mark.ensures.lists in
-    λ clean. rw c.mark.ensures.marked (clean-written g.T.Elem.meaning g.S.FarRead.content _ _ c.self.invariant c.args.o c.index_mut.result.now was local left lists (subst (AreClean g.T.Elem.meaning g.S.FarRead.content) (sym c.self.view_is) clean))
+    λ clean. rw c.mark.ensures.marked (clean-written g.T.Elem.meaning g.S.FarTickets.content _ _ c.self.invariant c.args.o c.index_mut.result.now was local left lists (subst (AreClean g.T.Elem.meaning g.S.FarTickets.content) (sym c.self.view_is) clean))

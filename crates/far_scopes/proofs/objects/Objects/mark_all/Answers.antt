@@ -28,6 +28,6 @@ loop-replacement-preserved g c =
       free-rest m c.mark.new.self r.object c.mark.ensures.written r rest refl once free,
       once-tail r rest once,
       λ p. c.mark.ensures.lists p ∙ c.loop-replacement.invariant.4 p,
-      λ clean. clean-rest m c.mark.new.self r.object c.mark.ensures.written r rest refl g.T.Elem.meaning g.S.FarRead.content c.mark.ensures.dirty c.mark.ensures.lists
-          (subst (λ rs. AreCleanBeside g.T.Elem.meaning g.S.FarRead.content m rs) next (c.loop-replacement.invariant.5 clean)),
+      λ clean. clean-rest m c.mark.new.self r.object c.mark.ensures.written r rest refl g.T.Elem.meaning g.S.FarTickets.content c.mark.ensures.dirty c.mark.ensures.lists
+          (subst (λ rs. AreCleanBeside g.T.Elem.meaning g.S.FarTickets.content m rs) next (c.loop-replacement.invariant.5 clean)),
     )

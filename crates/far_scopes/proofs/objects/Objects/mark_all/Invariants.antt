@@ -12,5 +12,5 @@ invariant-loop-replacement g l =
     × (length l.self.entries ≡ length l.fn.self.entries)
     × All (λ r. write_refusal l.self r.object ≡ None) (drop l.replacement-index l.lists)
     × AreListedOnce (drop l.replacement-index l.lists)
-    × ((p : ℕ) → list_of g.T.Elem.meaning g.S.FarRead.content l.self p ≡ list_of g.T.Elem.meaning g.S.FarRead.content l.fn.self p)
-    × (AreCleanBeside g.T.Elem.meaning g.S.FarRead.content l.fn.self l.lists → AreCleanBeside g.T.Elem.meaning g.S.FarRead.content l.self (drop l.replacement-index l.lists))
+    × ((p : ℕ) → list_of g.T.Elem.meaning g.S.FarTickets.content l.self p ≡ list_of g.T.Elem.meaning g.S.FarTickets.content l.fn.self p)
+    × (AreCleanBeside g.T.Elem.meaning g.S.FarTickets.content l.fn.self l.lists → AreCleanBeside g.T.Elem.meaning g.S.FarTickets.content l.self (drop l.replacement-index l.lists))

@@ -11,4 +11,4 @@ invariant-loop-k g l =
     × (length l.self.entries ≡ length l.fn.self.entries)
     × (pins_overflow l.fn.self l.objects ≡ pins_overflow l.self (drop l.k l.objects))
     × (first_absent l.self (drop l.k l.objects) ≡ None)
-    × (AreClean g.T.Elem.meaning g.S.FarRead.content l.fn.self → AreClean g.T.Elem.meaning g.S.FarRead.content l.self)
+    × (AreClean g.T.Elem.meaning g.S.FarTickets.content l.fn.self → AreClean g.T.Elem.meaning g.S.FarTickets.content l.self)

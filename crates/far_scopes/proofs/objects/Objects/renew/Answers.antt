@@ -27,16 +27,16 @@ returns-clause-renewed g c = rw (made g c, c.forget_copies.ensures.renewed, ← 
 pub invariant_of-result : goal.invariant_of-result
 invariant_of-result g c =
     rw (made g c, c.forget_copies.ensures.renewed, ← c.self.view_is)
-    (tracked-renewed g.T.Elem.meaning g.S.FarRead.content g.N.FarRead.content (IsSpelled g.T.Elem.in_range g.T.Elem.has_spelling g.T.Elem.spelling) _ c.args.renewal (rw c.self.view_is c.requires) c.self.invariant)
+    (tracked-renewed g.T.Elem.meaning g.S.FarTickets.content g.N.FarTickets.content (IsSpelled g.T.Elem.in_range g.T.Elem.has_spelling g.T.Elem.spelling) _ c.args.renewal (rw c.self.view_is c.requires) c.self.invariant)
 
 pub returns-clause-lists : goal.returns-clause-lists
 returns-clause-lists g c =
     let placed : (p : ℕ) → IsSome (place_of c.args.self.memory.words p) → IsSome (list_in c.args.self.memory p) = rw (← c.self.view_is) c.forget_copies.ensures.placed in
-    λ p. ap (λ m. list_of g.T.Elem.meaning g.N.FarRead.content m p) (returns-clause-renewed g c)
-    ∙ lists-renewed g.T.Elem.meaning g.S.FarRead.content g.N.FarRead.content (IsSpelled g.T.Elem.in_range g.T.Elem.has_spelling g.T.Elem.spelling) c.args.self c.args.renewal c.requires placed p
+    λ p. ap (λ m. list_of g.T.Elem.meaning g.N.FarTickets.content m p) (returns-clause-renewed g c)
+    ∙ lists-renewed g.T.Elem.meaning g.S.FarTickets.content g.N.FarTickets.content (IsSpelled g.T.Elem.in_range g.T.Elem.has_spelling g.T.Elem.spelling) c.args.self c.args.renewal c.requires placed p
 
 pub returns-clause-clean : goal.returns-clause-clean
-returns-clause-clean g c = subst (AreClean g.T.Elem.meaning g.N.FarRead.content) (sym (returns-clause-renewed g c)) (clean-renewed g.T.Elem.meaning g.S.FarRead.content g.N.FarRead.content (IsSpelled g.T.Elem.in_range g.T.Elem.has_spelling g.T.Elem.spelling) c.args.self c.args.renewal c.requires)
+returns-clause-clean g c = subst (AreClean g.T.Elem.meaning g.N.FarTickets.content) (sym (returns-clause-renewed g c)) (clean-renewed g.T.Elem.meaning g.S.FarTickets.content g.N.FarTickets.content (IsSpelled g.T.Elem.in_range g.T.Elem.has_spelling g.T.Elem.spelling) c.args.self c.args.renewal c.requires)
 
 pub returns-clause-store : goal.returns-clause-store
-returns-clause-store g c = λ name here. subst (AreHere g.N.FarRead.is_of name) (sym (returns-clause-renewed g c)) (here-renewed g.T.Elem.meaning g.S.FarRead.content g.N.FarRead.content (IsSpelled g.T.Elem.in_range g.T.Elem.has_spelling g.T.Elem.spelling) c.args.self c.args.renewal c.requires g.N.FarRead.is_of name here)
+returns-clause-store g c = λ name here. subst (AreHere g.N.FarTickets.is_of name) (sym (returns-clause-renewed g c)) (here-renewed g.T.Elem.meaning g.S.FarTickets.content g.N.FarTickets.content (IsSpelled g.T.Elem.in_range g.T.Elem.has_spelling g.T.Elem.spelling) c.args.self c.args.renewal c.requires g.N.FarTickets.is_of name here)

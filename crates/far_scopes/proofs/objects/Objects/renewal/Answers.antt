@@ -7,18 +7,18 @@ use Rattle.far_scopes.proofs.objects.Objects.renewal.Goals as goal
 use Rattle.far_scopes.proofs.objects.Objects.renewal.Goals.{in-Some+in_ok-put_again-in-Some, in-None}
 
 -- the ticket of this object is as it should be, and no fault was met
-one : (g : given.Over) (c : goal.After-push_reserved g) → (option_map g.N.FarRead.content c.match-away_ticket.ticket ≡ cond (is_local c.args.self.now c.loop-o.o) None (option_map g.S.FarRead.content (ticket_of c.args.self.now c.loop-o.o))) × IfSome c.match-away_ticket.ticket (λ ticket. g.N.FarRead.is_of ticket (g.N.FarRead.name c.args.new_store.now)) × (c.match-away_ticket.meter ≡ c.loop-o.meter)
+one : (g : given.Over) (c : goal.After-push_reserved g) → (option_map g.N.FarTickets.content c.match-away_ticket.ticket ≡ cond (is_local c.args.self.now c.loop-o.o) None (option_map g.S.FarTickets.content (ticket_of c.args.self.now c.loop-o.o))) × IfSome c.match-away_ticket.ticket (λ ticket. g.N.FarTickets.is_of ticket (g.N.FarTickets.name c.args.new_store.now)) × (c.match-away_ticket.meter ≡ c.loop-o.meter)
 one g c =
     let local = is_local c.args.self.now c.loop-o.o in
     let ticket = ticket_of c.args.self.now c.loop-o.o in
     elim c.match-away_ticket.branch [
       | in-Some+in_ok-put_again-in-Some w ↦ (
-        rw w.ticket-is (away-some g.S.FarRead.content g.N.FarRead.content local ticket _ _ w.in_ok-put_again-in-Some.ensures.content (ap (option_map (λ t. t.now)) (sym w.in-Some.is) ∙ c.away_ticket.ensures)),
+        rw w.ticket-is (away-some g.S.FarTickets.content g.N.FarTickets.content local ticket _ _ w.in_ok-put_again-in-Some.ensures.content (ap (option_map (λ t. t.now)) (sym w.in-Some.is) ∙ c.away_ticket.ensures)),
         rw w.ticket-is w.in_ok-put_again-in-Some.ensures.there,
         w.meter-is ∙ omega (arith, w.in_ok-put_again-in-Some.ensures.faults),
       )
       | in-None w ↦ (
-        rw w.ticket-is (away-none g.S.FarRead.content g.N.FarRead.content local ticket (ap (option_map (λ t. t.now)) (sym w.in-None.is) ∙ c.away_ticket.ensures)),
+        rw w.ticket-is (away-none g.S.FarTickets.content g.N.FarTickets.content local ticket (ap (option_map (λ t. t.now)) (sym w.in-None.is) ∙ c.away_ticket.ensures)),
         rw w.ticket-is tt,
         w.meter-is,
       )
@@ -30,8 +30,8 @@ loop-o-preserved g c =
     let inv = c.loop-o.invariant in
     let items = c.push_reserved.ensures.items in (
       ap (λ l. length l) items ∙ omega (arith, inv.0, length-append c.loop-o.tickets.items (c.match-away_ticket.ticket ∷ [])),
-      rw items (renewed-push g.S.FarRead.content g.N.FarRead.content c.args.self.now c.loop-o.tickets.items c.match-away_ticket.ticket c.loop-o.o inv.0 inv.1 is.0),
-      rw items (here-push g.N.FarRead.is_of (g.N.FarRead.name c.args.new_store.now) c.loop-o.tickets.items c.match-away_ticket.ticket inv.2 is.1),
+      rw items (renewed-push g.S.FarTickets.content g.N.FarTickets.content c.args.self.now c.loop-o.tickets.items c.match-away_ticket.ticket c.loop-o.o inv.0 inv.1 is.0),
+      rw items (here-push g.N.FarTickets.is_of (g.N.FarTickets.name c.args.new_store.now) c.loop-o.tickets.items c.match-away_ticket.ticket inv.2 is.1),
       rw c.push_reserved.ensures.capacity inv.3,
       is.2 ∙ inv.4,
     )
@@ -39,4 +39,4 @@ loop-o-preserved g c =
 pub returns-clause-renews : goal.returns-clause-renews
 returns-clause-renews g c =
     let all : length c.args.self.now.entries ≡ c.loop-o.o = omega (arith, c.loop-o-test.false, c.loop-o.auto.o-end, c.len-o-end.ensures, ap (λ m. length m.entries) c.self.view_is, c.self.inside.entries.ok.0) in
-    renews-all g.S.FarRead.content g.N.FarRead.content c.args.self.now c.loop-o.tickets.items c.loop-o.o c.loop-o.invariant.0 all c.loop-o.invariant.1
+    renews-all g.S.FarTickets.content g.N.FarTickets.content c.args.self.now c.loop-o.tickets.items c.loop-o.o c.loop-o.invariant.0 all c.loop-o.invariant.1

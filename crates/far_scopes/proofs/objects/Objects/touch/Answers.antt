@@ -8,14 +8,14 @@ use Rattle.far_scopes.proofs.objects.Objects.touch.Goals as goal
 pub invariant_of-self : goal.invariant_of-self
 invariant_of-self g c =
     let lists : (p : ℕ) → list_in (heated c.self.inside.memory c.args.o) p ≡ list_in c.self.inside.memory p = subst (λ memory. (p : ℕ) → list_in memory p ≡ list_in c.self.inside.memory p) c.heat.ensures.heated c.heat.ensures.lists in
-    rw (c.heat.ensures.heated, c.touch.ensures) (tracked-touched g.T.Elem.meaning g.S.FarRead.content _ _ c.self.invariant c.args.o lists)
+    rw (c.heat.ensures.heated, c.touch.ensures) (tracked-touched g.T.Elem.meaning g.S.FarTickets.content _ _ c.self.invariant c.args.o lists)
 
 pub returns-clause-clean : goal.returns-clause-clean
 returns-clause-clean g c =
     let lists : (p : ℕ) → list_in (heated c.self.inside.memory c.args.o) p ≡ list_in c.self.inside.memory p = subst (λ memory. (p : ℕ) → list_in memory p ≡ list_in c.self.inside.memory p) c.heat.ensures.heated c.heat.ensures.lists in
-    λ clean. rw c.heat.ensures.heated (clean-touched g.T.Elem.meaning g.S.FarRead.content _ _ c.self.invariant c.args.o lists (subst (AreClean g.T.Elem.meaning g.S.FarRead.content) (sym c.self.view_is) clean))
+    λ clean. rw c.heat.ensures.heated (clean-touched g.T.Elem.meaning g.S.FarTickets.content _ _ c.self.invariant c.args.o lists (subst (AreClean g.T.Elem.meaning g.S.FarTickets.content) (sym c.self.view_is) clean))
 
 pub returns-clause-lists : goal.returns-clause-lists
 returns-clause-lists g c =
     let lists : (p : ℕ) → list_in (heated c.self.inside.memory c.args.o) p ≡ list_in c.self.inside.memory p = subst (λ memory. (p : ℕ) → list_in memory p ≡ list_in c.self.inside.memory p) c.heat.ensures.heated c.heat.ensures.lists in
-    λ p. rw (← c.self.view_is, c.heat.ensures.heated) (lists-touched g.T.Elem.meaning g.S.FarRead.content _ _ c.self.invariant c.args.o lists p)
+    λ p. rw (← c.self.view_is, c.heat.ensures.heated) (lists-touched g.T.Elem.meaning g.S.FarTickets.content _ _ c.self.invariant c.args.o lists p)

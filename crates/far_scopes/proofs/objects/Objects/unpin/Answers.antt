@@ -10,8 +10,8 @@ pub invariant_of-self-2 : goal.invariant_of-self-2
 invariant_of-self-2 g c =
     let within = subst (λ m. c.args.o < length m.entries) (sym c.self.view_is) c.requires in
     let was = word-read c.self.inside.entries.items c.args.o c.index_mut-entry.result.now within c.index_mut-entry.ensures.value in
-    tracked-recorded g.T.Elem.meaning g.S.FarRead.content _ _ c.self.invariant c.args.o c.index_mut-entry.result.now _ was
-    (λ word is. let t = c.self.invariant.each c.args.o word c.index_mut-entry.result.now is was in tracked-pins g.T.Elem.meaning g.S.FarRead.content _ _ _ word _ c.index_mut-entry.result.now _ t (λ away. absurd (c.if-entry-eq0.false (t.away away).0)))
+    tracked-recorded g.T.Elem.meaning g.S.FarTickets.content _ _ c.self.invariant c.args.o c.index_mut-entry.result.now _ was
+    (λ word is. let t = c.self.invariant.each c.args.o word c.index_mut-entry.result.now is was in tracked-pins g.T.Elem.meaning g.S.FarTickets.content _ _ _ word _ c.index_mut-entry.result.now _ t (λ away. absurd (c.if-entry-eq0.false (t.away away).0)))
 
 pub returns-clause-unpinned : goal.returns-clause-unpinned
 returns-clause-unpinned g c =
@@ -23,7 +23,7 @@ pub returns-clause-clean : goal.returns-clause-clean
 returns-clause-clean g c =
     let within = subst (λ m. c.args.o < length m.entries) (sym c.self.view_is) c.requires in
     let was = word-read c.self.inside.entries.items c.args.o c.index_mut-entry.result.now within c.index_mut-entry.ensures.value in
-    λ clean. clean-recorded g.T.Elem.meaning g.S.FarRead.content _ _ c.self.invariant c.args.o c.index_mut-entry.result.now _ was refl (subst (AreClean g.T.Elem.meaning g.S.FarRead.content) (sym c.self.view_is) clean)
+    λ clean. clean-recorded g.T.Elem.meaning g.S.FarTickets.content _ _ c.self.invariant c.args.o c.index_mut-entry.result.now _ was refl (subst (AreClean g.T.Elem.meaning g.S.FarTickets.content) (sym c.self.view_is) clean)
 
 pub returns-clause-refused : goal.returns-clause-refused
 returns-clause-refused g c =
@@ -34,4 +34,4 @@ returns-clause-refused g c =
 
 pub returns-clause-lists : goal.returns-clause-lists
 returns-clause-lists g c =
-    λ p. subst (λ m. list_of g.T.Elem.meaning g.S.FarRead.content m p ≡ list_of g.T.Elem.meaning g.S.FarRead.content c.args.self.now p) (sym (returns-clause-unpinned g c)) (lists-unpinned g.T.Elem.meaning g.S.FarRead.content c.args.self.now c.args.o p)
+    λ p. subst (λ m. list_of g.T.Elem.meaning g.S.FarTickets.content m p ≡ list_of g.T.Elem.meaning g.S.FarTickets.content c.args.self.now p) (sym (returns-clause-unpinned g c)) (lists-unpinned g.T.Elem.meaning g.S.FarTickets.content c.args.self.now c.args.o p)

@@ -7,5 +7,5 @@ use Rattle.far_vector.proofs.pieces.Pieces.len.Goals as goal
 pub returns : goal.returns
 returns g c =
     c.groups_between.ensures
-    ∙ sym (length-pieces (elements (list_of g.T.Elem.meaning g.S.FarRead.content c.self.inside.objects.now) c.self.inside.vector.now) c.self.inside.vector.now.size c.self.inside.from c.self.inside.to)
+    ∙ sym (length-pieces (elements (list_of g.T.Elem.meaning g.S.FarTickets.content c.self.inside.objects.now) c.self.inside.vector.now) c.self.inside.vector.now.size c.self.inside.from c.self.inside.to)
     ∙ ap length c.self.view_is

@@ -32,7 +32,7 @@ returns-clause-first g c =
     let there = range-free c.self.inside.objects.now c.self.inside.vector.now c.self.inside.from c.self.inside.to c.self.invariant.free in
     let more : c.self.inside.from < c.self.inside.to = omega (arith, there.0, c.if-self.false) in
     let end = c.min-end.ensures ∙ ap (min c.self.inside.to) c.group_end.ensures.end in
-    let all : List g.row.T.Denot = elements (list_of g.T.Elem.meaning g.S.FarRead.content c.self.inside.objects.now) c.self.inside.vector.now in
+    let all : List g.row.T.Denot = elements (list_of g.T.Elem.meaning g.S.FarTickets.content c.self.inside.objects.now) c.self.inside.vector.now in
     sym c.self.view_is
     ∙ subst (λ e. pieces_of all c.self.inside.vector.now.size c.self.inside.from c.self.inside.to ≡ slice_range all c.self.inside.from e ∷ pieces_of all c.self.inside.vector.now.size e c.self.inside.to) (sym end) (pieces-step all c.self.inside.vector.now.size c.group_end.ensures.shaped.some c.self.inside.from c.self.inside.to more)
     ∙ ap (λ p. p ∷ pieces_of all c.self.inside.vector.now.size c.min-end.result c.self.inside.to) (sym c.in-Ok.ensures.part)

@@ -14,9 +14,9 @@ use Rattle.far_vector.proofs.vector.FarVector.begin_group.Goals as goal
 pub invariant_of-self-2 : goal.invariant_of-self-2
 invariant_of-self-2 g c =
     let objs : c.push_reserved.new.self.items ≡ c.self.inside.objects.items ++ length c.args.objects.now.entries ∷ [] = c.push_reserved.ensures.items ∙ ap (λ (l : List ℕ). l ++ c.in_ok-o.o ∷ []) c.reserve.ensures.items ∙ ap (λ o. c.self.inside.objects.items ++ o ∷ []) c.in_ok-o.ensures.number in
-    let is = subst (λ (v : Vector g.row.T.Denot). IsVector (list_of g.T.Elem.meaning g.S.FarRead.content c.args.objects.now) v) (sym c.self.view_is) c.requires.is in
+    let is = subst (λ (v : Vector g.row.T.Denot). IsVector (list_of g.T.Elem.meaning g.S.FarTickets.content c.args.objects.now) v) (sym c.self.view_is) c.requires.is in
     let full = eqb-true c.self.inside.len (length c.self.inside.objects.items * c.self.inside.size) (subst (λ (v : Vector g.row.T.Denot). is_full v ≡ true) (sym c.self.view_is) c.requires.full) in
-    let below : All (λ o. o < length c.args.objects.now.entries) c.self.inside.objects.items = λ k d within. in-use g.T.Elem.meaning g.S.FarRead.content _ c.args.objects.now c.number.ensures.tracked _ _ (is.whole k d within) in
+    let below : All (λ o. o < length c.args.objects.now.entries) c.self.inside.objects.items = λ k d within. in-use g.T.Elem.meaning g.S.FarTickets.content _ c.args.objects.now c.number.ensures.tracked _ _ (is.whole k d within) in
     let few = bounded-rising c.self.inside.objects.items (length c.args.objects.now.entries) c.self.invariant.shaped.rising below in
     rw objs record {
       shaped = shaped-begun _ (length c.args.objects.now.entries) c.self.invariant.shaped full below (omega (arith, few, c.requires.few));
@@ -28,19 +28,19 @@ module _ (g : Over) (c : goal.After-self-2-1 g) where
   objects-are : c.push_reserved.new.self.items ≡ c.self.inside.objects.items ++ length c.args.objects.now.entries ∷ []
   objects-are = c.push_reserved.ensures.items ∙ ap (λ (l : List ℕ). l ++ c.in_ok-o.o ∷ []) c.reserve.ensures.items ∙ ap (λ o. c.self.inside.objects.items ++ o ∷ []) c.in_ok-o.ensures.number
 
-  is : IsVector (list_of g.T.Elem.meaning g.S.FarRead.content c.args.objects.now) record { column = c.self.inside.column; size = c.self.inside.size; objects = c.self.inside.objects.items; len = c.self.inside.len; blank = c.self.inside.blank }
-  is = subst (λ (v : Vector g.row.T.Denot). IsVector (list_of g.T.Elem.meaning g.S.FarRead.content c.args.objects.now) v) (sym c.self.view_is) c.requires.is
+  is : IsVector (list_of g.T.Elem.meaning g.S.FarTickets.content c.args.objects.now) record { column = c.self.inside.column; size = c.self.inside.size; objects = c.self.inside.objects.items; len = c.self.inside.len; blank = c.self.inside.blank }
+  is = subst (λ (v : Vector g.row.T.Denot). IsVector (list_of g.T.Elem.meaning g.S.FarTickets.content c.args.objects.now) v) (sym c.self.view_is) c.requires.is
 
   full : c.self.inside.len ≡ length c.self.inside.objects.items * c.self.inside.size
   full = eqb-true c.self.inside.len (length c.self.inside.objects.items * c.self.inside.size) (subst (λ (v : Vector g.row.T.Denot). is_full v ≡ true) (sym c.self.view_is) c.requires.full)
 
   below : All (λ o. o < length c.args.objects.now.entries) c.self.inside.objects.items
-  below k d within = in-use g.T.Elem.meaning g.S.FarRead.content _ c.args.objects.now c.number.ensures.tracked _ _ (is.whole k d within)
+  below k d within = in-use g.T.Elem.meaning g.S.FarTickets.content _ c.args.objects.now c.number.ensures.tracked _ _ (is.whole k d within)
 
   laid : c.deref.result.now ≡ c.args.x ∷ replicate (c.self.inside.size - 1) c.self.inside.blank
   laid = c.deref.ensures.value ∙ laid-first c.self.inside.next.items c.args.x c.self.inside.blank c.self.inside.size c.self.invariant.shaped.some c.self.invariant.long c.self.invariant.blank
 
-  has : list_of g.T.Elem.meaning g.S.FarRead.content c.create.new.self (length c.args.objects.now.entries) ≡ Some (c.args.x ∷ replicate (c.self.inside.size - 1) c.self.inside.blank)
+  has : list_of g.T.Elem.meaning g.S.FarTickets.content c.create.new.self (length c.args.objects.now.entries) ≡ Some (c.args.x ∷ replicate (c.self.inside.size - 1) c.self.inside.blank)
   has = c.in_ok-o.ensures.list.here ∙ ap Some laid
 
 pub returns-clause-written : goal.returns-clause-written
@@ -52,17 +52,17 @@ returns-clause-written g c =
 
 pub returns-clause-elements : goal.returns-clause-elements
 returns-clause-elements g c =
-    rw (← c.self.view_is, objects-are g c) (elements-begun (list_of g.T.Elem.meaning g.S.FarRead.content c.args.objects.now) (list_of g.T.Elem.meaning g.S.FarRead.content c.create.new.self) _ c.self.invariant.shaped (is g c) (full g c) (length c.args.objects.now.entries) c.in_ok-o.ensures.list.others c.args.x (has g c) (below g c))
+    rw (← c.self.view_is, objects-are g c) (elements-begun (list_of g.T.Elem.meaning g.S.FarTickets.content c.args.objects.now) (list_of g.T.Elem.meaning g.S.FarTickets.content c.create.new.self) _ c.self.invariant.shaped (is g c) (full g c) (length c.args.objects.now.entries) c.in_ok-o.ensures.list.others c.args.x (has g c) (below g c))
 
 pub returns-clause-is : goal.returns-clause-is
 returns-clause-is g c =
-    rw (objects-are g c) (vector-begun (list_of g.T.Elem.meaning g.S.FarRead.content c.args.objects.now) (list_of g.T.Elem.meaning g.S.FarRead.content c.create.new.self) _ c.self.invariant.shaped (is g c) (full g c) (length c.args.objects.now.entries) c.in_ok-o.ensures.list.others c.args.x (has g c) (below g c))
+    rw (objects-are g c) (vector-begun (list_of g.T.Elem.meaning g.S.FarTickets.content c.args.objects.now) (list_of g.T.Elem.meaning g.S.FarTickets.content c.create.new.self) _ c.self.invariant.shaped (is g c) (full g c) (length c.args.objects.now.entries) c.in_ok-o.ensures.list.others c.args.x (has g c) (below g c))
 
 pub returns-clause-apart : goal.returns-clause-apart
 returns-clause-apart g c = λ w is-w apart.
     let apart' = subst (λ (v : Vector g.row.T.Denot). AreApart v w) (sym c.self.view_is) apart in
-    let below-w : All (λ o. o < length c.args.objects.now.entries) w.objects = λ k d within. in-use g.T.Elem.meaning g.S.FarRead.content _ c.args.objects.now c.number.ensures.tracked _ _ (is-w.whole k d within) in
-    rw (objects-are g c) (untouched-begun (list_of g.T.Elem.meaning g.S.FarRead.content c.args.objects.now) (list_of g.T.Elem.meaning g.S.FarRead.content c.create.new.self) _ c.self.invariant.shaped (is g c) (full g c) (length c.args.objects.now.entries) c.in_ok-o.ensures.list.others c.args.x (has g c) (below g c) w is-w below-w apart')
+    let below-w : All (λ o. o < length c.args.objects.now.entries) w.objects = λ k d within. in-use g.T.Elem.meaning g.S.FarTickets.content _ c.args.objects.now c.number.ensures.tracked _ _ (is-w.whole k d within) in
+    rw (objects-are g c) (untouched-begun (list_of g.T.Elem.meaning g.S.FarTickets.content c.args.objects.now) (list_of g.T.Elem.meaning g.S.FarTickets.content c.create.new.self) _ c.self.invariant.shaped (is g c) (full g c) (length c.args.objects.now.entries) c.in_ok-o.ensures.list.others c.args.x (has g c) (below g c) w is-w below-w apart')
 
 pub returns-clause-object : goal.returns-clause-object
 returns-clause-object g c =

@@ -8,7 +8,7 @@ use Rattle.far_vector.proofs.vector.FarVector.object_at.Goals as goal
 
 pub returns-clause-made : goal.returns-clause-made
 returns-clause-made g c =
-    let is = subst (λ (v : Vector g.row.T.Denot). IsVector (list_of g.T.Elem.meaning g.S.FarRead.content c.args.objects.now) v) (sym c.self.view_is) c.requires.is in
+    let is = subst (λ (v : Vector g.row.T.Denot). IsVector (list_of g.T.Elem.meaning g.S.FarTickets.content c.args.objects.now) v) (sym c.self.view_is) c.requires.is in
     let within = subst (λ (v : Vector g.row.T.Denot). c.args.i < length v.objects * v.size) (sym c.self.view_is) c.requires.within in
     let has = is.whole (c.args.i / c.self.inside.size) c.index.result.now (div_below c.args.i c.self.inside.size (length c.self.inside.objects.items) c.self.invariant.shaped.some within) in
-    in-use g.T.Elem.meaning g.S.FarRead.content _ c.args.objects.now c.number.ensures.tracked c.index.result.now (λ list. length list ≡ c.self.inside.size) (subst (λ o. IsSomeAnd (list_of g.T.Elem.meaning g.S.FarRead.content c.args.objects.now o) (λ list. length list ≡ c.self.inside.size)) (sym c.index.ensures) has)
+    in-use g.T.Elem.meaning g.S.FarTickets.content _ c.args.objects.now c.number.ensures.tracked c.index.result.now (λ list. length list ≡ c.self.inside.size) (subst (λ o. IsSomeAnd (list_of g.T.Elem.meaning g.S.FarTickets.content c.args.objects.now o) (λ list. length list ≡ c.self.inside.size)) (sym c.index.ensures) has)

@@ -35,7 +35,7 @@ lend_range_mut-requires-clause-there g c κs there =
 
 module _ (g : Over) (c : goal.After-lend_range_mut g) where
   abbrev lists : Movement g.row.T.Denot g.row.S-Ticket.Denot → ℕ → Option (List g.row.T.Denot)
-  lists m = list_of g.T.Elem.meaning g.S.FarRead.content m
+  lists m = list_of g.T.Elem.meaning g.S.FarTickets.content m
 
   abbrev was : Movement g.row.T.Denot g.row.S-Ticket.Denot
   was = c.args.objects.now
@@ -67,25 +67,25 @@ module _ (g : Over) (c : goal.After-lend_range_mut g) where
   there : IsSomeAnd (list_in c.args.objects.now.memory (object_at c.args.vector.now c.args.from)) (λ list. length list ≡ c.args.vector.now.size)
   there = subst (λ p. IsSomeAnd (list_in c.args.objects.now.memory p) (λ list. length list ≡ c.args.vector.now.size)) c.writable_at-o.ensures.object c.writable_at-o.ensures.list
 
-  changes : Changes g.T.Elem.meaning g.S.FarRead.content c.args.objects.now c.args.vector.now c.args.from (object_at c.args.vector.now c.args.from) c.args.vector.now.size (c.args.to - c.args.from)
-  changes = changes-is g.T.Elem.meaning g.S.FarRead.content was v c.args.from c.writable_at-o.result c.vector.inside.size (c.args.to - c.args.from) c.writable_at-o.ensures.object size-is c.lend_range_mut.ensures.alone
+  changes : Changes g.T.Elem.meaning g.S.FarTickets.content c.args.objects.now c.args.vector.now c.args.from (object_at c.args.vector.now c.args.from) c.args.vector.now.size (c.args.to - c.args.from)
+  changes = changes-is g.T.Elem.meaning g.S.FarTickets.content was v c.args.from c.writable_at-o.result c.vector.inside.size (c.args.to - c.args.from) c.writable_at-o.ensures.object size-is c.lend_range_mut.ensures.alone
 
   is-written : (range : List g.row.T.Denot) → overwritten (written c.args.objects.now c.writable_at-o.result) c.writable_at-o.result (c.args.from % c.vector.inside.size) range ≡ range_written c.args.objects.now c.args.vector.now c.args.from range
-  is-written range = written-is g.T.Elem.meaning g.S.FarRead.content was v c.args.from c.writable_at-o.result c.vector.inside.size range range c.writable_at-o.ensures.object size-is refl
+  is-written range = written-is g.T.Elem.meaning g.S.FarTickets.content was v c.args.from c.writable_at-o.result c.vector.inside.size range range c.writable_at-o.ensures.object size-is refl
 
-  lent : c.lend_range_mut.result.now ≡ slice_range (elements (list_of g.T.Elem.meaning g.S.FarRead.content c.args.objects.now) c.args.vector.now) c.args.from c.args.to
-  lent = range-lent g.T.Elem.meaning g.S.FarRead.content was v shaped c.requires.is c.args.from c.args.to c.requires.some within same c.lend_range_mut.result.now
-      (at-place g.T.Elem.meaning g.S.FarRead.content was v (λ p size. IsSomeAnd (list_in c.args.objects.now.memory p) (λ list. c.lend_range_mut.result.now ≡ slice_range list (c.args.from % size) (c.args.from % size + (c.args.to - c.args.from)))) c.args.from c.writable_at-o.result c.vector.inside.size c.writable_at-o.ensures.object size-is c.lend_range_mut.ensures.lent)
+  lent : c.lend_range_mut.result.now ≡ slice_range (elements (list_of g.T.Elem.meaning g.S.FarTickets.content c.args.objects.now) c.args.vector.now) c.args.from c.args.to
+  lent = range-lent g.T.Elem.meaning g.S.FarTickets.content was v shaped c.requires.is c.args.from c.args.to c.requires.some within same c.lend_range_mut.result.now
+      (at-place g.T.Elem.meaning g.S.FarTickets.content was v (λ p size. IsSomeAnd (list_in c.args.objects.now.memory p) (λ list. c.lend_range_mut.result.now ≡ slice_range list (c.args.from % size) (c.args.from % size + (c.args.to - c.args.from)))) c.args.from c.writable_at-o.result c.vector.inside.size c.writable_at-o.ensures.object size-is c.lend_range_mut.ensures.lent)
 
   module _ (range : List g.row.T.Denot) (long : length range ≡ c.args.to - c.args.from) where
     abbrev now : Movement g.row.T.Denot g.row.S-Ticket.Denot
     now = range_written c.args.objects.now c.args.vector.now c.args.from range
 
-    places : WritesPlaces (list_of g.T.Elem.meaning g.S.FarRead.content c.args.objects.now) (list_of g.T.Elem.meaning g.S.FarRead.content now) c.args.vector.now c.args.from range
-    places = places-range g.T.Elem.meaning g.S.FarRead.content was v shaped c.requires.is c.args.from (c.args.to - c.args.from) inside fits there changes range long
+    places : WritesPlaces (list_of g.T.Elem.meaning g.S.FarTickets.content c.args.objects.now) (list_of g.T.Elem.meaning g.S.FarTickets.content now) c.args.vector.now c.args.from range
+    places = places-range g.T.Elem.meaning g.S.FarTickets.content was v shaped c.requires.is c.args.from (c.args.to - c.args.from) inside fits there changes range long
 
-    others : KeepsOthers (list_of g.T.Elem.meaning g.S.FarRead.content c.args.objects.now) (list_of g.T.Elem.meaning g.S.FarRead.content now) (object_at c.args.vector.now c.args.from)
-    others = others-range g.T.Elem.meaning g.S.FarRead.content was v shaped c.requires.is c.args.from (c.args.to - c.args.from) inside fits there changes range long
+    others : KeepsOthers (list_of g.T.Elem.meaning g.S.FarTickets.content c.args.objects.now) (list_of g.T.Elem.meaning g.S.FarTickets.content now) (object_at c.args.vector.now c.args.from)
+    others = others-range g.T.Elem.meaning g.S.FarTickets.content was v shaped c.requires.is c.args.from (c.args.to - c.args.from) inside fits there changes range long
 
     elements-are : elements (lists now) v ≡ take c.args.from (elements (lists was) v) ++ (range ++ drop c.args.to (elements (lists was) v))
     elements-are =
@@ -103,10 +103,10 @@ returns g c = (
     lent = lent g c;
     elements = elements-are g c;
     is = is-vector g c;
-    apart = λ range long w is-w apart. untouched (list_of g.T.Elem.meaning g.S.FarRead.content c.args.objects.now) (list_of g.T.Elem.meaning g.S.FarRead.content (range_written c.args.objects.now c.args.vector.now c.args.from range)) c.args.vector.now w is-w apart (object_at c.args.vector.now c.args.from) (others g c range long) (c.args.from / c.args.vector.now.size) (object-there c.args.vector.now (shaped g c) c.args.from (inside g c)) c.args.vector.now apart;
+    apart = λ range long w is-w apart. untouched (list_of g.T.Elem.meaning g.S.FarTickets.content c.args.objects.now) (list_of g.T.Elem.meaning g.S.FarTickets.content (range_written c.args.objects.now c.args.vector.now c.args.from range)) c.args.vector.now w is-w apart (object_at c.args.vector.now c.args.from) (others g c range long) (c.args.from / c.args.vector.now.size) (object-there c.args.vector.now (shaped g c) c.args.from (inside g c)) c.args.vector.now apart;
     lists = others g c;
-    others = λ range. at-place g.T.Elem.meaning g.S.FarRead.content c.args.objects.now c.args.vector.now (λ p size. ChangesObject c.args.objects.now (overwritten (written c.args.objects.now p) p (c.args.from % size) range) p) c.args.from c.writable_at-o.result c.vector.inside.size c.writable_at-o.ensures.object (size-is g c) (c.lend_range_mut.ensures.others range);
-    clean = λ range long clean. subst (λ (m : Movement g.row.T.Denot g.row.S-Ticket.Denot). AreClean g.T.Elem.meaning g.S.FarRead.content m) (is-written g c range) (c.lend_range_mut.ensures.clean range (omega (arith, long)) clean);
-    store = λ range name here. subst (λ (m : Movement g.row.T.Denot g.row.S-Ticket.Denot). AreHere g.S.FarRead.is_of name m) (is-written g c range) (c.lend_range_mut.ensures.store range name here);
+    others = λ range. at-place g.T.Elem.meaning g.S.FarTickets.content c.args.objects.now c.args.vector.now (λ p size. ChangesObject c.args.objects.now (overwritten (written c.args.objects.now p) p (c.args.from % size) range) p) c.args.from c.writable_at-o.result c.vector.inside.size c.writable_at-o.ensures.object (size-is g c) (c.lend_range_mut.ensures.others range);
+    clean = λ range long clean. subst (λ (m : Movement g.row.T.Denot g.row.S-Ticket.Denot). AreClean g.T.Elem.meaning g.S.FarTickets.content m) (is-written g c range) (c.lend_range_mut.ensures.clean range (omega (arith, long)) clean);
+    store = λ range name here. subst (λ (m : Movement g.row.T.Denot g.row.S-Ticket.Denot). AreHere g.S.FarTickets.is_of name m) (is-written g c range) (c.lend_range_mut.ensures.store range name here);
   },
 )

@@ -31,16 +31,16 @@ module _ (g : Over) (c : goal.After-uncreate g) where
 
 pub returns-clause-elements : goal.returns-clause-elements
 returns-clause-elements g c =
-    let is = subst (λ (v : Vector g.row.T.Denot). IsVector (list_of g.T.Elem.meaning g.S.FarRead.content c.args.objects.now) v) (sym c.self.view_is) c.requires.is in
-    rw (← c.self.view_is, objects-are g c) (elements-unpushed (list_of g.T.Elem.meaning g.S.FarRead.content c.args.objects.now) (list_of g.T.Elem.meaning g.S.FarRead.content c.uncreate.new.self) _ c.self.invariant.shaped is (alone g c) (length c.args.objects.now.entries - 1) (last g c) c.uncreate.ensures.list.others)
+    let is = subst (λ (v : Vector g.row.T.Denot). IsVector (list_of g.T.Elem.meaning g.S.FarTickets.content c.args.objects.now) v) (sym c.self.view_is) c.requires.is in
+    rw (← c.self.view_is, objects-are g c) (elements-unpushed (list_of g.T.Elem.meaning g.S.FarTickets.content c.args.objects.now) (list_of g.T.Elem.meaning g.S.FarTickets.content c.uncreate.new.self) _ c.self.invariant.shaped is (alone g c) (length c.args.objects.now.entries - 1) (last g c) c.uncreate.ensures.list.others)
 
 pub returns-clause-is : goal.returns-clause-is
 returns-clause-is g c =
-    let is = subst (λ (v : Vector g.row.T.Denot). IsVector (list_of g.T.Elem.meaning g.S.FarRead.content c.args.objects.now) v) (sym c.self.view_is) c.requires.is in
-    rw (objects-are g c) (vector-unpushed (list_of g.T.Elem.meaning g.S.FarRead.content c.args.objects.now) (list_of g.T.Elem.meaning g.S.FarRead.content c.uncreate.new.self) _ c.self.invariant.shaped is (alone g c) (length c.args.objects.now.entries - 1) (last g c) c.uncreate.ensures.list.others)
+    let is = subst (λ (v : Vector g.row.T.Denot). IsVector (list_of g.T.Elem.meaning g.S.FarTickets.content c.args.objects.now) v) (sym c.self.view_is) c.requires.is in
+    rw (objects-are g c) (vector-unpushed (list_of g.T.Elem.meaning g.S.FarTickets.content c.args.objects.now) (list_of g.T.Elem.meaning g.S.FarTickets.content c.uncreate.new.self) _ c.self.invariant.shaped is (alone g c) (length c.args.objects.now.entries - 1) (last g c) c.uncreate.ensures.list.others)
 
 pub returns-clause-apart : goal.returns-clause-apart
 returns-clause-apart g c = λ w is-w apart.
-    let is = subst (λ (v : Vector g.row.T.Denot). IsVector (list_of g.T.Elem.meaning g.S.FarRead.content c.args.objects.now) v) (sym c.self.view_is) c.requires.is in
+    let is = subst (λ (v : Vector g.row.T.Denot). IsVector (list_of g.T.Elem.meaning g.S.FarTickets.content c.args.objects.now) v) (sym c.self.view_is) c.requires.is in
     let apart' = subst (λ (v : Vector g.row.T.Denot). AreApart v w) (sym c.self.view_is) apart in
-    rw (objects-are g c) (untouched-unpushed (list_of g.T.Elem.meaning g.S.FarRead.content c.args.objects.now) (list_of g.T.Elem.meaning g.S.FarRead.content c.uncreate.new.self) _ c.self.invariant.shaped is (alone g c) (length c.args.objects.now.entries - 1) (last g c) c.uncreate.ensures.list.others w is-w apart')
+    rw (objects-are g c) (untouched-unpushed (list_of g.T.Elem.meaning g.S.FarTickets.content c.args.objects.now) (list_of g.T.Elem.meaning g.S.FarTickets.content c.uncreate.new.self) _ c.self.invariant.shaped is (alone g c) (length c.args.objects.now.entries - 1) (last g c) c.uncreate.ensures.list.others w is-w apart')

@@ -10,4 +10,4 @@ pub returns-clause-list : goal.returns-clause-list
 returns-clause-list g c =
     let free = lent-written c.args.objects.now c.object_at-o.result (subst (λ o. write_refusal c.args.objects.now o ≡ None) (sym c.object_at-o.ensures.object) c.requires.free) in
     found-unless c.lend.result (list_in c.args.objects.now.memory c.object_at-o.result) (λ list. list.now) (λ list. length list ≡ c.args.self.now.size) (c.lend.ensures.refused ∙ free) c.lend.ensures.lent
-    (λ list is. subst (λ l. IsSomeAnd l (λ xs. length xs ≡ c.args.self.now.size)) (list-local g.T.Elem.meaning g.S.FarRead.content c.args.objects.now c.object_at-o.result list is) c.object_at-o.ensures.list)
+    (λ list is. subst (λ l. IsSomeAnd l (λ xs. length xs ≡ c.args.self.now.size)) (list-local g.T.Elem.meaning g.S.FarTickets.content c.args.objects.now c.object_at-o.result list is) c.object_at-o.ensures.list)

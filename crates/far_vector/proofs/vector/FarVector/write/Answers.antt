@@ -30,7 +30,7 @@ module _ (g : Over) (c : goal.After-objects-1 g) where
   now = overwritten (written c.args.objects.now c.writable_at-o.result) c.writable_at-o.result (c.args.i % c.self.inside.size) (set c.lend_range_mut-range.result.now 0 c.args.x)
 
   is-written : now ≡ range_written c.args.objects.now c.args.self.now c.args.i (c.args.x ∷ [])
-  is-written = written-is g.T.Elem.meaning g.S.FarRead.content c.args.objects.now c.args.self.now c.args.i c.writable_at-o.result c.self.inside.size (set c.lend_range_mut-range.result.now 0 c.args.x) (c.args.x ∷ []) c.writable_at-o.ensures.object size-is (single-set c.lend_range_mut-range.result.now c.args.x (omega (arith, one)))
+  is-written = written-is g.T.Elem.meaning g.S.FarTickets.content c.args.objects.now c.args.self.now c.args.i c.writable_at-o.result c.self.inside.size (set c.lend_range_mut-range.result.now 0 c.args.x) (c.args.x ∷ []) c.writable_at-o.ensures.object size-is (single-set c.lend_range_mut-range.result.now c.args.x (omega (arith, one)))
 
   fits : c.args.i % c.args.self.now.size + 1 ≤ c.args.self.now.size
   fits = omega (arith, mod_below c.args.i c.args.self.now.size shaped.some)
@@ -46,13 +46,13 @@ returns-clause-written g c = is-written g c
 
 pub returns-clause-places : goal.returns-clause-places
 returns-clause-places g c =
-    subst (λ (m : Movement g.row.T.Denot g.row.S-Ticket.Denot). WritesPlaces (list_of g.T.Elem.meaning g.S.FarRead.content c.args.objects.now) (list_of g.T.Elem.meaning g.S.FarRead.content m) c.args.self.now c.args.i (c.args.x ∷ [])) (sym (is-written g c))
-    (places-range g.T.Elem.meaning g.S.FarRead.content c.args.objects.now c.args.self.now (shaped g c) c.requires.is c.args.i 1 c.requires.within (fits g c) (there g c) (changes-is g.T.Elem.meaning g.S.FarRead.content c.args.objects.now c.args.self.now c.args.i c.writable_at-o.result c.self.inside.size 1 c.writable_at-o.ensures.object (size-is g c) c.lend_range_mut-range.ensures.alone) (c.args.x ∷ []) refl)
+    subst (λ (m : Movement g.row.T.Denot g.row.S-Ticket.Denot). WritesPlaces (list_of g.T.Elem.meaning g.S.FarTickets.content c.args.objects.now) (list_of g.T.Elem.meaning g.S.FarTickets.content m) c.args.self.now c.args.i (c.args.x ∷ [])) (sym (is-written g c))
+    (places-range g.T.Elem.meaning g.S.FarTickets.content c.args.objects.now c.args.self.now (shaped g c) c.requires.is c.args.i 1 c.requires.within (fits g c) (there g c) (changes-is g.T.Elem.meaning g.S.FarTickets.content c.args.objects.now c.args.self.now c.args.i c.writable_at-o.result c.self.inside.size 1 c.writable_at-o.ensures.object (size-is g c) c.lend_range_mut-range.ensures.alone) (c.args.x ∷ []) refl)
 
 pub returns-clause-lists : goal.returns-clause-lists
 returns-clause-lists g c =
-    subst (λ (m : Movement g.row.T.Denot g.row.S-Ticket.Denot). KeepsOthers (list_of g.T.Elem.meaning g.S.FarRead.content c.args.objects.now) (list_of g.T.Elem.meaning g.S.FarRead.content m) (object_at c.args.self.now c.args.i)) (sym (is-written g c))
-    (others-range g.T.Elem.meaning g.S.FarRead.content c.args.objects.now c.args.self.now (shaped g c) c.requires.is c.args.i 1 c.requires.within (fits g c) (there g c) (changes-is g.T.Elem.meaning g.S.FarRead.content c.args.objects.now c.args.self.now c.args.i c.writable_at-o.result c.self.inside.size 1 c.writable_at-o.ensures.object (size-is g c) c.lend_range_mut-range.ensures.alone) (c.args.x ∷ []) refl)
+    subst (λ (m : Movement g.row.T.Denot g.row.S-Ticket.Denot). KeepsOthers (list_of g.T.Elem.meaning g.S.FarTickets.content c.args.objects.now) (list_of g.T.Elem.meaning g.S.FarTickets.content m) (object_at c.args.self.now c.args.i)) (sym (is-written g c))
+    (others-range g.T.Elem.meaning g.S.FarTickets.content c.args.objects.now c.args.self.now (shaped g c) c.requires.is c.args.i 1 c.requires.within (fits g c) (there g c) (changes-is g.T.Elem.meaning g.S.FarTickets.content c.args.objects.now c.args.self.now c.args.i c.writable_at-o.result c.self.inside.size 1 c.writable_at-o.ensures.object (size-is g c) c.lend_range_mut-range.ensures.alone) (c.args.x ∷ []) refl)
 
 pub returns-clause-clean : goal.returns-clause-clean
 returns-clause-clean g c = c.lend_range_mut-range.ensures.clean (set c.lend_range_mut-range.result.now 0 c.args.x) (set-long g c)

@@ -27,8 +27,8 @@ fill_places-requires-clause-shaped g t c κs within =
 
 pub fill_places-requires-clause-beside : goal.fill_places-requires-clause-beside
 fill_places-requires-clause-beside g t c κs within =
-    beside-rest (number_lists g.S.FarRead.content c.args.objects.now) (number_lists g.S.FarRead.content c.push.new.objects) c.in-Some.column.now c.push.new.self c.in-Some.columns.now
-    (subst (λ l. AreVectors (number_lists g.S.FarRead.content c.args.objects.now) l) c.in-Some.ensures.cases.0 c.requires.beside) record { is = c.push.ensures.is; others = c.push.ensures.apart }
+    beside-rest (number_lists g.S.FarTickets.content c.args.objects.now) (number_lists g.S.FarTickets.content c.push.new.objects) c.in-Some.column.now c.push.new.self c.in-Some.columns.now
+    (subst (λ l. AreVectors (number_lists g.S.FarTickets.content c.args.objects.now) l) c.in-Some.ensures.cases.0 c.requires.beside) record { is = c.push.ensures.is; others = c.push.ensures.apart }
 
 pub fill_places-requires-clause-free : goal.fill_places-requires-clause-free
 fill_places-requires-clause-free g t c κs within =
@@ -36,8 +36,8 @@ fill_places-requires-clause-free g t c κs within =
     (subst (λ o. ChangesObject c.args.objects.now c.push.new.objects o)
     (begun-object c.in-Some.column.now c.push.new.self _ (All-head (λ (v : Vector (Option ℤ)). is_full v ≡ false) c.in-Some.column.now c.in-Some.columns.now (subst (λ l. All (λ (v : Vector (Option ℤ)). is_full v ≡ false) l) c.in-Some.ensures.cases.0 c.requires.begun)) c.in-Ok.ensures.pushed)
     c.in-Ok.ensures.others)
-    (number_lists g.S.FarRead.content c.args.objects.now)
-    (subst (λ l. AreVectors (number_lists g.S.FarRead.content c.args.objects.now) l) c.in-Some.ensures.cases.0 c.requires.beside)
+    (number_lists g.S.FarTickets.content c.args.objects.now)
+    (subst (λ l. AreVectors (number_lists g.S.FarTickets.content c.args.objects.now) l) c.in-Some.ensures.cases.0 c.requires.beside)
     (subst (λ l. All IsShaped l) c.in-Some.ensures.cases.0 c.requires.shaped)
     (subst (λ l. All (λ (v : Vector (Option ℤ)). is_full v ≡ false) l) c.in-Some.ensures.cases.0 c.requires.begun)
     (subst (λ l. All (λ v. push_refusal c.args.objects.now v ≡ None) l) c.in-Some.ensures.cases.0 c.requires.free)
@@ -50,9 +50,9 @@ returns-clause-pushed g t c = λ n.
 
 pub returns-clause-numbers : goal.returns-clause-numbers
 returns-clause-numbers g t c =
-    let old = number_lists g.S.FarRead.content c.args.objects.now in
-    let mid = number_lists g.S.FarRead.content c.push.new.objects in
-    let new = number_lists g.S.FarRead.content c.fill_places.new.objects in
+    let old = number_lists g.S.FarTickets.content c.args.objects.now in
+    let mid = number_lists g.S.FarTickets.content c.push.new.objects in
+    let new = number_lists g.S.FarTickets.content c.fill_places.new.objects in
     let beside = subst (λ l. AreVectors old l) c.in-Some.ensures.cases.0 c.requires.beside in
     let all = numbers-all old mid c.in-Some.column.now c.push.new.self c.in-Some.columns.now beside record { is = c.push.ensures.is; others = c.push.ensures.apart } new c.fill_places.new.columns c.fill_places.ensures.beside c.fill_places.ensures.others
     c.in-Some-split_first.number.now c.in-Some-split_first.numbers.now c.in-Ok.ensures.numbers c.fill_places.ensures.numbers in
@@ -60,15 +60,15 @@ returns-clause-numbers g t c =
 
 pub returns-clause-beside : goal.returns-clause-beside
 returns-clause-beside g t c =
-    let old = number_lists g.S.FarRead.content c.args.objects.now in
-    beside-all old (number_lists g.S.FarRead.content c.push.new.objects) c.in-Some.column.now c.push.new.self c.in-Some.columns.now (subst (λ l. AreVectors old l) c.in-Some.ensures.cases.0 c.requires.beside) record { is = c.push.ensures.is; others = c.push.ensures.apart }
-    (number_lists g.S.FarRead.content c.fill_places.new.objects) c.fill_places.new.columns c.fill_places.ensures.beside c.fill_places.ensures.others
+    let old = number_lists g.S.FarTickets.content c.args.objects.now in
+    beside-all old (number_lists g.S.FarTickets.content c.push.new.objects) c.in-Some.column.now c.push.new.self c.in-Some.columns.now (subst (λ l. AreVectors old l) c.in-Some.ensures.cases.0 c.requires.beside) record { is = c.push.ensures.is; others = c.push.ensures.apart }
+    (number_lists g.S.FarTickets.content c.fill_places.new.objects) c.fill_places.new.columns c.fill_places.ensures.beside c.fill_places.ensures.others
 
 pub returns-clause-others : goal.returns-clause-others
 returns-clause-others g t c =
-    let old = number_lists g.S.FarRead.content c.args.objects.now in
-    rw c.in-Some.ensures.cases.0 (keeps-all old (number_lists g.S.FarRead.content c.push.new.objects) c.in-Some.column.now c.push.new.self c.in-Some.columns.now (subst (λ l. AreVectors old l) c.in-Some.ensures.cases.0 c.requires.beside) record { is = c.push.ensures.is; others = c.push.ensures.apart }
-    (number_lists g.S.FarRead.content c.fill_places.new.objects) c.fill_places.new.columns c.fill_places.ensures.beside c.fill_places.ensures.others)
+    let old = number_lists g.S.FarTickets.content c.args.objects.now in
+    rw c.in-Some.ensures.cases.0 (keeps-all old (number_lists g.S.FarTickets.content c.push.new.objects) c.in-Some.column.now c.push.new.self c.in-Some.columns.now (subst (λ l. AreVectors old l) c.in-Some.ensures.cases.0 c.requires.beside) record { is = c.push.ensures.is; others = c.push.ensures.apart }
+    (number_lists g.S.FarTickets.content c.fill_places.new.objects) c.fill_places.new.columns c.fill_places.ensures.beside c.fill_places.ensures.others)
 
 pub returns-clause-clean : goal.returns-clause-clean
 returns-clause-clean g t c = λ clean. c.fill_places.ensures.clean (c.push.ensures.clean clean)

@@ -26,8 +26,8 @@ begin_groups-requires-clause-begin g t c κs within =
 
 pub begin_groups-requires-clause-beside : goal.begin_groups-requires-clause-beside
 begin_groups-requires-clause-beside g t c κs within =
-    beside-rest (number_lists g.S.FarRead.content c.args.objects.now) (number_lists g.S.FarRead.content c.push.new.objects) c.in-Some.column.now c.push.new.self c.in-Some.columns.now
-    (subst (λ l. AreVectors (number_lists g.S.FarRead.content c.args.objects.now) l) c.in-Some.ensures.cases.0 c.requires.beside) record { is = c.push.ensures.is; others = c.push.ensures.apart }
+    beside-rest (number_lists g.S.FarTickets.content c.args.objects.now) (number_lists g.S.FarTickets.content c.push.new.objects) c.in-Some.column.now c.push.new.self c.in-Some.columns.now
+    (subst (λ l. AreVectors (number_lists g.S.FarTickets.content c.args.objects.now) l) c.in-Some.ensures.cases.0 c.requires.beside) record { is = c.push.ensures.is; others = c.push.ensures.apart }
 
 pub begin_groups-requires-clause-few : goal.begin_groups-requires-clause-few
 begin_groups-requires-clause-few g t c κs within =
@@ -38,7 +38,7 @@ begin_groups-requires-clause-few g t c κs within =
 
 pub unpush-requires-clause-is : goal.unpush-requires-clause-is
 unpush-requires-clause-is g t c κs within =
-    subst (λ m. IsVector (number_lists g.S.FarRead.content m) c.push.new.self) (sym c.in-Err.ensures.err.1) c.push.ensures.is
+    subst (λ m. IsVector (number_lists g.S.FarTickets.content m) c.push.new.self) (sym c.in-Err.ensures.err.1) c.push.ensures.is
 
 pub unpush-requires-clause-alone : goal.unpush-requires-clause-alone
 unpush-requires-clause-alone g t c κs within =
@@ -87,26 +87,26 @@ returns-clause-pushed g t c =
 
 pub returns-clause-numbers : goal.returns-clause-numbers
 returns-clause-numbers g t c =
-    let old = number_lists g.S.FarRead.content c.args.objects.now in
-    let mid = number_lists g.S.FarRead.content c.push.new.objects in
-    let new = number_lists g.S.FarRead.content c.begin_groups.new.objects in
+    let old = number_lists g.S.FarTickets.content c.args.objects.now in
+    let mid = number_lists g.S.FarTickets.content c.push.new.objects in
+    let new = number_lists g.S.FarTickets.content c.begin_groups.new.objects in
     let beside = subst (λ l. AreVectors old l) c.in-Some.ensures.cases.0 c.requires.beside in
     rw (c.in-Some.ensures.cases.0, c.in-Some-split_first.ensures.cases.0) (numbers-all old mid c.in-Some.column.now c.push.new.self c.in-Some.columns.now beside record { is = c.push.ensures.is; others = c.push.ensures.apart } new c.begin_groups.new.columns c.in_default-begin_groups.ensures.beside c.in_default-begin_groups.ensures.others
     c.in-Some-split_first.number.now c.in-Some-split_first.numbers.now c.in_ok-push.ensures.numbers c.in_default-begin_groups.ensures.numbers)
 
 pub returns-clause-beside : goal.returns-clause-beside
 returns-clause-beside g t c =
-    let old = number_lists g.S.FarRead.content c.args.objects.now in
-    let mid = number_lists g.S.FarRead.content c.push.new.objects in
-    let new = number_lists g.S.FarRead.content c.begin_groups.new.objects in
+    let old = number_lists g.S.FarTickets.content c.args.objects.now in
+    let mid = number_lists g.S.FarTickets.content c.push.new.objects in
+    let new = number_lists g.S.FarTickets.content c.begin_groups.new.objects in
     let beside = subst (λ l. AreVectors old l) c.in-Some.ensures.cases.0 c.requires.beside in
     beside-all old mid c.in-Some.column.now c.push.new.self c.in-Some.columns.now beside record { is = c.push.ensures.is; others = c.push.ensures.apart } new c.begin_groups.new.columns c.in_default-begin_groups.ensures.beside c.in_default-begin_groups.ensures.others
 
 pub returns-clause-others : goal.returns-clause-others
 returns-clause-others g t c =
-    let old = number_lists g.S.FarRead.content c.args.objects.now in
-    let mid = number_lists g.S.FarRead.content c.push.new.objects in
-    let new = number_lists g.S.FarRead.content c.begin_groups.new.objects in
+    let old = number_lists g.S.FarTickets.content c.args.objects.now in
+    let mid = number_lists g.S.FarTickets.content c.push.new.objects in
+    let new = number_lists g.S.FarTickets.content c.begin_groups.new.objects in
     let beside = subst (λ l. AreVectors old l) c.in-Some.ensures.cases.0 c.requires.beside in
     rw c.in-Some.ensures.cases.0 (keeps-all old mid c.in-Some.column.now c.push.new.self c.in-Some.columns.now beside record { is = c.push.ensures.is; others = c.push.ensures.apart } new c.begin_groups.new.columns c.in_default-begin_groups.ensures.beside c.in_default-begin_groups.ensures.others)
 

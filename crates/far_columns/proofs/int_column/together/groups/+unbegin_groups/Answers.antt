@@ -7,7 +7,7 @@ use Rattle.far_columns.proofs.int_column.together.groups.+unbegin_groups.Goals a
 
 pub unbegin_groups-requires-clause-beside : goal.unbegin_groups-requires-clause-beside
 unbegin_groups-requires-clause-beside g t c κs within =
-    let old = number_lists g.S.FarRead.content c.args.objects.now in
+    let old = number_lists g.S.FarTickets.content c.args.objects.now in
     beside-tail old c.in-Some.first.now c.in-Some.others.now (subst (AreVectors old) c.in-Some.ensures.cases.0 c.requires.beside)
 
 pub unbegin_groups-requires-clause-begun : goal.unbegin_groups-requires-clause-begun
@@ -15,8 +15,8 @@ unbegin_groups-requires-clause-begun g t c κs within = rest-last c.args.objects
 
 pub unpush-requires-clause-is : goal.unpush-requires-clause-is
 unpush-requires-clause-is g t c κs within =
-    let old = number_lists g.S.FarRead.content c.args.objects.now in
-    first-stays old (number_lists g.S.FarRead.content c.unbegin_groups.new.objects) old c.in-Some.first.now c.in-Some.first.now c.in-Some.others.now c.unbegin_groups.new.columns (subst (AreVectors old) c.in-Some.ensures.cases.0 c.requires.beside) c.unbegin_groups.ensures.beside c.unbegin_groups.ensures.others
+    let old = number_lists g.S.FarTickets.content c.args.objects.now in
+    first-stays old (number_lists g.S.FarTickets.content c.unbegin_groups.new.objects) old c.in-Some.first.now c.in-Some.first.now c.in-Some.others.now c.unbegin_groups.new.columns (subst (AreVectors old) c.in-Some.ensures.cases.0 c.requires.beside) c.unbegin_groups.ensures.beside c.unbegin_groups.ensures.others
 
 pub unpush-requires-clause-last : goal.unpush-requires-clause-last
 unpush-requires-clause-last g t c κs within = (first-last c.args.objects.now c.in-Some.first.now c.in-Some.others.now (subst (AreBegunLast c.args.objects.now) c.in-Some.ensures.cases.0 c.requires.begun) c.unbegin_groups.new.objects c.unbegin_groups.ensures.uncreated c.unbegin_groups.ensures.below).last
@@ -29,16 +29,16 @@ unpush-requires-clause-unpinned g t c κs within = (first-last c.args.objects.no
 
 pub returns-clause-beside : goal.returns-clause-beside
 returns-clause-beside g t c =
-    let old = number_lists g.S.FarRead.content c.args.objects.now in
-    beside-back old (number_lists g.S.FarRead.content c.unbegin_groups.new.objects) (number_lists g.S.FarRead.content c.unpush.new.objects) c.in-Some.first.now c.unpush.new.self c.in-Some.others.now c.unbegin_groups.new.columns (subst (AreVectors old) c.in-Some.ensures.cases.0 c.requires.beside) c.unbegin_groups.ensures.beside c.unbegin_groups.ensures.others record { is = c.unpush.ensures.is; others = c.unpush.ensures.apart }
+    let old = number_lists g.S.FarTickets.content c.args.objects.now in
+    beside-back old (number_lists g.S.FarTickets.content c.unbegin_groups.new.objects) (number_lists g.S.FarTickets.content c.unpush.new.objects) c.in-Some.first.now c.unpush.new.self c.in-Some.others.now c.unbegin_groups.new.columns (subst (AreVectors old) c.in-Some.ensures.cases.0 c.requires.beside) c.unbegin_groups.ensures.beside c.unbegin_groups.ensures.others record { is = c.unpush.ensures.is; others = c.unpush.ensures.apart }
 
 pub returns-clause-numbers : goal.returns-clause-numbers
 returns-clause-numbers g t c =
-    let old = number_lists g.S.FarRead.content c.args.objects.now in
-    rw c.in-Some.ensures.cases.0 (numbers-back old (number_lists g.S.FarRead.content c.unbegin_groups.new.objects) (number_lists g.S.FarRead.content c.unpush.new.objects) c.in-Some.first.now c.unpush.new.self c.in-Some.others.now c.unbegin_groups.new.columns (subst (AreVectors old) c.in-Some.ensures.cases.0 c.requires.beside) c.unbegin_groups.ensures.beside c.unbegin_groups.ensures.others record { is = c.unpush.ensures.is; others = c.unpush.ensures.apart }
+    let old = number_lists g.S.FarTickets.content c.args.objects.now in
+    rw c.in-Some.ensures.cases.0 (numbers-back old (number_lists g.S.FarTickets.content c.unbegin_groups.new.objects) (number_lists g.S.FarTickets.content c.unpush.new.objects) c.in-Some.first.now c.unpush.new.self c.in-Some.others.now c.unbegin_groups.new.columns (subst (AreVectors old) c.in-Some.ensures.cases.0 c.requires.beside) c.unbegin_groups.ensures.beside c.unbegin_groups.ensures.others record { is = c.unpush.ensures.is; others = c.unpush.ensures.apart }
     c.unpush.ensures.numbers c.unbegin_groups.ensures.numbers)
 
 pub returns-clause-others : goal.returns-clause-others
 returns-clause-others g t c =
-    let old = number_lists g.S.FarRead.content c.args.objects.now in
-    rw c.in-Some.ensures.cases.0 (keeps-back old (number_lists g.S.FarRead.content c.unbegin_groups.new.objects) (number_lists g.S.FarRead.content c.unpush.new.objects) c.in-Some.first.now c.unpush.new.self c.in-Some.others.now c.unbegin_groups.new.columns (subst (AreVectors old) c.in-Some.ensures.cases.0 c.requires.beside) c.unbegin_groups.ensures.beside c.unbegin_groups.ensures.others record { is = c.unpush.ensures.is; others = c.unpush.ensures.apart })
+    let old = number_lists g.S.FarTickets.content c.args.objects.now in
+    rw c.in-Some.ensures.cases.0 (keeps-back old (number_lists g.S.FarTickets.content c.unbegin_groups.new.objects) (number_lists g.S.FarTickets.content c.unpush.new.objects) c.in-Some.first.now c.unpush.new.self c.in-Some.others.now c.unbegin_groups.new.columns (subst (AreVectors old) c.in-Some.ensures.cases.0 c.requires.beside) c.unbegin_groups.ensures.beside c.unbegin_groups.ensures.others record { is = c.unpush.ensures.is; others = c.unpush.ensures.apart })

@@ -17,7 +17,7 @@ last_is_writable-requires-clause-begun g c κs within =
 
 pub last_is_writable-requires-clause-is : goal.last_is_writable-requires-clause-is
 last_is_writable-requires-clause-is g c κs within =
-    subst (IsTextColumn (lists_of g.S.FarRead.content c.args.objects.now)) (sym c.column-item.is) (c.requires.each c.loop-column.column-index c.column-item.result c.loop-column-test.true)
+    subst (IsTextColumn (lists_of g.S.FarTickets.content c.args.objects.now)) (sym c.column-item.is) (c.requires.each c.loop-column.column-index c.column-item.result c.loop-column-test.true)
 
 pub returns-in_err-last_is_writable : goal.returns-in_err-last_is_writable
 returns-in_err-last_is_writable g c =
@@ -26,8 +26,8 @@ returns-in_err-last_is_writable g c =
     let at = c.column-item.result in
     let k = c.loop-column.column-index in
     let begun = subst (λ (t : Texts). begins_group t ≡ false) (sym c.column-item.is) (c.requires.begun k at c.loop-column-test.true) in
-    let free = subst (λ (t : Texts). next_length_refusal g.S.FarRead.content m t ≡ None) (sym c.column-item.is) (c.requires.here k at c.loop-column-test.true) in
-    let here = last-here m g.S.FarRead.content at begun free in
+    let free = subst (λ (t : Texts). next_length_refusal g.S.FarTickets.content m t ≡ None) (sym c.column-item.is) (c.requires.here k at c.loop-column-test.true) in
+    let here = last-here m g.S.FarTickets.content at begun free in
     let due = written-due (absent m (last_object at)) (written_out m (last_object at)) c.in_err-last_is_writable.field-0.0 here c.in_err-last_is_writable.ensures in
     let some = c.loop-column.invariant ∙ any-here (λ (t : Texts). written_out m (last_object t)) c.args.columns.now k at c.loop-column-test.true c.column-item.is due.0 in
     rw (p.1, p.2) (ap Some (sym due.1) ∙ sym (ap (λ (b : Bool). cond b (Some refusal.EditsUsedUp) None) some))

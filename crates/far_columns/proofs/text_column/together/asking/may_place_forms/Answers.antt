@@ -12,16 +12,16 @@ use Rattle.far_columns.proofs.text_column.together.asking.may_place_forms.Goals 
 
 pub fits_in_order-requires-clause-some : goal.fits_in_order-requires-clause-some
 fits_in_order-requires-clause-some g c κs within =
-    subst (All (λ len. 0 < len)) (sym (c.next_lens-lens.ensures 0)) (lens-some (lists_of g.S.FarRead.content c.args.objects.now) 0 c.args.columns.now c.args.texts.now)
+    subst (All (λ len. 0 < len)) (sym (c.next_lens-lens.ensures 0)) (lens-some (lists_of g.S.FarTickets.content c.args.objects.now) 0 c.args.columns.now c.args.texts.now)
 
 pub all_writable-requires-clause-begun : goal.all_writable-requires-clause-begun
 all_writable-requires-clause-begun g c κs within =
-    none-begin (lists_of g.S.FarRead.content c.args.objects.now) c.args.columns.now c.requires.are c.known_groups.ensures (sym c.all_begin.ensures ∙ c.if-all_begin.false)
+    none-begin (lists_of g.S.FarTickets.content c.args.objects.now) c.args.columns.now c.requires.are c.known_groups.ensures (sym c.all_begin.ensures ∙ c.if-all_begin.false)
 
 pub returns : goal.returns
 returns g c =
     let m = c.args.objects.now in
-    let lists : Lists = lists_of g.S.FarRead.content m in
+    let lists : Lists = lists_of g.S.FarTickets.content m in
     let columns = c.args.columns.now in
     let n = length m.entries in
     let forms = next_forms lists n columns c.args.texts.now in

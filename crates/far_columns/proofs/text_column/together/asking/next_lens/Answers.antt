@@ -5,11 +5,11 @@ use Rattle.far_columns.proofs.text_column.together.asking.next_lens.Goals as goa
 
 pub form_length_with_next-requires-after_bounds : goal.form_length_with_next-requires-after_bounds
 form_length_with_next-requires-after_bounds g c κs within =
-    subst (IsTextColumn (lists_of g.S.FarRead.content c.args.objects.now)) (sym c.index-columns-k.is) (c.requires.each c.loop-k.k c.index-columns-k.result c.loop-k-test.true)
+    subst (IsTextColumn (lists_of g.S.FarTickets.content c.args.objects.now)) (sym c.index-columns-k.is) (c.requires.each c.loop-k.k c.index-columns-k.result c.loop-k-test.true)
 
 pub loop-k-preserved : goal.loop-k-preserved
 loop-k-preserved g c =
-    let lists : Lists = lists_of g.S.FarRead.content c.args.objects.now in
+    let lists : Lists = lists_of g.S.FarTickets.content c.args.objects.now in
     let k = c.loop-k.k in
     let lens = c.loop-k.lens in
     let count : length lens ≡ 16 = c.loop-k.invariant.1 in

@@ -5,6 +5,6 @@ use Rattle.far_columns.proofs.text_column.together.asking.next_lens.Given as goa
 
 abbrev pub invariant-loop-k : goal.invariant-loop-k
 invariant-loop-k g l =
-    let lists : Lists = lists_of g.S.FarRead.content l.objects in
+    let lists : Lists = lists_of g.S.FarTickets.content l.objects in
     ((n : ℕ) → take l.k l.lens ++ lens-from lists (n + l.k) (drop l.k l.columns) (drop l.k l.texts) ≡ lens-from lists n l.columns l.texts)
     × (length l.lens ≡ 16)

@@ -12,7 +12,7 @@ last_form-requires-clause-begun g c κs within =
 
 pub last_form-requires-clause-is : goal.last_form-requires-clause-is
 last_form-requires-clause-is g c κs within =
-    subst (IsTextColumn (lists_of g.S.FarRead.content c.args.objects.now)) (sym c.column-item.is) (c.requires.each c.loop-column.column-index c.column-item.result c.loop-column-test.true)
+    subst (IsTextColumn (lists_of g.S.FarTickets.content c.args.objects.now)) (sym c.column-item.is) (c.requires.each c.loop-column.column-index c.column-item.result c.loop-column-test.true)
 
 pub returns-in_err-_form : goal.returns-in_err-_form
 returns-in_err-_form g c =

@@ -8,7 +8,7 @@ use Rattle.far_columns.proofs.text_column.together.forms.known_together.Goals as
 
 pub known_before_push-requires-after_bounds : goal.known_before_push-requires-after_bounds
 known_before_push-requires-after_bounds g c κs within =
-    subst (IsTextColumn (lists_of g.S.FarRead.content c.args.objects.now)) (sym c.column-item.is) (c.requires c.loop-column.column-index c.column-item.result c.loop-column-test.true)
+    subst (IsTextColumn (lists_of g.S.FarTickets.content c.args.objects.now)) (sym c.column-item.is) (c.requires c.loop-column.column-index c.column-item.result c.loop-column-test.true)
 
 pub loop-column-preserved : goal.loop-column-preserved
 loop-column-preserved g c =
@@ -26,4 +26,4 @@ pub returns-clause-groups : goal.returns-clause-groups
 returns-clause-groups g c = subst (All HasGroups) (take_all c.loop-column.column-index c.args.columns.now c.loop-column-test.false) c.loop-column.invariant.1
 
 pub returns-clause-fresh : goal.returns-clause-fresh
-returns-clause-fresh g c = no-list _ g.S.FarRead.content _ c.args.objects.now c.number-number.ensures.tracked
+returns-clause-fresh g c = no-list _ g.S.FarTickets.content _ c.args.objects.now c.number-number.ensures.tracked

@@ -11,20 +11,20 @@ use Rattle.far_columns.proofs.text_column.together.forms.next_forms.Goals as goa
 
 pub form_pushed-requires-clause-is : goal.form_pushed-requires-clause-is
 form_pushed-requires-clause-is g c κs within =
-    subst (IsTextColumn (lists_of g.S.FarRead.content c.args.objects.now)) (sym c.index-columns-k.is) (c.requires.each c.loop-k.k c.index-columns-k.result c.loop-k-test.true)
+    subst (IsTextColumn (lists_of g.S.FarTickets.content c.args.objects.now)) (sym c.index-columns-k.is) (c.requires.each c.loop-k.k c.index-columns-k.result c.loop-k-test.true)
 
 pub form_pushed-requires-clause-short : goal.form_pushed-requires-clause-short
 form_pushed-requires-clause-short g c κs within =
     let columns = c.args.columns.now in
     let texts = c.args.texts.now in
     let k = c.loop-k.k in
-    none-full-at (lists_of g.S.FarRead.content c.args.objects.now) columns texts c.requires.short k c.index-columns-k.result c.index-texts-k.result
+    none-full-at (lists_of g.S.FarTickets.content c.args.objects.now) columns texts c.requires.short k c.index-columns-k.result c.index-texts-k.result
     (slice_get_read columns (length columns) k c.index-columns-k.result refl c.loop-k-test.true c.index-columns-k.is)
     (slice_get_read texts (length texts) k c.index-texts-k.result refl (omega (arith, c.requires.even, c.loop-k-test.true)) c.index-texts-k.is)
 
 pub loop-k-preserved : goal.loop-k-preserved
 loop-k-preserved g c =
-    let lists : Lists = lists_of g.S.FarRead.content c.args.objects.now in
+    let lists : Lists = lists_of g.S.FarTickets.content c.args.objects.now in
     let columns = c.args.columns.now in
     let texts = c.args.texts.now in
     let k = c.loop-k.k in

@@ -50,11 +50,11 @@ returns-clause-pushed g t c =
 pub returns-clause-lists : goal.returns-clause-lists
 returns-clause-lists g t c =
     let m = c.args.objects.now in
-    let lists : Lists = lists_of g.S.FarRead.content m in
+    let lists : Lists = lists_of g.S.FarTickets.content m in
     let first = numbered-first (length m.entries) c.in-Some-split_first.form.now c.in-Some-split_first.forms.now c.args.forms.now c.in-Some-split_first.ensures.cases.0 c.requires.numbered in
     let rest = numbered-rest (length m.entries) c.in-Some-split_first.form.now c.in-Some-split_first.forms.now c.args.forms.now c.in-Some-split_first.ensures.cases.0 c.requires.numbered in
-    subst (λ l. ChangesTo lists (lists_of g.S.FarRead.content c.begin_groups.new.objects) (given_forms l)) (sym c.in-Some-split_first.ensures.cases.0)
-    (changes-more lists (lists_of g.S.FarRead.content c.create.new.self) (lists_of g.S.FarRead.content c.begin_groups.new.objects) (length m.entries) _ _ _ _ first c.deref.ensures.value
+    subst (λ l. ChangesTo lists (lists_of g.S.FarTickets.content c.begin_groups.new.objects) (given_forms l)) (sym c.in-Some-split_first.ensures.cases.0)
+    (changes-more lists (lists_of g.S.FarTickets.content c.create.new.self) (lists_of g.S.FarTickets.content c.begin_groups.new.objects) (length m.entries) _ _ _ _ first c.deref.ensures.value
     (numbered-apart (length m.entries) c.in-Some-split_first.forms.now rest) c.in_ok-o.ensures.list c.in_default-begin_groups.ensures.lists)
 
 pub returns-clause-clean : goal.returns-clause-clean
