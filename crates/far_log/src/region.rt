@@ -131,6 +131,15 @@ impl<T: Elem> Region<T> {
         self.segments[at.segment as usize].part(at.offset)
     }
 
+    /// The part at a location, which has so many elements, lent in place. Takes no memory, and looks at nothing but the
+    /// segment's block: the length tells where the part ends.
+    pub fn part_long(&self, at: At, len: usize) -> &[T]
+        requires { IsSomeAnd (part_of self.now at) (λ list. length list ≡ len) }
+        ensures { part_of self.now at ≡ Some result.now }
+    {
+        self.segments[at.segment as usize].part_long(at.offset, len)
+    }
+
     /// Takes the part at a location away, and moves no other. Takes no memory.
     pub fn drop_at(&mut self, at: At)
         requires { IsSome (part_of self.old at) }
@@ -240,8 +249,21 @@ impl<T: Elem> Region<T> {
         ensures lent { part_of self.old at ≡ Some result.now }
         ensures alone { (list : List T) → length list ≡ length result.now → WritesPart self.old (written_at self.old at 0 list) at list }
     {
+        let len = self.part(at).len();
+        self.part_long_mut(at, len)
+    }
+
+    /// The part at a location, which has so many elements, lent in place to be written. Takes no memory, and looks at nothing
+    /// but the segment's block.
+    ///
+    /// What the borrow leaves is the part's list, and no other part changes (`alone`).
+    pub fn part_long_mut(&mut self, at: At, len: usize) -> &mut [T]
+        requires { IsSomeAnd (part_of self.old at) (λ list. length list ≡ len) }
+        ensures* writes_back { sem 𝓛 (lends_part T.row self.entry at 0 result) }
+        ensures lent { part_of self.old at ≡ Some result.now }
+        ensures alone { (list : List T) → length list ≡ length result.now → WritesPart self.old (written_at self.old at 0 list) at list }
+    {
         let segment = &mut self.segments[at.segment as usize];
-        let len = segment.part(at.offset).len();
         segment.range_mut(at.offset, 0, len)
     }
 

@@ -14,7 +14,11 @@ pub fn place(segment: u16, offset: u32) -> At {
 
 /// Whether a part lies there, of these elements.
 pub fn has_part<T: Elem + PartialEq>(region: &Region<T>, at: At, list: &[T]) -> bool {
-    region.holds(at) && region.part(at) == list
+    if !region.holds(at) {
+        return false;
+    }
+    let part = region.part(at);
+    part == list && region.part_long(at, part.len()) == list
 }
 
 /// Drops the part there; false where none begins.

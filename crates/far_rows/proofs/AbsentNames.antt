@@ -16,7 +16,7 @@ use Rattle.far_rows.specs.declared.slot.Slot.{Slot}
 use Rattle.far_rows.specs.declared.slot.Slot.TheVariants as slot
 use Rattle.far_rows.specs.Naming.{names_of, AreNamed}
 use Rattle.far_rows.specs.Rows.{Rows, AreRows}
-use Rattle.far_rows.specs.Refusing.{absent_at, absents, named_absents}
+use Rattle.far_rows.specs.Refusing.{told_at, absent_at, absents, absents_from, no_range}
 
 -- the refusal of an object with this name
 told-by : {K : Type 0} (entry : Option (Entry K)) (name : Name) → option_map (λ e. e.name) entry ≡ Some name → option_map_or (λ e. refusal.Absent e.name.column e.name.group) entry refusal.StaleJob ≡ refusal.Absent name.column name.group
@@ -38,13 +38,17 @@ number-known P column_of [] i k at all = absurd (none-some k at)
 number-known P column_of (c ∷ columns) zero k at all = (c, refl, same_Some (column_of c) k at, all 0 c (omega arith))
 number-known P column_of (c ∷ columns) (suc i) k at all = number-known P column_of columns i k at (λ j d below. all (suc j) d (omega (arith, below)))
 
+one-more : (case : Bool × Refusal) (e : Refusal) (later last : Option Refusal) → (case.0 ≡ true → case.1 ≡ e) → later ≡ last → cond case.0 (Some case.1) later ≡ cond case.0 (Some e) last
+one-more (true, f) e later last due same = ap Some (due refl)
+one-more (false, f) e later last due same = same
+
 module _ {K : Type 0} (content : K → List ℕ) (r : Rows K) (are : AreRows content r) (g : ℕ) where
-  pub away-named : (k : ℕ) (s : Slot) → slice_get r.slots k ≡ Some s → (absent_at r g s).0 ≡ true → (absent_at r g s).1 ≡ refusal.Absent k g
+  pub away-named : (k : ℕ) (s : Slot) → slice_get r.slots k ≡ Some s → (told_at r g s).0 ≡ true → (told_at r g s).1 ≡ refusal.Absent k g
   away-named k (slot.Number i) at away =
       let known = number-known (λ (d : Vector (Option ℤ)). AreNamed (names_of r.number_objects) d.column d.objects) (λ d. d.column) r.numbers i k (are.numbered k (slot.Number i) at) are.number_names in
       let c = known.0 in
       let case : Option (Vector (Option ℤ)) → Bool × Refusal = λ d. option_map_or (absent r.number_objects) (option_and_then (λ (v : Vector (Option ℤ)). slice_get v.objects g) d) (false, refusal.StaleJob) in
-      let is : absent_at r g (slot.Number i) ≡ case (Some c) = ap case known.1 in
+      let is : told_at r g (slot.Number i) ≡ case (Some c) = ap case known.1 in
       ap (λ (p : Bool × Refusal). p.1) is
       ∙ told-of r.number_objects c.column g c.objects known.3 (slice_get c.objects g) refl (sym (ap (λ (p : Bool × Refusal). p.0) is) ∙ away)
       ∙ ap (λ n. refusal.Absent n g) known.2
@@ -52,20 +56,33 @@ module _ {K : Type 0} (content : K → List ℕ) (r : Rows K) (are : AreRows con
       let known = number-known (λ (d : Texts). AreNamed (names_of r.text_objects) d.column d.objects) (λ d. d.column) r.texts i k (are.numbered k (slot.Text i) at) are.text_names in
       let c = known.0 in
       let case : Option Texts → Bool × Refusal = λ d. option_map_or (absent r.text_objects) (option_and_then (λ (v : Texts). slice_get v.objects g) d) (false, refusal.StaleJob) in
-      let is : absent_at r g (slot.Text i) ≡ case (Some c) = ap case known.1 in
+      let is : told_at r g (slot.Text i) ≡ case (Some c) = ap case known.1 in
       ap (λ (p : Bool × Refusal). p.1) is
       ∙ told-of r.text_objects c.column g c.objects known.3 (slice_get c.objects g) refl (sym (ap (λ (p : Bool × Refusal). p.0) is) ∙ away)
       ∙ ap (λ n. refusal.Absent n g) known.2
 
-  first-named : (slots : List Slot) (n : ℕ) → ((k : ℕ) (s : Slot) → slice_get slots k ≡ Some s → (absent_at r g s).0 ≡ true → (absent_at r g s).1 ≡ refusal.Absent (n + k) g) → first_of (map (absent_at r g) slots) ≡ first_of (named_absents r g n slots)
+  -- one column's is
+  pub one-named : (k : ℕ) (s : Slot) → slice_get r.slots k ≡ Some s → (later last : Option Refusal) → later ≡ last → cond (told_at r g s).0 (Some (told_at r g s).1) later ≡ cond (told_at r g s).0 (Some (refusal.Absent k g)) last
+  one-named k s at later last same = one-more (told_at r g s) (refusal.Absent k g) later last (away-named k s at) same
+
+  first-named : (slots : List Slot) (n : ℕ) → ((k : ℕ) (s : Slot) → slice_get slots k ≡ Some s → (told_at r g s).0 ≡ true → (told_at r g s).1 ≡ refusal.Absent (n + k) g) → first_of (map (told_at r g) slots) ≡ first_of (absents_from r g n slots)
   first-named [] n named = refl
   first-named (s ∷ slots) n named =
       let rest = first-named slots (n + 1) (λ k t at away. named (suc k) t at away ∙ ap (λ j. refusal.Absent j g) (omega arith)) in
-      one-more (absent_at r g s) (refusal.Absent n g) (first_of (map (absent_at r g) slots)) (first_of (named_absents r g (n + 1) slots)) (λ away. named 0 s refl away ∙ ap (λ j. refusal.Absent j g) (omega arith)) rest where
-        one-more : (case : Bool × Refusal) (e : Refusal) (later last : Option Refusal) → (case.0 ≡ true → case.1 ≡ e) → later ≡ last → cond case.0 (Some case.1) later ≡ cond case.0 (Some e) last
-        one-more (true, f) e later last due same = ap Some (due refl)
-        one-more (false, f) e later last due same = same
+      one-more (told_at r g s) (refusal.Absent n g) (first_of (map (told_at r g) slots)) (first_of (absents_from r g (n + 1) slots)) (λ away. named 0 s refl away ∙ ap (λ j. refusal.Absent j g) (omega arith)) rest
 
   -- the first column whose object of a row group is away is told by its number and that of the row group
-  pub absents-named : first_of (absents r g) ≡ first_of (named_absents r g 0 r.slots)
+  pub absents-named : first_of (map (told_at r g) r.slots) ≡ first_of (absents r g)
   absents-named = first-named r.slots 0 (λ k s at away. away-named k s at away ∙ ap (λ j. refusal.Absent j g) (omega arith))
+
+-- several row groups of one column
+module _ {K : Type 0} (content : K → List ℕ) (r : Rows K) (are : AreRows content r) (column : ℕ) (s : Slot) (lies : slice_get r.slots column ≡ Some s) where
+  pub groups-named : (groups : List ℕ) → first_of (map (λ g. told_at r g s) groups) ≡ first_of (map (λ g. absent_at r column g s) groups)
+  groups-named [] = refl
+  groups-named (g ∷ groups) = one-named content r are g column s lies (first_of (map (λ h. told_at r h s) groups)) (first_of (map (λ h. absent_at r column h s) groups)) (groups-named groups)
+
+  pub range-named : (from to : ℕ) (groups : List ℕ) → first_of (no_range r from to ∷ map (λ g. told_at r g s) groups) ≡ first_of (no_range r from to ∷ map (λ g. absent_at r column g s) groups)
+  range-named from to groups = ap (cond (no_range r from to).0 (Some (no_range r from to).1)) (groups-named groups)
+
+  pub one-told : (g : ℕ) → first_of (told_at r g s ∷ []) ≡ first_of (absent_at r column g s ∷ [])
+  one-told g = groups-named (g ∷ [])

@@ -1,5 +1,5 @@
 -- A table that is opened is one.
-use Rattle.std.proofs.Common.{◌≡◌, ℕ, ◌+◌, ◌*◌, ◌-◌, ℤ, List, [], ◌∷◌, length, get_or, replicate, Option, refl, sym, ap, ◌∙◌, arith}
+use Rattle.std.proofs.Common.{◌≡◌, ℕ, ◌+◌, ◌*◌, ◌-◌, ◌≤◌, ◌^◌, ℤ, List, [], ◌∷◌, length, get_or, replicate, Option, refl, sym, ap, ◌∙◌, arith}
 use Rattle.std.specs.Prelude.{All, AllPairs, slice_get}
 use Rattle.std.proofs.lemmas.Option.{slice_get_past, none-some}
 use Rattle.std.proofs.lemmas.List.Elements.{All-nil, All-cons, All-weaker}
@@ -7,15 +7,15 @@ use Rattle.far_types.specs.declared.cell.Kind.{Kind}
 use Rattle.far_types.specs.declared.cell.Kind.TheVariants as kind
 use Rattle.far_types.specs.declared.limits.Limits.{Limits}
 use Rattle.far_types.specs.Bounds.{IsSchema, AreLimits}
-use Rattle.far_vector.specs.Vector.{Vector, IsVector, AreApart}
+use Rattle.far_vector.specs.Vector.{Vector, IsVector, IsShaped, AreApart}
 use Rattle.far_columns.specs.Texts as texts
-use Rattle.far_columns.specs.Texts.{Texts, Lists, IsTextColumn}
+use Rattle.far_columns.specs.Texts.{Texts, Lists, HasGroups, IsTextColumn}
 use Rattle.far_columns.specs.NumbersTogether.{NumberLists, AreNumberColumns}
 use Rattle.far_columns.specs.Together.{AreColumns}
 use Rattle.far_rows.specs.Naming.{AreNamed}
 use Rattle.far_rows.specs.Rows.{AreRows}
 use Rattle.far_rows.specs.Opening.{numbers_from, texts_from, empty_rows}
-use Rattle.far_rows.proofs.EmptySlots.{slots-are, columns-count, are-numbered}
+use Rattle.far_rows.proofs.EmptySlots.{slots-are, columns-count, are-numbered, numbers-placed, texts-placed}
 
 mul-zero : (n : ℕ) → n * 0 ≡ 0
 mul-zero n = omega arith
@@ -29,8 +29,9 @@ record IsEmptyNumbers (size : ℕ) (c : Vector (Option ℤ)) : Type 0 where
   pub len : c.len ≡ 0
   pub objects : c.objects ≡ []
 
-record IsEmptyTexts (size : ℕ) (c : Texts) : Type 0 where
+record IsEmptyTexts (size limit : ℕ) (c : Texts) : Type 0 where
   pub even : c.size ≡ size
+  pub bound : c.limit ≡ limit
   pub len : c.len ≡ 0
   pub objects : c.objects ≡ []
 
@@ -39,10 +40,10 @@ numbers-empty size n [] = All-nil (IsEmptyNumbers size)
 numbers-empty size n (kind.Int ∷ kinds) = All-cons (IsEmptyNumbers size) _ _ record { even = refl; len = refl; objects = refl } (numbers-empty size (n + 1) kinds)
 numbers-empty size n (kind.Text ∷ kinds) = numbers-empty size (n + 1) kinds
 
-texts-empty : (size limit n : ℕ) (kinds : List Kind) → All (IsEmptyTexts size) (texts_from size limit n kinds)
-texts-empty size limit n [] = All-nil (IsEmptyTexts size)
+texts-empty : (size limit n : ℕ) (kinds : List Kind) → All (IsEmptyTexts size limit) (texts_from size limit n kinds)
+texts-empty size limit n [] = All-nil (IsEmptyTexts size limit)
 texts-empty size limit n (kind.Int ∷ kinds) = texts-empty size limit (n + 1) kinds
-texts-empty size limit n (kind.Text ∷ kinds) = All-cons (IsEmptyTexts size) _ _ record { even = refl; len = refl; objects = refl } (texts-empty size limit (n + 1) kinds)
+texts-empty size limit n (kind.Text ∷ kinds) = All-cons (IsEmptyTexts size limit) _ _ record { even = refl; bound = refl; len = refl; objects = refl } (texts-empty size limit (n + 1) kinds)
 
 -- what holds of all holds of each pair
 pairs-of : {X : Type 0} (P : X → Type 0) (R : X → X → Type 0) (xs : List X) → ((x y : X) → P x → P y → R x y) → All P xs → AllPairs R xs
@@ -67,8 +68,8 @@ numbers-are lists size n kinds =
       even = pairs-of (IsEmptyNumbers size) (λ c d. (c.size ≡ d.size) × (c.len ≡ d.len)) (numbers_from size n kinds) (λ c d of_c of_d. (of_c.even ∙ sym of_d.even, of_c.len ∙ sym of_d.len)) empty;
     }
 
-text-is : (lists : Lists) (size : ℕ) (c : Texts) → IsEmptyTexts size c → IsTextColumn lists c
-text-is lists size c empty =
+text-is : (lists : Lists) (size limit : ℕ) (c : Texts) → IsEmptyTexts size limit c → IsTextColumn lists c
+text-is lists size limit c empty =
     let none : length c.objects ≡ 0 = ap length empty.objects in
     record {
       once = λ i j o early within. absurd (omega arith);
@@ -80,10 +81,38 @@ texts-are lists size limit n kinds =
     let empty = texts-empty size limit n kinds in
     record {
       beside = record {
-        each = All-weaker (IsEmptyTexts size) (IsTextColumn lists) (text-is lists size) (texts_from size limit n kinds) empty;
-        apart = pairs-of (IsEmptyTexts size) texts.AreApart (texts_from size limit n kinds) (λ c d of_c of_d. let none : length c.objects ≡ 0 = ap length of_c.objects in λ group other o here. absurd (none-some o (sym (slice_get_past c.objects group (omega arith)) ∙ here))) empty;
+        each = All-weaker (IsEmptyTexts size limit) (IsTextColumn lists) (text-is lists size limit) (texts_from size limit n kinds) empty;
+        apart = pairs-of (IsEmptyTexts size limit) texts.AreApart (texts_from size limit n kinds) (λ c d of_c of_d. let none : length c.objects ≡ 0 = ap length of_c.objects in λ group other o here. absurd (none-some o (sym (slice_get_past c.objects group (omega arith)) ∙ here))) empty;
       };
-      even = pairs-of (IsEmptyTexts size) (λ c d. (c.size ≡ d.size) × (c.len ≡ d.len)) (texts_from size limit n kinds) (λ c d of_c of_d. (of_c.even ∙ sym of_d.even, of_c.len ∙ sym of_d.len)) empty;
+      even = pairs-of (IsEmptyTexts size limit) (λ c d. (c.size ≡ d.size) × (c.len ≡ d.len)) (texts_from size limit n kinds) (λ c d of_c of_d. (of_c.even ∙ sym of_d.even, of_c.len ∙ sym of_d.len)) empty;
+    }
+
+number-shaped : (size : ℕ) → 1 ≤ size → size ≤ 65536 → (c : Vector (Option ℤ)) → IsEmptyNumbers size c → IsShaped c
+number-shaped size low high c empty =
+    let none : length c.objects ≡ 0 = ap length empty.objects in
+    let nothing : 0 * c.size ≡ 0 = omega arith in
+    let room : length c.objects * c.size ≡ 0 = ap (λ n. n * c.size) none ∙ nothing in
+    record {
+      some = omega (arith, empty.even, low);
+      short = omega (arith, empty.even, high);
+      few = omega (arith, none);
+      rising = λ i j d early within. absurd (omega (arith, none, early, within));
+      enough = omega (arith, empty.len, room);
+      needed = omega (arith, empty.len, empty.even, room, low);
+    }
+
+text-grouped : (size limit : ℕ) → 1 ≤ size → size ≤ 65536 → limit ≤ 2 ^ 24 → (c : Texts) → IsEmptyTexts size limit c → HasGroups c
+text-grouped size limit low high short c empty =
+    let none : length c.objects ≡ 0 = ap length empty.objects in
+    let nothing : 0 * c.size ≡ 0 = omega arith in
+    let room : length c.objects * c.size ≡ 0 = ap (λ n. n * c.size) none ∙ nothing in
+    record {
+      some = omega (arith, empty.even, low);
+      small = omega (arith, empty.even, high);
+      short = omega (arith, empty.bound, short);
+      few = omega (arith, none);
+      held = omega (arith, empty.len, room);
+      begun = omega (arith, empty.len, empty.even, room, low);
     }
 
 no-objects : (n : ℕ) (objects : List ℕ) → objects ≡ [] → n * length objects ≡ 0
@@ -103,13 +132,19 @@ rows-are content schema limits number few are =
       places = omega arith;
       numbers = numbers-are _ size 0 schema;
       texts = texts-are _ size limit 0 schema;
+      shaped = All-weaker (IsEmptyNumbers size) IsShaped (number-shaped size are.group_low are.group_high) (numbers_from size 0 schema) numbers;
+      grouped = All-weaker (IsEmptyTexts size limit) HasGroups (text-grouped size limit are.group_low are.group_high (omega (arith, are.text_size_high))) (texts_from size limit 0 schema) texts;
       even_numbers = All-weaker (IsEmptyNumbers size) (λ (c : Vector (Option ℤ)). (c.size ≡ size) × (c.len ≡ 0)) (λ c empty. (empty.even, empty.len)) (numbers_from size 0 schema) numbers;
-      even_texts = All-weaker (IsEmptyTexts size) (λ (c : Texts). (c.size ≡ size) × (c.len ≡ 0)) (λ c empty. (empty.even, empty.len)) (texts_from size limit 0 schema) texts;
+      even_texts = All-weaker (IsEmptyTexts size limit) (λ (c : Texts). (c.size ≡ size) × (c.len ≡ 0)) (λ c empty. (empty.even, empty.len)) (texts_from size limit 0 schema) texts;
       number_objects = All-weaker (IsEmptyNumbers size) _ (λ c empty. sym (no-objects (length (numbers_from size 0 schema)) c.objects empty.objects)) (numbers_from size 0 schema) numbers;
-      text_objects = All-weaker (IsEmptyTexts size) _ (λ c empty. sym (no-objects (length (texts_from size limit 0 schema)) c.objects empty.objects)) (texts_from size limit 0 schema) texts;
+      text_objects = All-weaker (IsEmptyTexts size limit) _ (λ c empty. sym (no-objects (length (texts_from size limit 0 schema)) c.objects empty.objects)) (texts_from size limit 0 schema) texts;
       numbered = are-numbered size limit schema;
+      placed_numbers = numbers-placed size limit schema;
+      placed_texts = texts-placed size limit schema;
       number_names = All-weaker (IsEmptyNumbers size) (λ (c : Vector (Option ℤ)). AreNamed [] c.column c.objects) (λ c empty g o at. absurd (none-some o (sym (ap (λ os. slice_get os g) empty.objects) ∙ at))) (numbers_from size 0 schema) numbers;
-      text_names = All-weaker (IsEmptyTexts size) (λ (c : Texts). AreNamed [] c.column c.objects) (λ c empty g o at. absurd (none-some o (sym (ap (λ os. slice_get os g) empty.objects) ∙ at))) (texts_from size limit 0 schema) texts;
+      text_names = All-weaker (IsEmptyTexts size limit) (λ (c : Texts). AreNamed [] c.column c.objects) (λ c empty g o at. absurd (none-some o (sym (ap (λ os. slice_get os g) empty.objects) ∙ at))) (texts_from size limit 0 schema) texts;
+      owned_numbers = λ o name at. absurd (none-some name at);
+      owned_texts = λ o name at. absurd (none-some name at);
       clean_numbers = λ o clean. refl;
       clean_texts = λ o clean. refl;
     }

@@ -10,7 +10,7 @@ use Rattle.far_types.specs.declared.cell.Kind.TheVariants as kind
 use Rattle.far_rows.specs.declared.slot.Slot.{Slot}
 use Rattle.far_rows.specs.declared.slot.Slot.TheVariants as slot
 use Rattle.far_rows.specs.Slots.{AreSlots, IsWithin, slots_from}
-use Rattle.far_rows.specs.Naming.{number_in, AreNumbered}
+use Rattle.far_rows.specs.Naming.{number_in, AreNumbered, ArePlaced}
 use Rattle.far_rows.specs.Opening.{numbers_from, texts_from}
 
 -- it lies behind so many columns of numbers, or so many of texts
@@ -73,7 +73,7 @@ module _ (size limit : ℕ) where
   slots-are kinds = record { within = within-from 0 0 0 _ _ kinds (omega arith) (omega arith); once = once-from 0 0 kinds; count = length-from 0 0 kinds ∙ sym (columns-count 0 kinds) }
 
 -- the first that is behind some
-get-behind : (ns : List ℕ) (n : ℕ) (more : List ℕ) → slice_get (ns ++ n ∷ more) (length ns) ≡ Some n
+get-behind : {A : Type 0} (ns : List A) (n : A) (more : List A) → slice_get (ns ++ n ∷ more) (length ns) ≡ Some n
 get-behind [] n more = refl
 get-behind (m ∷ ns) n more = get-behind ns n more
 
@@ -113,3 +113,43 @@ module _ (size limit : ℕ) where
 
   pub are-numbered : (kinds : List Kind) → AreNumbered (slots_from 0 0 kinds) (number_columns 0 kinds) (text_columns 0 kinds)
   are-numbered kinds k s at = numbered-from [] [] 0 kinds 0 0 refl refl k s at ∙ ap Some (omega arith)
+
+  -- each column of numbers has its slot behind those of the columns before it
+  numbers-placed-from : (n a b : ℕ) (kinds : List Kind) (before : List Slot) → n ≡ length before → (i k : ℕ) → slice_get (number_columns n kinds) i ≡ Some k → slice_get (before ++ slots_from a b kinds) k ≡ Some (slot.Number (a + i))
+  numbers-placed-from n a b [] before of_n i k at = absurd (none-some k at)
+  numbers-placed-from n a b (kind.Int ∷ kinds) before of_n zero k at =
+      let e : a ≡ a + 0 = omega arith in
+      ap (slice_get (before ++ slots_from a b (kind.Int ∷ kinds))) (sym (same_Some n k at) ∙ of_n)
+      ∙ get-behind before (slot.Number a) (slots_from (a + 1) b kinds)
+      ∙ (λ j. Some (slot.Number (e j)))
+  numbers-placed-from n a b (kind.Int ∷ kinds) before of_n (suc i) k at =
+      let e : a + 1 + i ≡ a + suc i = omega arith in
+      ap (λ (ss : List Slot). slice_get ss k) (sym (append_assoc before (slot.Number a ∷ []) (slots_from (a + 1) b kinds)))
+      ∙ numbers-placed-from (n + 1) (a + 1) b kinds (before ++ slot.Number a ∷ []) (omega (arith, of_n, length_push before (slot.Number a))) i k at
+      ∙ (λ j. Some (slot.Number (e j)))
+  numbers-placed-from n a b (kind.Text ∷ kinds) before of_n i k at =
+      ap (λ (ss : List Slot). slice_get ss k) (sym (append_assoc before (slot.Text b ∷ []) (slots_from a (b + 1) kinds)))
+      ∙ numbers-placed-from (n + 1) a (b + 1) kinds (before ++ slot.Text b ∷ []) (omega (arith, of_n, length_push before (slot.Text b))) i k at
+
+  -- likewise each of texts
+  texts-placed-from : (n a b : ℕ) (kinds : List Kind) (before : List Slot) → n ≡ length before → (i k : ℕ) → slice_get (text_columns n kinds) i ≡ Some k → slice_get (before ++ slots_from a b kinds) k ≡ Some (slot.Text (b + i))
+  texts-placed-from n a b [] before of_n i k at = absurd (none-some k at)
+  texts-placed-from n a b (kind.Text ∷ kinds) before of_n zero k at =
+      let e : b ≡ b + 0 = omega arith in
+      ap (slice_get (before ++ slots_from a b (kind.Text ∷ kinds))) (sym (same_Some n k at) ∙ of_n)
+      ∙ get-behind before (slot.Text b) (slots_from a (b + 1) kinds)
+      ∙ (λ j. Some (slot.Text (e j)))
+  texts-placed-from n a b (kind.Text ∷ kinds) before of_n (suc i) k at =
+      let e : b + 1 + i ≡ b + suc i = omega arith in
+      ap (λ (ss : List Slot). slice_get ss k) (sym (append_assoc before (slot.Text b ∷ []) (slots_from a (b + 1) kinds)))
+      ∙ texts-placed-from (n + 1) a (b + 1) kinds (before ++ slot.Text b ∷ []) (omega (arith, of_n, length_push before (slot.Text b))) i k at
+      ∙ (λ j. Some (slot.Text (e j)))
+  texts-placed-from n a b (kind.Int ∷ kinds) before of_n i k at =
+      ap (λ (ss : List Slot). slice_get ss k) (sym (append_assoc before (slot.Number a ∷ []) (slots_from (a + 1) b kinds)))
+      ∙ texts-placed-from (n + 1) (a + 1) b kinds (before ++ slot.Number a ∷ []) (omega (arith, of_n, length_push before (slot.Number a))) i k at
+
+  pub numbers-placed : (kinds : List Kind) → ArePlaced (slots_from 0 0 kinds) (λ i. slot.Number i) (number_columns 0 kinds)
+  numbers-placed kinds i k at = let e : 0 + i ≡ i = omega arith in numbers-placed-from 0 0 0 kinds [] refl i k at ∙ (λ j. Some (slot.Number (e j)))
+
+  pub texts-placed : (kinds : List Kind) → ArePlaced (slots_from 0 0 kinds) (λ i. slot.Text i) (text_columns 0 kinds)
+  texts-placed kinds i k at = let e : 0 + i ≡ i = omega arith in texts-placed-from 0 0 0 kinds [] refl i k at ∙ (λ j. Some (slot.Text (e j)))

@@ -24,8 +24,9 @@ use Rattle.far_rows.specs.declared.slot.Slot.TheVariants as slot
 use Rattle.far_rows.specs.Cells.{int_cell}
 use Rattle.far_rows.specs.Slots.{kind_of, column_in}
 use Rattle.far_rows.specs.Rows.{Rows, AreRows, all_numbers, all_texts, cells_of}
-use Rattle.far_rows.specs.Refusing.{absent_at, no_range, ints_refusal}
+use Rattle.far_rows.specs.Refusing.{told_at, absent_at, no_range, ints_refusal}
 use Rattle.far_rows.specs.Lending.{numbers_of}
+use Rattle.far_rows.proofs.AbsentNames.{range-named}
 use Rattle.far_rows.proofs.Reading.{all-read, absent-number, numbers-read}
 
 -- of several objects the first that is away
@@ -68,7 +69,7 @@ module _ {K : Type 0} (content : K → List ℕ) (r : Rows K) (are : AreRows con
   pub range-read : slice_range (numbers_in content r.number_objects c) from to ≡ slice_range (numbers_of content r (slot.Number i)) from to
   range-read = ap (λ (ns : Numbers). slice_range ns from to) (sym (numbers-read content r are i c within read))
 
-  pub part-refused : pieces_refusal r.number_objects c from to ≡ first_of (no_range r from to ∷ map (λ g. absent_at r g (slot.Number i)) (touched r.size from to))
+  pub part-refused : pieces_refusal r.number_objects c from to ≡ first_of (no_range r from to ∷ map (λ g. told_at r g (slot.Number i)) (touched r.size from to))
   part-refused =
       let cases : ℕ → List (Bool × Refusal) = λ s. map (absent-of r.number_objects c.objects) (touched s from to) in
       let range : ℕ → Bool × Refusal = λ len. (nat_lt to from || nat_lt len to, refusal.OutOfRange) in
@@ -84,10 +85,11 @@ module _ {K : Type 0} (content : K → List ℕ) (r : Rows K) (column i from to 
       ap (option_map (λ (cells : List Cell). slice_range cells from to)) (slice_get-map (column_in (all_numbers content r) (all_texts content r)) r.slots column ∙ ap (option_map (column_in (all_numbers content r) (all_texts content r))) lies)
       ∙ ap Some (range-map int_cell (numbers_of content r (slot.Number i)) from to ∙ ap (map int_cell) (sym is))
 
-  pub part-due : ints_refusal r column from to ≡ first_of (no_range r from to ∷ map (λ g. absent_at r g (slot.Number i)) (touched r.size from to))
-  part-due =
+  pub part-due : AreRows content r → ints_refusal r column from to ≡ first_of (no_range r from to ∷ map (λ g. told_at r g (slot.Number i)) (touched r.size from to))
+  part-due are =
       ap (λ (s : Option Slot). first_of (
       (is_none s, refusal.NoColumn)
       ∷ (is_text (option_map kind_of s), refusal.WrongKind)
       ∷ no_range r from to
-      ∷ map (λ g. option_map_or (absent_at r g) s (false, refusal.StaleJob)) (touched r.size from to))) lies
+      ∷ map (λ g. option_map_or (absent_at r column g) s (false, refusal.StaleJob)) (touched r.size from to))) lies
+      ∙ sym (range-named content r are column (slot.Number i) lies from to (touched r.size from to))

@@ -24,8 +24,9 @@ use Rattle.far_rows.specs.declared.slot.Slot.TheVariants as slot
 use Rattle.far_rows.specs.Cells.{text_cell}
 use Rattle.far_rows.specs.Slots.{kind_of, column_in}
 use Rattle.far_rows.specs.Rows.{Rows, AreRows, all_numbers, all_texts, cells_of}
-use Rattle.far_rows.specs.Refusing.{absent_at, no_range, texts_refusal}
+use Rattle.far_rows.specs.Refusing.{told_at, absent_at, no_range, texts_refusal}
 use Rattle.far_rows.specs.Lending.{texts_of}
+use Rattle.far_rows.proofs.AbsentNames.{range-named}
 use Rattle.far_rows.proofs.Reading.{all-read, absent-text, text-cells, text-column}
 use Rattle.far_rows.proofs.LentNumbers.{absent-of, absent-range, range-map}
 
@@ -75,7 +76,7 @@ module _ {K : Type 0} (content : K → List ℕ) (r : Rows K) (are : AreRows con
           ap (map (λ (t : Option (List ℕ) × Bool). t.1)) is
           ∙ seconds-zip (slice_range (texts_in (lists_of content r.text_objects) c) from to) (slice_range r.alive from to) even-parts
 
-  pub part-refused : column_refusal r.text_objects c from to ≡ first_of (no_range r from to ∷ map (λ g. absent_at r g (slot.Text i)) (touched r.size from to))
+  pub part-refused : column_refusal r.text_objects c from to ≡ first_of (no_range r from to ∷ map (λ g. told_at r g (slot.Text i)) (touched r.size from to))
   part-refused =
       let cases : ℕ → List (Bool × Refusal) = λ s. map (absent-of r.text_objects c.objects) (touched s from to) in
       let range : ℕ → Bool × Refusal = λ len. (nat_lt to from || nat_lt len to, refusal.OutOfRange) in
@@ -91,10 +92,11 @@ module _ {K : Type 0} (content : K → List ℕ) (r : Rows K) (column i from to 
       ap (option_map (λ (cells : List Cell). slice_range cells from to)) (slice_get-map (column_in (all_numbers content r) (all_texts content r)) r.slots column ∙ ap (option_map (column_in (all_numbers content r) (all_texts content r))) lies)
       ∙ ap Some (range-map text_cell (texts_of content r (slot.Text i)) from to ∙ ap (map text_cell) (sym is) ∙ map-map text_cell (λ (t : Option (List ℕ) × Bool). t.0) lent)
 
-  pub part-due : texts_refusal r column from to ≡ first_of (no_range r from to ∷ map (λ g. absent_at r g (slot.Text i)) (touched r.size from to))
-  part-due =
+  pub part-due : AreRows content r → texts_refusal r column from to ≡ first_of (no_range r from to ∷ map (λ g. told_at r g (slot.Text i)) (touched r.size from to))
+  part-due are =
       ap (λ (s : Option Slot). first_of (
       (is_none s, refusal.NoColumn)
       ∷ (is_int (option_map kind_of s), refusal.WrongKind)
       ∷ no_range r from to
-      ∷ map (λ g. option_map_or (absent_at r g) s (false, refusal.StaleJob)) (touched r.size from to))) lies
+      ∷ map (λ g. option_map_or (absent_at r column g) s (false, refusal.StaleJob)) (touched r.size from to))) lies
+      ∙ sym (range-named content r are column (slot.Text i) lies from to (touched r.size from to))

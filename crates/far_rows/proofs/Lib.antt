@@ -5,6 +5,7 @@ pub mod Beginning
 pub mod Grown
 pub mod GrownNumbers
 pub mod GrownTexts
+pub mod ShortRows
 pub mod Filling
 pub mod Opening
 pub mod EmptySlots
@@ -13,6 +14,16 @@ pub mod Names
 pub mod NamesPushed
 pub mod NumbersNamed
 pub mod TextsNamed
+pub mod Owned
+pub mod NumbersOwned
+pub mod TextsOwned
+pub mod Spelled
+pub mod Versions
+pub mod Pinning
+pub mod Places
+pub mod Overfull
+pub mod PlainLaws
+pub mod PlainSet
 pub mod AbsentNames
 pub mod InUse
 pub mod Moved

@@ -5,11 +5,12 @@ use Rattle.far_types.specs.declared.name.Name.{Name}
 use Rattle.far_codec.specs.Reading.{ints_meaning}
 use Rattle.far_scopes.specs.Movement.{Movement, AreClean}
 use Rattle.far_vector.proofs.Together.{vectors-stay, elements-stay}
-use Rattle.far_columns.specs.Texts.{lists_of, texts_in}
+use Rattle.far_vector.specs.Vector.{Vector}
+use Rattle.far_columns.specs.Texts.{Texts, lists_of, texts_in}
 use Rattle.far_columns.specs.Numbers.{number_lists, numbers_in}
 use Rattle.far_columns.proofs.Beside.{columns-stay, texts-stay}
 use Rattle.far_rows.specs.Slots.{columns_of}
-use Rattle.far_rows.specs.Naming.{names_of, AreNamed}
+use Rattle.far_rows.specs.Naming.{names_of, AreNamed, AreOwned}
 use Rattle.far_rows.specs.Rows.{Rows, AreRows, cells_of, all_numbers, all_texts}
 use Rattle.far_rows.proofs.Names.{as-many}
 
@@ -31,13 +32,19 @@ module _ {K : Type 0} (content : K → List ℕ) {r : Rows K} where
       even = are.numbers.even;
     };
     texts = are.texts;
+    shaped = are.shaped;
+    grouped = are.grouped;
     even_numbers = are.even_numbers;
     even_texts = are.even_texts;
     number_objects = λ k c within. as-many r.number_objects m names ∙ are.number_objects k c within;
     text_objects = are.text_objects;
     numbered = are.numbered;
+    placed_numbers = are.placed_numbers;
+    placed_texts = are.placed_texts;
     number_names = λ k c within. subst (λ (ns : List Name). AreNamed ns (get_or r.numbers k c).column (get_or r.numbers k c).objects) (sym names) (are.number_names k c within);
     text_names = are.text_names;
+    owned_numbers = subst (λ (ns : List Name). AreOwned (λ (v : Vector (Option ℤ)). v.column) (λ v. v.objects) ns r.numbers) (sym names) are.owned_numbers;
+    owned_texts = are.owned_texts;
     clean_numbers = clean;
     clean_texts = are.clean_texts;
   }
@@ -54,13 +61,19 @@ module _ {K : Type 0} (content : K → List ℕ) {r : Rows K} where
       beside = columns-stay (lists_of content r.text_objects) (lists_of content m) r.texts are.texts.beside lists;
       even = are.texts.even;
     };
+    shaped = are.shaped;
+    grouped = are.grouped;
     even_numbers = are.even_numbers;
     even_texts = are.even_texts;
     number_objects = are.number_objects;
     text_objects = λ k c within. as-many r.text_objects m names ∙ are.text_objects k c within;
     numbered = are.numbered;
+    placed_numbers = are.placed_numbers;
+    placed_texts = are.placed_texts;
     number_names = are.number_names;
     text_names = λ k c within. subst (λ (ns : List Name). AreNamed ns (get_or r.texts k c).column (get_or r.texts k c).objects) (sym names) (are.text_names k c within);
+    owned_numbers = are.owned_numbers;
+    owned_texts = subst (λ (ns : List Name). AreOwned (λ (v : Texts). v.column) (λ v. v.objects) ns r.texts) (sym names) are.owned_texts;
     clean_numbers = are.clean_numbers;
     clean_texts = clean;
   }

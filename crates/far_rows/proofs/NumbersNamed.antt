@@ -40,7 +40,7 @@ module _ {K : Type 0} where
   group-made : (m : Movement (Option ℤ) K) (c : Vector (Option ℤ)) (x : Option ℤ) → is_full c ≡ true → pushed_in m c x ≡ created m (next_name c) (next_group c x)
   group-made m c x full = rw full refl
 
-  names-made : (m : Movement (Option ℤ) K) (c : Vector (Option ℤ)) (x : Option ℤ) → is_full c ≡ true → names_of (pushed_in m c x) ≡ names_of m ++ next_name c ∷ []
+  pub names-made : (m : Movement (Option ℤ) K) (c : Vector (Option ℤ)) (x : Option ℤ) → is_full c ≡ true → names_of (pushed_in m c x) ≡ names_of m ++ next_name c ∷ []
   names-made m c x full = ap names_of (group-made m c x full) ∙ names-created m (next_name c) (next_group c x)
 
   names-kept : (m : Movement (Option ℤ) K) (c : Vector (Option ℤ)) (x : Option ℤ) → is_full c ≡ false → names_of (pushed_in m c x) ≡ names_of m
@@ -76,7 +76,7 @@ module _ {K : Type 0} where
       (named-begun next columns numbers (n + 1) more (omega (arith, even)) (All-tail (λ d. is_full d ≡ true) c columns full) others)
 
   -- where none begins one, all names stay
-  names-written-in : (m : Movement (Option ℤ) K) (columns : NumberColumns) (numbers : Numbers) → All (λ c. is_full c ≡ false) columns → names_of (all_pushed_in m columns numbers) ≡ names_of m
+  pub names-written-in : (m : Movement (Option ℤ) K) (columns : NumberColumns) (numbers : Numbers) → All (λ c. is_full c ≡ false) columns → names_of (all_pushed_in m columns numbers) ≡ names_of m
   names-written-in m [] numbers not = refl
   names-written-in m (c ∷ columns) [] not = refl
   names-written-in m (c ∷ columns) (x ∷ numbers) not =

@@ -21,7 +21,7 @@ use Rattle.far_rows.specs.declared.slot.Slot.TheVariants as slot
 use Rattle.far_rows.specs.Cells.{text_cell}
 use Rattle.far_rows.specs.Slots.{column_in}
 use Rattle.far_rows.specs.Rows.{Rows, AreRows, all_numbers, all_texts}
-use Rattle.far_rows.specs.Refusing.{absent_at}
+use Rattle.far_rows.specs.Refusing.{told_at}
 
 -- what holds of all holds of one that is read
 pub all-read : {X : Type 0} (P : X → Type 0) (xs : List X) (i : ℕ) (x : X) → All P xs → i < length xs → x ≡ get_or xs i x → P x
@@ -42,35 +42,35 @@ module _ {K : Type 0} (content : K → List ℕ) (r : Rows K) (are : AreRows con
   text-column i c within read = all-read (IsTextColumn (lists_of content r.text_objects)) r.texts i c are.texts.beside.each within read
 
   -- the object of a row group of a column that is read
-  pub absent-number : (g i : ℕ) (c : Vector (Option ℤ)) → i < length r.numbers → c ≡ get_or r.numbers i c → absent_at r g (slot.Number i) ≡ option_map_or (absent r.number_objects) (slice_get c.objects g) (false, refusal.StaleJob)
+  pub absent-number : (g i : ℕ) (c : Vector (Option ℤ)) → i < length r.numbers → c ≡ get_or r.numbers i c → told_at r g (slot.Number i) ≡ option_map_or (absent r.number_objects) (slice_get c.objects g) (false, refusal.StaleJob)
   absent-number g i c within read =
       ap (λ (d : Option (Vector (Option ℤ))). option_map_or (absent r.number_objects) (option_and_then (λ (v : Vector (Option ℤ)). slice_get v.objects g) d) (false, refusal.StaleJob)) (slice_get_read r.numbers (length r.numbers) i c refl within read)
 
-  pub absent-text : (g i : ℕ) (c : Texts) → i < length r.texts → c ≡ get_or r.texts i c → absent_at r g (slot.Text i) ≡ option_map_or (absent r.text_objects) (slice_get c.objects g) (false, refusal.StaleJob)
+  pub absent-text : (g i : ℕ) (c : Texts) → i < length r.texts → c ≡ get_or r.texts i c → told_at r g (slot.Text i) ≡ option_map_or (absent r.text_objects) (slice_get c.objects g) (false, refusal.StaleJob)
   absent-text g i c within read =
       ap (λ (d : Option Texts). option_map_or (absent r.text_objects) (option_and_then (λ (t : Texts). slice_get t.objects g) d) (false, refusal.StaleJob)) (slice_get_read r.texts (length r.texts) i c refl within read)
 
   -- a place that is there has an object, which alone refuses that it is read
-  pub number-refused : (i place : ℕ) (c : Vector (Option ℤ)) → i < length r.numbers → c ≡ get_or r.numbers i c → place < length r.alive → IsShaped c → get_refusal r.number_objects c place ≡ first_of (absent_at r (place / r.size) (slot.Number i) ∷ [])
+  pub number-refused : (i place : ℕ) (c : Vector (Option ℤ)) → i < length r.numbers → c ≡ get_or r.numbers i c → place < length r.alive → IsShaped c → get_refusal r.number_objects c place ≡ first_of (told_at r (place / r.size) (slot.Number i) ∷ [])
   number-refused i place c within read there shaped =
       let even = all-read (λ (v : Vector (Option ℤ)). (v.size ≡ r.size) × (v.len ≡ length r.alive)) r.numbers i c are.even_numbers within read in
       let below : place < c.len = omega (arith, even.1) in
       let begun : place / c.size < length c.objects = div_below place c.size (length c.objects) shaped.some (omega (arith, shaped.enough)) in
       let yes : nat_lt place c.len ≡ true = lt-ltb place c.len below in
-      let object : absent_at r (place / r.size) (slot.Number i) ≡ absent r.number_objects (get_or c.objects (place / c.size) 0) =
+      let object : told_at r (place / r.size) (slot.Number i) ≡ absent r.number_objects (get_or c.objects (place / c.size) 0) =
       absent-number (place / r.size) i c within read
       ∙ ap (λ s. option_map_or (absent r.number_objects) (slice_get c.objects (place / s)) (false, refusal.StaleJob)) (sym even.0)
       ∙ ap (λ o. option_map_or (absent r.number_objects) o (false, refusal.StaleJob)) (slice_get-get_or c.objects (place / c.size) 0 begun) in
       ap (λ b. first_of ((not b, refusal.OutOfRange) ∷ absent r.number_objects (get_or c.objects (place / c.size) 0) ∷ [])) yes
       ∙ ap (λ (case : Bool × Refusal). first_of (case ∷ [])) (sym object)
 
-  pub text-refused : (i place : ℕ) (c : Texts) → i < length r.texts → c ≡ get_or r.texts i c → place < length r.alive → HasGroups c → text_refusal content r.text_objects c place ≡ first_of (absent_at r (place / r.size) (slot.Text i) ∷ [])
+  pub text-refused : (i place : ℕ) (c : Texts) → i < length r.texts → c ≡ get_or r.texts i c → place < length r.alive → HasGroups c → text_refusal content r.text_objects c place ≡ first_of (told_at r (place / r.size) (slot.Text i) ∷ [])
   text-refused i place c within read there has =
       let even = all-read (λ (t : Texts). (t.size ≡ r.size) × (t.len ≡ length r.alive)) r.texts i c are.even_texts within read in
       let below : place < c.len = omega (arith, even.1) in
       let begun : place / c.size < length c.objects = div_below place c.size (length c.objects) has.some (omega (arith, has.held)) in
       let yes : nat_lt place c.len ≡ true = lt-ltb place c.len below in
-      let object : absent_at r (place / r.size) (slot.Text i) ≡ absent r.text_objects (get_or c.objects (place / c.size) 0) =
+      let object : told_at r (place / r.size) (slot.Text i) ≡ absent r.text_objects (get_or c.objects (place / c.size) 0) =
       absent-text (place / r.size) i c within read
       ∙ ap (λ s. option_map_or (absent r.text_objects) (slice_get c.objects (place / s)) (false, refusal.StaleJob)) (sym even.0)
       ∙ ap (λ o. option_map_or (absent r.text_objects) o (false, refusal.StaleJob)) (slice_get-get_or c.objects (place / c.size) 0 begun) in

@@ -28,18 +28,18 @@ pub same-numbers : (n : ℕ) (columns : List Texts) → map (λ c. c.column) (al
 same-numbers n [] = refl
 same-numbers n (c ∷ columns) = ap (λ (l : List ℕ). c.column ∷ l) (same-numbers (n + 1) columns)
 
-abbrev next_name : Texts → Name
+abbrev pub next_name : Texts → Name
 next_name c = record { column = c.column; group = length c.objects }
 
 named-still : (names : List Name) (c : Texts) (o : ℕ) → (begins_group c ≡ false) × IsNamed names c → IsNamed names (pushed c o)
 named-still names c o was = subst (IsNamed names) (sym (longer c o was.0)) was.1
 
-true-not : true ≢ false
+pub true-not : true ≢ false
 true-not e = cc
 
 module _ {K : Type 0} (lists : Lists) where
   -- the objects once a column has got one for its next text
-  abbrev one : Movement ℕ K → Texts → Option (List ℕ) → Movement ℕ K
+  abbrev pub one : Movement ℕ K → Texts → Option (List ℕ) → Movement ℕ K
   one m c text = created m (next_name c) (texts_form (group_with_next lists c text))
 
   -- the objects once each has, in order
@@ -72,7 +72,7 @@ module _ {K : Type 0} (lists : Lists) where
       (named-more (names_of next) last (pushed c n).column (pushed c n).objects (texts-extend next (n + 1) columns texts) own)
       (named-begun next columns texts (n + 1) more (omega (arith, even)) (All-tail (λ d. begins_group d ≡ true) c columns begin) others)
 
-  names-kept : (old new : Movement ℕ K) (forms : List (ℕ × List ℕ)) → AreReplaced old forms new → names_of new ≡ names_of old
+  pub names-kept : (old new : Movement ℕ K) (forms : List (ℕ × List ℕ)) → AreReplaced old forms new → names_of new ≡ names_of old
   names-kept old new forms (given, is, now) = ap names_of now ∙ names-replaced_all old given
 
   pub texts-named : (size len : ℕ) (columns : List Texts) → 0 < size → All (IsTexts size len) columns → (m now : Movement ℕ K) (texts : List (Option (List ℕ))) → length texts ≡ length columns

@@ -5,6 +5,8 @@ pub mod Rows
 pub mod Refusing
 pub mod Setting
 pub mod Lending
+pub mod Places
 pub mod Opening
 pub mod Moving
+pub mod Plain
 pub mod Jobs

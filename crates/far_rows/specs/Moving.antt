@@ -1,17 +1,17 @@
 -- The objects of rows: which they are, how they change in place, and why that is refused.
-use Rattle.std.specs.Prelude.{ℕ, ◌<◌, [], ◌∷◌, length, Option, is_none, option_map, slice_get}
-use Rattle.std.specs.Option.{option_and_then, option_or}
+use Rattle.std.specs.Prelude.{ℕ, ◌<◌, [], ◌∷◌, length, Option, is_none, option_map, slice_get, Bool, false}
+use Rattle.std.specs.Option.{option_and_then, option_map_or, option_or}
 use Rattle.far_types.specs.declared.refusal.Refusal.{Refusal}
 use Rattle.far_types.specs.declared.refusal.Refusal.TheVariants as refusal
 use Rattle.far_types.specs.FirstOf.{first_of}
 use Rattle.far_scopes.specs.Effects.{pinned as pinned_in, unpinned as unpinned_in, touched as touched_in}
-use Rattle.far_scopes.specs.Refusing.{pin_refusal as pin_refusal_in, unpin_refusal as unpin_refusal_in}
+use Rattle.far_scopes.specs.Refusing.{pinned_out, unpin_refusal as unpin_refusal_in}
 use Rattle.far_rows.specs.declared.slot.Slot.{Slot}
 use Rattle.far_rows.specs.declared.slot.Slot.TheVariants as slot
 use Rattle.far_rows.specs.declared.object.Object.{Object}
 use Rattle.far_rows.specs.declared.object.Object.TheVariants as object
 use Rattle.far_rows.specs.Rows.{Rows, object_of}
-use Rattle.far_rows.specs.Refusing.{no_column}
+use Rattle.far_rows.specs.Refusing.{no_column, absent_in}
 
 -- the object of this number, among those of a slot's kind
 abbrev pub object_in : Slot → ℕ → Object
@@ -43,10 +43,12 @@ module _ {K : Type 0} where
   touched r (object.Number o) = record r { number_objects = touched_in r.number_objects o }
   touched r (object.Text o) = record r { text_objects = touched_in r.text_objects o }
 
-  -- why an object may not be pinned, and why not unpinned
-  abbrev pub pin_refusal_of : Rows K → Object → Option Refusal
-  pin_refusal_of r (object.Number o) = pin_refusal_in r.number_objects o
-  pin_refusal_of r (object.Text o) = pin_refusal_in r.text_objects o
+  -- its pins are used up
+  abbrev pub pins_used : Rows K → Object → Bool × Refusal
+  pins_used r (object.Number o) = pinned_out r.number_objects o
+  pins_used r (object.Text o) = pinned_out r.text_objects o
+
+  -- why an object may not be unpinned
 
   abbrev pub unpin_refusal_of : Rows K → Object → Option Refusal
   unpin_refusal_of r (object.Number o) = unpin_refusal_in r.number_objects o
@@ -58,7 +60,7 @@ module _ {K : Type 0} where
     object_refusal = first_of (no_column r column ∷ (is_none (object_at r column group), refusal.OutOfRange) ∷ [])
 
     abbrev pub pin_refusal : Option Refusal
-    pin_refusal = option_or object_refusal (option_and_then (pin_refusal_of r) (object_at r column group))
+    pin_refusal = option_or object_refusal (first_of (absent_in r column group ∷ option_map_or (pins_used r) (object_at r column group) (false, refusal.StaleJob) ∷ []))
 
     abbrev pub unpin_refusal : Option Refusal
     unpin_refusal = option_or object_refusal (option_and_then (unpin_refusal_of r) (object_at r column group))

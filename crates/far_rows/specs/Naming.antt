@@ -13,6 +13,11 @@ names_of m = map (λ entry. entry.name) m.entries
 abbrev pub AreNamed : List Name → ℕ → List ℕ → Type 0
 AreNamed names column objects = (g o : ℕ) → slice_get objects g ≡ Some o → slice_get names o ≡ Some record { column = column; group = g }
 
+-- each object is that of the column and the row group that it is named by, among columns with these numbers and objects
+abbrev pub AreOwned : {C : Type 0} → (C → ℕ) → (C → List ℕ) → List Name → List C → Type 0
+AreOwned {C} column_of objects_of names columns =
+    (o : ℕ) (name : Name) → slice_get names o ≡ Some name → (i : ℕ) × (c : C) × (slice_get columns i ≡ Some c) × (column_of c ≡ name.column) × (slice_get (objects_of c) name.group ≡ Some o)
+
 -- the number of a slot's column, where those of numbers and those of texts have these
 abbrev pub number_in : List ℕ → List ℕ → Slot → Option ℕ
 number_in numbers texts (slot.Number i) = slice_get numbers i
@@ -21,3 +26,7 @@ number_in numbers texts (slot.Text i) = slice_get texts i
 -- the number of each slot's column is its place among the slots
 abbrev pub AreNumbered : List Slot → List ℕ → List ℕ → Type 0
 AreNumbered slots numbers texts = (k : ℕ) (s : Slot) → slice_get slots k ≡ Some s → number_in numbers texts s ≡ Some k
+
+-- a column among those of a kind has its slot at its number
+abbrev pub ArePlaced : List Slot → (ℕ → Slot) → List ℕ → Type 0
+ArePlaced slots slot_of numbers = (i k : ℕ) → slice_get numbers i ≡ Some k → slice_get slots k ≡ Some (slot_of i)

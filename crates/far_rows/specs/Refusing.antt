@@ -15,20 +15,23 @@ use Rattle.far_rows.specs.Slots.{Values, kind_of}
 use Rattle.far_rows.specs.Rows.{Rows, object_of}
 
 module _ {K : Type 0} (r : Rows K) where
-  -- the object of a row group of a column is away
-  abbrev pub absent_at : ℕ → Slot → Bool × Refusal
-  absent_at g (slot.Number i) = option_map_or (absent r.number_objects) (object_of r (slot.Number i) g) (false, refusal.StaleJob)
-  absent_at g (slot.Text i) = option_map_or (absent r.text_objects) (object_of r (slot.Text i) g) (false, refusal.StaleJob)
+  -- the object of a row group of a slot's column is away, as it is told by the name that the object bears
+  abbrev pub told_at : ℕ → Slot → Bool × Refusal
+  told_at g (slot.Number i) = option_map_or (absent r.number_objects) (object_of r (slot.Number i) g) (false, refusal.StaleJob)
+  told_at g (slot.Text i) = option_map_or (absent r.text_objects) (object_of r (slot.Text i) g) (false, refusal.StaleJob)
+
+  -- the object of a row group of a column, which has this slot, is away: the refusal says the column and the row group
+  abbrev pub absent_at : ℕ → ℕ → Slot → Bool × Refusal
+  absent_at column g s = ((told_at g s).0, refusal.Absent column g)
+
+  -- the columns of these slots, in order, of which the first is the n-th of the table
+  abbrev pub absents_from : ℕ → ℕ → List Slot → List (Bool × Refusal)
+  absents_from g n [] = []
+  absents_from g n (s ∷ slots) = absent_at n g s ∷ absents_from g (n + 1) slots
 
   -- the columns of a row group, in order: its object is away
   abbrev pub absents : ℕ → List (Bool × Refusal)
-  absents g = map (absent_at g) r.slots
-
-  -- the columns of these slots likewise, of which the first is the n-th of the table: the refusal names the column and the
-  -- row group
-  abbrev pub named_absents : ℕ → ℕ → List Slot → List (Bool × Refusal)
-  named_absents g n [] = []
-  named_absents g n (s ∷ slots) = ((absent_at g s).0, refusal.Absent n g) ∷ named_absents g (n + 1) slots
+  absents g = absents_from g 0 r.slots
 
   -- there is no such place
   abbrev pub no_row : ℕ → Bool × Refusal
@@ -53,7 +56,7 @@ module _ {K : Type 0} (r : Rows K) where
 
     -- its object of a row group is away
     abbrev pub absent_in : ℕ → Bool × Refusal
-    absent_in g = option_map_or (absent_at g) (slice_get r.slots column) (false, refusal.StaleJob)
+    absent_in g = option_map_or (absent_at column g) (slice_get r.slots column) (false, refusal.StaleJob)
 
   abbrev pub cell_refusal : ℕ → ℕ → Option Refusal
   cell_refusal place column = first_of (no_column column ∷ no_row place ∷ absent_in column (place / r.size) ∷ [])

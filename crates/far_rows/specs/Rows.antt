@@ -4,14 +4,15 @@ use Rattle.std.specs.Option.{option_and_then}
 use Rattle.far_types.specs.declared.cell.Cell.{Cell}
 use Rattle.far_codec.specs.Reading.{ints_meaning}
 use Rattle.far_scopes.specs.Movement.{Movement, AreClean}
-use Rattle.far_columns.specs.Texts.{Texts, lists_of, texts_in}
+use Rattle.far_vector.specs.Vector.{IsShaped}
+use Rattle.far_columns.specs.Texts.{Texts, HasGroups, lists_of, texts_in}
 use Rattle.far_columns.specs.Numbers.{Numbers, number_lists, numbers_in}
 use Rattle.far_columns.specs.NumbersTogether.{NumberColumns, AreNumberColumns}
 use Rattle.far_columns.specs.Together.{AreColumns, AreReplaced, all_begin, all_created, next_forms}
 use Rattle.far_rows.specs.declared.slot.Slot.{Slot}
 use Rattle.far_rows.specs.declared.slot.Slot.TheVariants as slot
 use Rattle.far_rows.specs.Slots.{AreSlots, columns_of}
-use Rattle.far_rows.specs.Naming.{names_of, AreNamed, AreNumbered}
+use Rattle.far_rows.specs.Naming.{names_of, AreNamed, AreNumbered, AreOwned, ArePlaced}
 
 -- where each column lies, how many places a row group has, the columns of numbers and of texts, the objects in which
 -- they lie, and for each place whether it is alive
@@ -44,8 +45,8 @@ module _ {K : Type 0} where
     cells_of r = columns_of r.slots (all_numbers r) (all_texts r)
 
     -- at most 16 columns and 2^24 places; all columns are as long as there are places, have row groups of one size, and
-    -- objects of their own, which are named by the column and the row group; the lists of objects that are clean are what
-    -- their far copies mean
+    -- objects of their own, which are named by the column and the row group, and there are no other objects; the lists of
+    -- objects that are clean are what their far copies mean
     pub record AreRows (r : Rows K) : Type 0 where
       pub slots : AreSlots r.slots (length r.numbers) (length r.texts)
       pub few : length r.numbers + length r.texts ≤ 16
@@ -54,13 +55,19 @@ module _ {K : Type 0} where
       pub places : length r.alive ≤ 2 ^ 24
       pub numbers : AreNumberColumns (number_lists content r.number_objects) r.numbers
       pub texts : AreColumns (lists_of content r.text_objects) r.texts
+      pub shaped : All IsShaped r.numbers
+      pub grouped : All HasGroups r.texts
       pub even_numbers : All (λ c. (c.size ≡ r.size) × (c.len ≡ length r.alive)) r.numbers
       pub even_texts : All (λ c. (c.size ≡ r.size) × (c.len ≡ length r.alive)) r.texts
       pub number_objects : All (λ c. length r.number_objects.entries ≡ length r.numbers * length c.objects) r.numbers
       pub text_objects : All (λ c. length r.text_objects.entries ≡ length r.texts * length c.objects) r.texts
       pub numbered : AreNumbered r.slots (map (λ c. c.column) r.numbers) (map (λ c. c.column) r.texts)
+      pub placed_numbers : ArePlaced r.slots (λ i. slot.Number i) (map (λ c. c.column) r.numbers)
+      pub placed_texts : ArePlaced r.slots (λ i. slot.Text i) (map (λ c. c.column) r.texts)
       pub number_names : All (λ c. AreNamed (names_of r.number_objects) c.column c.objects) r.numbers
       pub text_names : All (λ c. AreNamed (names_of r.text_objects) c.column c.objects) r.texts
+      pub owned_numbers : AreOwned (λ c. c.column) (λ c. c.objects) (names_of r.number_objects) r.numbers
+      pub owned_texts : AreOwned (λ c. c.column) (λ c. c.objects) (names_of r.text_objects) r.texts
       pub clean_numbers : AreClean ints_meaning content r.number_objects
       pub clean_texts : AreClean (λ bytes. bytes) content r.text_objects
 

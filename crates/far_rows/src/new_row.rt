@@ -1,7 +1,9 @@
 // A row that is to come.
-ghost use Rattle.std.specs.Prelude.{◌≡◌, None, replicate, true, length, map, IfOk, IfErr};
+ghost use Rattle.std.specs.Prelude.{◌≡◌, None, replicate, true, false, length, map, IfOk, IfErr};
 ghost use Rattle.far_types.specs.Edits.{kinds_fit};
-ghost use Rattle.far_types.specs.Cells.{is_of_kind};
+ghost use Rattle.std.specs.List.{list_any};
+ghost use Rattle.far_types.specs.Cells.{is_of_kind, is_too_long};
+ghost use Rattle.far_columns.specs.RefusingTogether.{any_too_long};
 ghost use Rattle.far_rows.specs.Cells.{int_cell, text_cell};
 ghost use Rattle.far_rows.specs.Slots.{AreSlots, IsWithin, kind_of, row_of, with_value};
 
@@ -19,11 +21,15 @@ pub struct NewRow {
 }
 
 impl Model for NewRow {
+    ghost use Rattle.std.specs.Prelude.{◌≡◌, false};
+    ghost use Rattle.far_columns.specs.RefusingTogether.{any_too_long};
     ghost use Rattle.far_rows.specs.Slots.{Values};
 
     ghost Value = { Values };
 
     ghost view = { λ row. record { numbers = row.numbers.items; texts = row.texts.items } };
+
+    ghost invariant = { λ row. (any_too_long row.texts.items).0 ≡ false };
 }
 
 impl NewRow {
@@ -40,11 +46,12 @@ impl NewRow {
         })
     }
 
-    /// Takes the cells of a row, whose columns have these slots. Takes no memory.
+    /// Takes the cells of a row, whose columns have these slots, and none of which is too long. Takes no memory.
     pub fn fill(&mut self, slots: &[Slot], row: Row)
         requires slots { AreSlots slots.now (length self.old.numbers) (length self.old.texts) }
         requires width { length row ≡ length slots.now }
         requires of_kinds { kinds_fit (map kind_of slots.now) row ≡ true }
+        requires short { list_any is_too_long row ≡ false }
         ensures row { row_of slots.now self.new ≡ row }
         ensures numbers { length self.new.numbers ≡ length self.old.numbers }
         ensures texts { length self.new.texts ≡ length self.old.texts }
@@ -60,6 +67,7 @@ impl NewRow {
     fn put(&mut self, slot: Slot, cell: Cell)
         requires within { IsWithin (length self.old.numbers) (length self.old.texts) slot }
         requires of_kind { is_of_kind (kind_of slot) cell ≡ true }
+        requires short { is_too_long cell ≡ false }
         ensures { self.new ≡ with_value self.old slot cell }
     {
         match slot {
@@ -75,9 +83,10 @@ impl NewRow {
         self.numbers.as_slice()
     }
 
-    /// The texts, lent in place: one for each column of texts.
+    /// The texts, lent in place: one for each column of texts. None has more than 4,096 bytes.
     pub fn texts(&self) -> &[Option<Text>]
-        ensures { result.now ≡ self.now.texts }
+        ensures texts { result.now ≡ self.now.texts }
+        ensures short { (any_too_long self.now.texts).0 ≡ false }
     {
         self.texts.as_slice()
     }

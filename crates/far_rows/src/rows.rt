@@ -4,6 +4,8 @@ ghost use Rattle.far_types.specs.Bounds.{AreLimits};
 ghost use Rattle.far_scopes.specs.Movement.{AreHere};
 ghost use Rattle.far_rows.specs.Slots.{slots_from, kind_of};
 ghost use Rattle.far_rows.specs.Rows.{AreRows};
+ghost use Rattle.far_types.specs.Edits.{changed_at, removed};
+ghost use Rattle.far_rows.specs.Places.{places_in};
 ghost use Rattle.far_rows.specs.Opening.{empty_rows};
 
 mod asking;
@@ -112,7 +114,8 @@ impl<S: FarTickets> Rows<S> {
     /// The place is not alive from now on; its cells stay. Takes no memory.
     pub fn clear(&mut self, place: usize)
         requires { place < length self.old.alive }
-        ensures { self.new ≡ record self.old { alive = slice_set self.old.alive place false } }
+        ensures cleared { self.new ≡ record self.old { alive = slice_set self.old.alive place false } }
+        ensures places { places_in S.content self.new ≡ changed_at removed place (places_in S.content self.old) }
     {
         self.alive.clear(place);
     }

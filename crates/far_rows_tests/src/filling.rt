@@ -1,7 +1,8 @@
 // Rows that are to come: worked examples.
-ghost use Rattle.std.specs.Prelude.{◌≡◌, [], ◌∷◌, length, true, IfOk};
+ghost use Rattle.std.specs.Prelude.{◌≡◌, [], ◌∷◌, length, true, false, IfOk};
+ghost use Rattle.std.specs.List.{list_any};
 ghost use Rattle.far_types.specs.declared.cell.Kind.TheVariants.{Int, Text as Texts};
-ghost use Rattle.far_types.specs.Cells.{is_of_kind};
+ghost use Rattle.far_types.specs.Cells.{is_of_kind, is_too_long};
 ghost use Rattle.far_types.specs.Edits.{kinds_fit};
 
 use far_rows::{NewRow, Slot};
@@ -10,7 +11,8 @@ use std::alloc::Global;
 use std::test::Fail;
 
 pub fn number_cell(number: Option<i64>) -> Cell
-    ensures { is_of_kind Kind.Int result ≡ true }
+    ensures kind { is_of_kind Kind.Int result ≡ true }
+    ensures short { is_too_long result ≡ false }
 {
     match number {
         Some(number) => Cell::Int(number),
@@ -19,9 +21,11 @@ pub fn number_cell(number: Option<i64>) -> Cell
 }
 
 pub fn text_cell(alloc: Global, text: Option<&str>) -> Result<Cell, Refusal>
-    ensures { IfOk result (λ cell. is_of_kind Kind.Text cell ≡ true) }
+    ensures kind { IfOk result (λ cell. is_of_kind Kind.Text cell ≡ true) }
+    ensures short { IfOk result (λ cell. is_too_long cell ≡ false) }
 {
     match text {
+        Some(text) if text.len() > 4096 => Err(Refusal::TextTooLong),
         Some(text) => Ok(Cell::Text(Text::new(String::from_str(alloc, text)?))),
         None => Ok(Cell::Missing),
     }
@@ -31,6 +35,7 @@ pub fn text_cell(alloc: Global, text: Option<&str>) -> Result<Cell, Refusal>
 fn row(alloc: Global, numbers: [Option<i64>; 2], text: Option<&str>) -> Result<Row, Refusal>
     ensures width { IfOk result (λ row. length row ≡ 3) }
     ensures kinds { IfOk result (λ row. kinds_fit (Int ∷ Texts ∷ Int ∷ []) row ≡ true) }
+    ensures short { IfOk result (λ row. list_any is_too_long row ≡ false) }
 {
     let first = number_cell(numbers[0]);
     let text = text_cell(alloc, text)?;

@@ -66,3 +66,7 @@ once-used order o once = elim (cases_Bool (has order o)) [
 -- an object that came and goes again
 pub without-cons : (order : List ℕ) (o : ℕ) → without (o ∷ order) o ≡ order
 without-cons order o = rw (eq-eqb o o refl) refl
+
+-- an object that is first already
+pub used-first : (order : List ℕ) (o : ℕ) → used (o ∷ order) o ≡ o ∷ order
+used-first order o = rw (eq-eqb o o refl) refl

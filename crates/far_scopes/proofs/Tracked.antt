@@ -1,13 +1,15 @@
 -- One object changes: what holds of all objects then.
-use Rattle.std.proofs.Common.{◌≡◌, ◌≢◌, ℕ, false, inl, inr, List, Option, Some, refl, sym, ap, subst, ◌∙◌}
-use Rattle.std.specs.Prelude.{option_map}
+use Rattle.std.proofs.Common.{◌≡◌, ◌≢◌, ℕ, ◌<◌, arith, get_or, true, false, inl, inr, List, length, Option, Some, refl, sym, ap, subst, ◌∙◌}
+use Rattle.std.specs.Prelude.{option_map, IfSome}
 use Rattle.std.specs.Option.{option_map_or, option_and_then}
 use Rattle.std.proofs.lemmas.Bool.{cases_eq}
 use Rattle.far_pointer.specs.declared.pointer.Pointer.{Pointer}
 use Rattle.far_pointer.specs.Layout.{is_dirty}
 use Rattle.far_scopes.specs.declared.entry.Entry.{Entry}
-use Rattle.far_scopes.specs.Memory.{list_in, ChangesList}
-use Rattle.far_scopes.specs.Movement.{Movement, word_of, entry_of, dirty, ticket_of, list_of, AreClean, IsTracked, AreTracked}
+use Rattle.far_scopes.specs.Memory.{place_of, list_in, ChangesList}
+use Rattle.far_scopes.proofs.Places.{cases_option}
+use Rattle.far_scopes.proofs.WordPlaces.{word-read, place-within, some-true}
+use Rattle.far_scopes.specs.Movement.{Movement, is_local, word_of, entry_of, dirty, ticket_of, list_of, AreClean, IsTracked, AreTracked}
 
 module _ {X K : Type 0} (meaning : List ℕ → List X) (content : K → List ℕ) where
   -- all but object o stay as they are
@@ -45,3 +47,13 @@ module _ {X K : Type 0} (meaning : List ℕ → List X) (content : K → List �
         | inl same ↦ subst (λ k. IsTracked meaning content spelled new.changes new.leavings word (list_in new.memory k) entry) (sym same) (here word entry (subst (λ k. word_of new k ≡ Some word) same w) (subst (λ k. entry_of new k ≡ Some entry) same e))
         | inr ne ↦ rw (changes, leavings, others.lists p ne) (tracked.each p word entry (sym (others.words p ne) ∙ w) (sym (others.entries p ne) ∙ e))
       ]
+
+-- the list of a local object is as long as its record, which was read, says
+pub long-read : {X K : Type 0} (meaning : List ℕ → List X) (content : K → List ℕ) (spelled : List X → List ℕ → Type 0) (m : Movement X K) → AreTracked meaning content spelled m
+    → (o : ℕ) (entry : Entry K) → is_local m o ≡ true → entry ≡ get_or m.entries o entry → IfSome (list_in m.memory o) (λ list. length list ≡ entry.len)
+long-read meaning content spelled m tracked o entry local read =
+    let within : o < length m.entries = omega (arith, place-within m.memory.words o (some-true (place_of m.memory.words o) local), tracked.even) in
+    elim (cases_option (word_of m o)) [
+      | inl none ↦ rw none tt
+      | inr (word, w) ↦ (tracked.each o word entry w (word-read m.entries o entry within read)).long
+    ]

@@ -1,5 +1,5 @@
 // The local memory of objects.
-ghost use Rattle.std.specs.Prelude.{◌≡◌, ℕ, ◌-◌, ◌<◌, ◌≤◌, ◌^◌, ◌↔◌, ◌⊎◌, List, [], length, replicate, All, true, false, Some, None, IsSome, IsTrue, IfOk, IfErr, OnOk, OnErr, IsErrOf, slice_get, is_some};
+ghost use Rattle.std.specs.Prelude.{◌≡◌, ℕ, ◌-◌, ◌<◌, ◌≤◌, ◌^◌, ◌↔◌, ◌⊎◌, List, [], length, replicate, All, true, false, Some, None, IsSome, IsTrue, IfSome, IfOk, IfErr, OnOk, OnErr, IsErrOf, slice_get, is_some};
 ghost use Rattle.std.specs.Borrow.{sem};
 ghost use Rattle.far_pointer.specs.Layout.{HasWord};
 ghost use Rattle.far_log.specs.Room.{fits_in, fit_in_order, spaces_of};
@@ -61,12 +61,13 @@ impl<T: Elem> LocalMemory<T> {
         word
     }
 
-    /// The list of an object that is local.
-    pub fn lend(&self, o: usize) -> &[T]
-        requires { IsSome (place_of self.now.words o) }
+    /// The list of an object that is local, which has so many elements.
+    pub fn lend(&self, o: usize, len: usize) -> &[T]
+        requires local { IsSome (place_of self.now.words o) }
+        requires long { IfSome (list_in self.now o) (λ list. length list ≡ len) }
         ensures { list_in self.now o ≡ Some result.now }
     {
-        self.region.part(at_of(self.words[o]))
+        self.region.part_long(at_of(self.words[o]), len)
     }
 
     /// One object more, with this list: dirty and hot. Refused, nothing is changed.

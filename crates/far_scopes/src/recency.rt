@@ -1,5 +1,5 @@
 // The order in which objects were used.
-ghost use Rattle.std.specs.Prelude.{◌≡◌, [], ◌∷◌, IfOk, IfErr, OnOk, OnErr, false};
+ghost use Rattle.std.specs.Prelude.{◌≡◌, [], ◌∷◌, IfOk, IfErr, IsTrue, OnOk, OnErr, false};
 ghost use Rattle.std.specs.Map.{keys_of};
 ghost use Rattle.far_scopes.specs.Recency.{has, without, used};
 
@@ -59,7 +59,19 @@ impl Recency {
     pub fn touch(&mut self, o: u32)
         ensures { self.new ≡ used self.old o }
     {
-        self.cache.promote(&o);
+        if !self.is_first(o) {
+            self.cache.promote(&o);
+        }
+    }
+
+    // Whether an object was used last, as most are that are used again: a use leaves the order as it is.
+    fn is_first(&self, o: u32) -> bool
+        ensures { IsTrue result → used self.now o ≡ self.now }
+    {
+        match self.cache.peek_mru() {
+            Some((first, _)) => *first == o,
+            None => false,
+        }
     }
 
     /// The objects, the last used first. Takes no memory.

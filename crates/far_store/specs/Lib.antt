@@ -1,2 +1,2 @@
-pub mod Agents
+pub mod Named
 pub mod Faults

@@ -1,9 +1,10 @@
 // The agent: a far store in this process.
-ghost use Rattle.std.specs.Prelude.{◌≡◌, ◌<◌, ◌≤◌, ◌↔◌, [], ◌∷◌, IfOk, IfErr, OnOk, OnErr, IsErr};
-ghost use Rattle.far_store.specs.Agents.{IsOf};
+ghost use Rattle.std.specs.Prelude.{◌≡◌, ◌<◌, [], ◌∷◌, IfOk, IfErr, OnOk, OnErr};
+ghost use Rattle.far_store.specs.Named.{IsOf};
 ghost use Rattle.far_store.specs.Faults.{RefusedBy};
 
 use crate::Meter;
+use crate::drawn::below;
 use crate::store::{FarRead, FarStore, FarTickets};
 use boxcar::Pushed;
 use far_types::Refusal;
@@ -24,11 +25,11 @@ pub struct AgentStore<R> {
 }
 
 impl<R> Model for AgentStore<R> {
-    ghost use Rattle.far_store.specs.Agents.{Agent, agent_coded, bucket_names};
+    ghost use Rattle.far_store.specs.Named.{Named, named_coded, bucket_names};
 
-    ghost Value = { Agent };
+    ghost Value = { Named };
 
-    ghost coded = { agent_coded };
+    ghost coded = { named_coded };
 
     ghost view = { λ s. record { name = bucket_names s.contents; capacity = s.capacity } };
 }
@@ -122,17 +123,4 @@ impl<R: Sync + Drop + Wait> FarStore for AgentStore<R> {
         };
         below(self.capacity, ticket)
     }
-}
-
-// The ticket, if its number is below the capacity. Another thread may have drawn a number since the count was read,
-// so the number that was drawn decides.
-fn below(capacity: u64, ticket: Pushed<Vec<u8>>) -> Result<Pushed<Vec<u8>>, Refusal>
-    ensures kept { IfOk result (λ kept. kept ≡ ticket) }
-    ensures full { IsErr result ↔ (capacity ≤ ticket.index) }
-    ensures refused { IfErr result (λ e. e ≡ Refusal.FarFull) }
-{
-    if ticket.index() as u64 >= capacity {
-        return Err(Refusal::FarFull);
-    }
-    Ok(ticket)
 }

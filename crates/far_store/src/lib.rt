@@ -10,12 +10,17 @@
 //! Stores are shared by threads, and nothing is ever removed from one.
 
 mod agent;
+mod drawn;
+mod engine;
+mod engine_store;
 mod faulty;
 mod gate;
 mod meter;
 mod store;
 
 pub use agent::AgentStore;
+pub use engine::{Engine, Failure};
+pub use engine_store::{EngineStore, Kept};
 pub use faulty::FaultyStore;
 pub use gate::GateStore;
 pub use meter::Meter;

@@ -12,7 +12,10 @@ pub mod FirstOf
 pub mod FormLengths
 pub mod KeyOrder
 pub mod Keys
+pub mod Lent
+pub mod MayRefuse
 pub mod Pairs
 pub mod RefusalExamples
 pub mod Refusals
 pub mod Table
+pub mod Under

@@ -4,12 +4,16 @@
 
 pub mod answer;
 pub mod cell;
+pub mod cell_ref;
 pub mod edit;
 pub mod filter;
 pub mod key;
 pub mod laws;
+pub mod lend_cells;
+pub mod lent_row;
 pub mod limits;
 pub mod name;
+pub mod pairs;
 pub mod refusal;
 pub mod row;
 pub mod schema;
@@ -18,9 +22,12 @@ pub mod text;
 
 pub use answer::{Answer, ExtremaLines, TotalLines};
 pub use cell::{Cell, Kind};
+pub use cell_ref::CellRef;
 pub use edit::Edit;
 pub use filter::{Filter, Op, Test};
 pub use key::{Key, clone_key};
+pub use lend_cells::LendCells;
+pub use lent_row::LentRow;
 pub use limits::Limits;
 pub use name::Name;
 pub use refusal::Refusal;

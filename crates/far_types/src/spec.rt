@@ -1,5 +1,5 @@
 // What an aggregate computes.
-ghost use Rattle.std.specs.Prelude.{◌≡◌, ◌==◌, IfOk, IfErr, OnOk, nat_lt, length, slice_get, Some, None};
+ghost use Rattle.std.specs.Prelude.{◌≡◌, ◌↔◌, IsTrue, ◌==◌, IfOk, IfErr, OnOk, nat_lt, length, slice_get, Some, None};
 ghost use Rattle.std.specs.List.{list_any, list_all};
 ghost use Rattle.far_types.specs.Bounds.{has_its_kind, has_long_constant, column_of};
 
@@ -123,6 +123,17 @@ impl Spec {
             return Err(Refusal::WrongKind);
         }
         Ok(())
+    }
+
+    /// Whether it is the same aggregate: the same fold of the same columns over the same tests in the same order. Takes
+    /// no memory.
+    pub fn is_same(&self, other: &Spec) -> bool
+        ensures { IsTrue result ↔ (self.now ≡ other.now) }
+    {
+        self.fold == other.fold
+            && self.value == other.value
+            && self.key == other.key
+            && self.filter.is_same(&other.filter)
     }
 
     /// An equal aggregate. Refused with `NoMemory` (1) alone.

@@ -1,8 +1,10 @@
 // Whether a row may be appended.
-ghost use Rattle.std.specs.Prelude.{◌≡◌, false, length};
+ghost use Rattle.std.specs.Prelude.{◌≡◌, length};
 ghost use Rattle.far_scopes.specs.Refusing.{refusal_in};
-ghost use Rattle.far_columns.specs.RefusingTogether.{any_too_long};
+ghost use Rattle.far_types.specs.declared.limits.Limits.{Limits};
 ghost use Rattle.far_rows.specs.Refusing.{push_refusal};
+ghost use Rattle.far_rows.specs.Places.{AreOf};
+ghost use Rattle.far_rows.specs.Plain.{insert_refusal};
 
 use super::Rows;
 use crate::new_row::NewRow;
@@ -11,7 +13,7 @@ use far_store::FarTickets;
 use far_types::Refusal;
 
 impl<S: FarTickets> Rows<S> {
-    /// Whether a row may be appended, whose texts have at most 4,096 bytes each. Takes no memory.
+    /// Whether a row may be appended. Takes no memory.
     ///
     /// Refused with `Absent` (16) exactly where the row group of the next place is begun and some object of it is away, naming
     /// the first in the order of the columns; else with `ChunkFull` (11) exactly where the form of some column's texts would be
@@ -21,7 +23,19 @@ impl<S: FarTickets> Rows<S> {
     pub fn may_push(&self, row: &NewRow) -> Result<(), Refusal>
         requires numbers { length row.now.numbers ≡ length self.now.numbers }
         requires texts { length row.now.texts ≡ length self.now.texts }
-        requires short { (any_too_long row.now.texts).0 ≡ false }
+        ensures refused { refusal_in result ≡ push_refusal S.content self.now row.now }
+        ensures plain { (limits : Limits) → AreOf limits self.now → refusal_in result ≡ insert_refusal S.content limits self.now row.now }
+    {
+        // They tell what rows are, and that no text is too long.
+        let _len = self.len();
+        let _texts = row.texts();
+        self.may_push_values(row)
+    }
+
+    // Whether a row may be appended, as its columns tell it.
+    fn may_push_values(&self, row: &NewRow) -> Result<(), Refusal>
+        requires numbers { length row.now.numbers ≡ length self.now.numbers }
+        requires texts { length row.now.texts ≡ length self.now.texts }
         ensures { refusal_in result ≡ push_refusal S.content self.now row.now }
     {
         // It tells that a table has at most 16 columns.

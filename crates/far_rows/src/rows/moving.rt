@@ -1,8 +1,14 @@
 // The objects of the rows, which are named by their columns and row groups.
-ghost use Rattle.std.specs.Prelude.{◌≡◌, ◌<◌, ℕ, List, length, Some, option_map, IfOk, IfSome, OnOk, OnErr, IsSomeAnd};
+ghost use Rattle.std.specs.Prelude.{◌≡◌, ◌<◌, ℕ, List, length, Some, option_map, IfOk, IfSome, OnOk, OnErr, IsSomeAnd, slice_get};
+ghost use Rattle.far_types.specs.declared.name.Name.{Name};
+ghost use Rattle.far_codec.specs.FarForm.{FitsCount};
+ghost use Rattle.far_codec.specs.TextForm.{IsTextsForm};
+ghost use Rattle.far_scopes.specs.Memory.{list_in};
 ghost use Rattle.far_scopes.specs.Movement.{AreHere};
 ghost use Rattle.far_scopes.specs.Refusing.{refusal_in};
 ghost use Rattle.far_rows.specs.declared.slot.Slot.TheVariants as slot;
+ghost use Rattle.far_rows.specs.declared.object.Object.TheVariants as object;
+ghost use Rattle.far_rows.specs.Naming.{names_of};
 ghost use Rattle.far_rows.specs.Rows.{cells_of, object_of};
 ghost use Rattle.far_rows.specs.Moving.{object_in, object_at, IsInUse, pinned, unpinned, touched, object_refusal, pin_refusal, unpin_refusal};
 
@@ -14,17 +20,25 @@ use far_store::FarTickets;
 use far_types::Refusal;
 
 impl<S: FarTickets> Rows<S> {
-    /// The objects of numbers, lent for jobs to begin with. Takes no memory.
+    /// The objects of numbers, lent for jobs to begin with. Each that is local has a far form, and each is that of the column
+    /// and the row group that it is named by. Takes no memory.
     pub fn number_objects(&self) -> &Objects<Option<i64>, S>
-        ensures { result.now ≡ self.now.number_objects }
+        ensures objects { result.now ≡ self.now.number_objects }
+        ensures spelled { (o : ℕ) → IfSome (list_in result.now.memory o) FitsCount }
+        ensures owned { (o : ℕ) (name : Name) → slice_get (names_of result.now) o ≡ Some name → object_at self.now name.column name.group ≡ Some (object.Number o) }
     {
+        // It tells that an object with a list is in use.
+        let _number = self.number_objects.number();
         &self.number_objects
     }
 
     /// The objects of texts, lent likewise. Takes no memory.
     pub fn text_objects(&self) -> &Objects<u8, S>
-        ensures { result.now ≡ self.now.text_objects }
+        ensures objects { result.now ≡ self.now.text_objects }
+        ensures spelled { (o : ℕ) → IfSome (list_in result.now.memory o) IsTextsForm }
+        ensures owned { (o : ℕ) (name : Name) → slice_get (names_of result.now) o ≡ Some name → object_at self.now name.column name.group ≡ Some (object.Text o) }
     {
+        let _number = self.text_objects.number();
         &self.text_objects
     }
 

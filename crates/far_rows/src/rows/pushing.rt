@@ -1,7 +1,7 @@
 // A row is appended.
 ghost use Rattle.std.specs.Prelude.{◌≡◌, if◌then◌else◌, ◌<◌, ◌≤◌, ◌+◌, ◌^◌, ◌++◌, ◌∷◌, [], ℕ, List, length, map, true, false, None, All, OnOk, OnErr, IfErr};
 ghost use Rattle.far_codec.specs.Reading.{ints_meaning};
-ghost use Rattle.far_scopes.specs.Movement.{AreClean, AreHere};
+ghost use Rattle.far_scopes.specs.Movement.{AreClean, AreHere, version_of};
 ghost use Rattle.far_vector.specs.Vector.{IsShaped};
 ghost use Rattle.far_columns.specs.Texts.{HasGroups, lists_of, texts_in};
 ghost use Rattle.far_columns.specs.Numbers.{number_lists, numbers_in};
@@ -117,11 +117,11 @@ impl<S: FarTickets> Rows<S> {
         ensures text_objects { OnOk result (TextsMoved S.content self.old row.now.texts self.new.text_objects) }
         ensures number_store { (name : List ℕ) → AreHere S.is_of name self.old.number_objects → AreHere S.is_of name self.new.number_objects }
         ensures text_store { (name : List ℕ) → AreHere S.is_of name self.old.text_objects → AreHere S.is_of name self.new.text_objects }
+        ensures number_versions { (o : ℕ) → version_of self.new.number_objects o ≤ version_of self.old.number_objects o + 1 }
+        ensures text_versions { (o : ℕ) → version_of self.new.text_objects o ≤ version_of self.old.text_objects o + 1 }
         ensures memory { IfErr result (λ e. e ≡ Refusal.NoMemory) }
         ensures err { OnErr result (self.new ≡ self.old) }
     {
-        known_numbers(&self.numbers);
-        known_texts(&self.texts);
         let _number = self.number_objects.number();
         let _number = self.text_objects.number();
         let begins = self.alive.len() % self.size as usize == 0;
@@ -139,6 +139,8 @@ impl<S: FarTickets> Rows<S> {
             self.alive.unpush();
             return Err(refusal);
         }
+        known_numbers(&self.numbers);
+        known_texts(&self.texts);
         Ok(())
     }
 }

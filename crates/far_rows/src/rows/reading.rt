@@ -7,10 +7,11 @@ ghost use Rattle.far_scopes.specs.Refusing.{refusal_in, absent};
 ghost use Rattle.far_vector.specs.Vector.{IsVector};
 ghost use Rattle.far_columns.specs.Numbers.{number_lists};
 ghost use Rattle.far_columns.specs.Texts.{lists_of, IsTextColumn};
+ghost use Rattle.far_rows.specs.declared.slot.Slot.TheVariants as slot;
 ghost use Rattle.far_rows.specs.Cells.{int_cell, text_cell, lent_cell};
 ghost use Rattle.far_rows.specs.Slots.{IsWithin, column_in};
 ghost use Rattle.far_rows.specs.Rows.{all_numbers, all_texts, cells_of};
-ghost use Rattle.far_rows.specs.Refusing.{absent_at, absents, named_absents, cell_refusal, text_refusal};
+ghost use Rattle.far_rows.specs.Refusing.{told_at, absent_at, absents, cell_refusal, text_refusal};
 
 use super::Rows;
 use crate::cell_ref::CellRef;
@@ -26,8 +27,7 @@ impl<S: FarTickets> Rows<S> {
     /// Refused with `Absent` (16) exactly where one is away, naming the first in the order of the columns by the column and the
     /// row group.
     pub fn here(&self, group: u32) -> Result<(), Refusal>
-        ensures refused { refusal_in result ≡ first_of (absents self.now group) }
-        ensures names { refusal_in result ≡ first_of (named_absents self.now group 0 self.now.slots) }
+        ensures { refusal_in result ≡ first_of (absents self.now group) }
     {
         // It tells that each slot is that of a column.
         let _len = self.len();
@@ -40,7 +40,7 @@ impl<S: FarTickets> Rows<S> {
     // Whether the object of a row group of a column is local, where there is one.
     pub(super) fn is_here(&self, slot: Slot, group: u32) -> Result<(), Refusal>
         requires { IsWithin (length self.now.numbers) (length self.now.texts) slot }
-        ensures { refusal_in result ≡ first_of (absent_at self.now group slot ∷ []) }
+        ensures { refusal_in result ≡ first_of (told_at self.now group slot ∷ []) }
     {
         match slot {
             Slot::Number(number) => {
@@ -65,8 +65,8 @@ impl<S: FarTickets> Rows<S> {
             return Err(Refusal::NoRow);
         }
         match *slot {
-            Slot::Number(number) => Ok(lent_number(self.number_at(number, place)?)),
-            Slot::Text(text) => Ok(lent_text(self.text_at(text, place)?)),
+            Slot::Number(number) => Ok(lent_number(self.number_at(column, number, place)?)),
+            Slot::Text(text) => Ok(lent_text(self.text_at(column, text, place)?)),
         }
     }
 
@@ -88,15 +88,16 @@ impl<S: FarTickets> Rows<S> {
         if place >= self.alive.len() {
             return Err(Refusal::NoRow);
         }
-        self.text_at(text, place)
+        self.text_at(column, text, place)
     }
 
     // The number of a place that is there.
-    fn number_at(&self, number: usize, place: usize) -> Result<Option<i64>, Refusal>
+    fn number_at(&self, at: usize, number: usize, place: usize) -> Result<Option<i64>, Refusal>
+        requires lies { slice_get self.now.slots at ≡ Some (slot.Number number) }
         requires column { number < length self.now.numbers }
         requires place { place < length self.now.alive }
-        ensures number { IfOk result (λ value. slice_index_or (column_in (all_numbers S.content self.now) (all_texts S.content self.now) (Slot.Number number)) place Missing ≡ int_cell value) }
-        ensures refused { refusal_in result ≡ first_of (absent_at self.now (place / self.now.size) (Slot.Number number) ∷ []) }
+        ensures number { IfOk result (λ value. slice_index_or (column_in (all_numbers S.content self.now) (all_texts S.content self.now) (slot.Number number)) place Missing ≡ int_cell value) }
+        ensures refused { refusal_in result ≡ first_of (absent_at self.now at (place / self.now.size) (slot.Number number) ∷ []) }
     {
         let column = &self.numbers[number];
         // It tells that a row group is begun for each place.
@@ -105,11 +106,12 @@ impl<S: FarTickets> Rows<S> {
     }
 
     // Likewise the text.
-    fn text_at(&self, text: usize, place: usize) -> Result<Option<&str>, Refusal>
+    fn text_at(&self, at: usize, text: usize, place: usize) -> Result<Option<&str>, Refusal>
+        requires lies { slice_get self.now.slots at ≡ Some (slot.Text text) }
         requires column { text < length self.now.texts }
         requires place { place < length self.now.alive }
-        ensures text { IfOk result (λ value. slice_index_or (column_in (all_numbers S.content self.now) (all_texts S.content self.now) (Slot.Text text)) place Missing ≡ text_cell (option_copied value)) }
-        ensures refused { refusal_in result ≡ first_of (absent_at self.now (place / self.now.size) (Slot.Text text) ∷ []) }
+        ensures text { IfOk result (λ value. slice_index_or (column_in (all_numbers S.content self.now) (all_texts S.content self.now) (slot.Text text)) place Missing ≡ text_cell (option_copied value)) }
+        ensures refused { refusal_in result ≡ first_of (absent_at self.now at (place / self.now.size) (slot.Text text) ∷ []) }
     {
         let column = &self.texts[text];
         let _len = column.len();

@@ -1,11 +1,14 @@
 // The cell of a place is set.
-ghost use Rattle.std.specs.Prelude.{◌≡◌, [], ◌<◌, ℕ, ℤ, Option, List, length, map, false, None, Some, OnOk, OnErr, IfErr, IsOk, IfSome, option_map, slice_get, slice_set, slice_index_or};
+ghost use Rattle.std.specs.Prelude.{◌≡◌, [], ◌<◌, ◌≤◌, ◌+◌, ℕ, ℤ, Option, List, length, map, false, None, Some, OnOk, OnErr, IfErr, IsOk, IfSome, option_map, slice_get, slice_set, slice_index_or};
 ghost use Rattle.far_types.specs.Cells.{is_too_long};
-ghost use Rattle.far_scopes.specs.Movement.{AreHere};
+ghost use Rattle.far_scopes.specs.Movement.{AreHere, version_of};
 ghost use Rattle.far_scopes.specs.Refusing.{refusal_in};
 ghost use Rattle.far_rows.specs.declared.slot.Slot.TheVariants as slot;
 ghost use Rattle.far_rows.specs.declared.new_cell.NewCell.TheVariants as new;
+ghost use Rattle.far_types.specs.declared.limits.Limits.{Limits};
 ghost use Rattle.far_rows.specs.Slots.{kind_of};
+ghost use Rattle.far_rows.specs.Places.{AreOf};
+ghost use Rattle.far_rows.specs.Plain.{cell_set_refusal};
 ghost use Rattle.far_rows.specs.Rows.{all_numbers, all_texts, cells_of};
 ghost use Rattle.far_rows.specs.Setting.{cell_of, kind_in, set_in, set_refusal, value_refusal, with_cell};
 
@@ -28,6 +31,18 @@ impl<S: FarTickets> Rows<S> {
         requires place { place < length self.now.alive }
         requires of_kind { option_map kind_of (slice_get self.now.slots column) ≡ Some (kind_in value.now) }
         requires short { is_too_long (cell_of value.now) ≡ false }
+        ensures refused { refusal_in result ≡ set_refusal S.content self.now place column value.now }
+        ensures plain { (limits : Limits) → AreOf limits self.now → refusal_in result ≡ cell_set_refusal S.content limits self.now place column value.now }
+    {
+        // It tells what rows are.
+        let _len = self.len();
+        self.may_set_value(place, column, value)
+    }
+
+    // Whether a value may be put in a column of a place, as the column tells it.
+    fn may_set_value(&self, place: usize, column: usize, value: &NewCell) -> Result<(), Refusal>
+        requires place { place < length self.now.alive }
+        requires of_kind { option_map kind_of (slice_get self.now.slots column) ≡ Some (kind_in value.now) }
         ensures { refusal_in result ≡ set_refusal S.content self.now place column value.now }
     {
         // It tells that each slot is that of a column.
@@ -51,6 +66,7 @@ impl<S: FarTickets> Rows<S> {
         ensures moved { self.new ≡ set_in S.content self.old place (slot.Number i) (new.Number number) }
         ensures numbers { all_numbers S.content self.new ≡ slice_set (all_numbers S.content self.old) i (slice_set (slice_index_or (all_numbers S.content self.old) i []) place number) }
         ensures store { (name : List ℕ) → AreHere S.is_of name self.old.number_objects → AreHere S.is_of name self.new.number_objects }
+        ensures versions { (o : ℕ) → version_of self.new.number_objects o ≤ version_of self.old.number_objects o + 1 }
     {
         let Ok(()) = self.numbers[i].set(&mut self.number_objects, place, number) else {
             unreachable!()
@@ -70,6 +86,7 @@ impl<S: FarTickets> Rows<S> {
         ensures moved { OnOk result (self.new ≡ set_in S.content self.old place (slot.Text i) (new.Text text.now)) }
         ensures texts { OnOk result (all_texts S.content self.new ≡ slice_set (all_texts S.content self.old) i (slice_set (slice_index_or (all_texts S.content self.old) i []) place text.now)) }
         ensures store { (name : List ℕ) → AreHere S.is_of name self.old.text_objects → AreHere S.is_of name self.new.text_objects }
+        ensures versions { (o : ℕ) → version_of self.new.text_objects o ≤ version_of self.old.text_objects o + 1 }
         ensures memory { IfErr result (λ e. e ≡ Refusal.NoMemory) }
         ensures err { OnErr result (self.new ≡ self.old) }
     {
@@ -94,6 +111,8 @@ impl<S: FarTickets> Rows<S> {
         ensures moved { OnOk result (IfSome (slice_get self.old.slots column) (λ s. self.new ≡ set_in S.content self.old place s value.now)) }
         ensures number_store { (name : List ℕ) → AreHere S.is_of name self.old.number_objects → AreHere S.is_of name self.new.number_objects }
         ensures text_store { (name : List ℕ) → AreHere S.is_of name self.old.text_objects → AreHere S.is_of name self.new.text_objects }
+        ensures number_versions { (o : ℕ) → version_of self.new.number_objects o ≤ version_of self.old.number_objects o + 1 }
+        ensures text_versions { (o : ℕ) → version_of self.new.text_objects o ≤ version_of self.old.text_objects o + 1 }
         ensures number { kind_in value.now ≡ Kind.Int → IsOk result }
         ensures memory { IfErr result (λ e. e ≡ Refusal.NoMemory) }
         ensures err { OnErr result (self.new ≡ self.old) }

@@ -1,5 +1,5 @@
 // Lists lent to be written.
-ghost use Rattle.std.specs.Prelude.{◌≡◌, ℕ, ◌-◌, ◌≤◌, ◌++◌, List, length, take, drop, slice_range, Some, IsSome, IsSomeAnd};
+ghost use Rattle.std.specs.Prelude.{◌≡◌, ℕ, ◌-◌, ◌≤◌, ◌++◌, List, length, take, drop, slice_range, Some, IsSome, IfSome, IsSomeAnd};
 ghost use Rattle.std.specs.Borrow.{sem};
 ghost use Rattle.far_scopes.specs.Memory.{place_of, list_in, ChangesList};
 ghost use Rattle.far_scopes.specs.Placing.{overwritten};
@@ -9,16 +9,17 @@ use super::{LocalMemory, at_of};
 use far_codec::Elem;
 
 impl<T: Elem> LocalMemory<T> {
-    /// The list of object `o`, which is local, lent to be written.
-    pub fn lend_mut(&mut self, o: usize) -> &mut [T]
-        requires { IsSome (place_of self.old.words o) }
+    /// The list of object `o`, which is local and has so many elements, lent to be written.
+    pub fn lend_mut(&mut self, o: usize, len: usize) -> &mut [T]
+        requires local { IsSome (place_of self.old.words o) }
+        requires long { IfSome (list_in self.old o) (λ list. length list ≡ len) }
         ensures* writes_back { sem 𝓛 (lends_part T.row self.entry o 0 result) }
         ensures lent { list_in self.old o ≡ Some result.now }
         ensures alone { (list : List T) → length list ≡ length result.now → ChangesList (list_in self.old) (list_in (overwritten self.old o 0 list)) o (Some list) }
     {
         let at = at_of(self.words[o]);
         let region = &mut self.region;
-        region.part_mut(at)
+        region.part_long_mut(at, len)
     }
 
     /// The elements `from` to `to` of an object that is local, lent to be written.

@@ -26,7 +26,7 @@ impl<T: Elem, S: FarTickets> Objects<T, S> {
         if self.is_away(o) {
             return Err(self.absent(o));
         }
-        Ok(self.memory.lend(o as usize))
+        Ok(self.memory.lend(o as usize, self.entries[o as usize].len))
     }
 
     /// Whether an object may be written. Takes no memory.
@@ -61,8 +61,9 @@ impl<T: Elem, S: FarTickets> Objects<T, S> {
         ensures store { (list : List T) (name : List ℕ) → AreHere S.is_of name self.old → AreHere S.is_of name (overwritten (written self.old o) o 0 list) }
     {
         self.mark(o);
+        let len = self.entries[o as usize].len;
         let memory = &mut self.memory;
-        memory.lend_mut(o as usize)
+        memory.lend_mut(o as usize, len)
     }
 
     /// The elements `from` to `to` of an object that may be written, lent in place to be written. Takes no memory.
@@ -101,15 +102,23 @@ impl<T: Elem, S: FarTickets> Objects<T, S> {
         self.order.touch(o);
     }
 
+    /// Whether an object is local: its list is in local memory, and may be lent. Takes no memory.
+    pub fn is_local(&self, o: u32) -> bool
+        requires { o < length self.now.entries }
+        ensures { result ≡ is_local self.now o }
+    {
+        match self.memory.word(o as usize).read() {
+            Pointer::Local { .. } => true,
+            Pointer::Remote => false,
+        }
+    }
+
     // Whether an object is away.
     pub(super) fn is_away(&self, o: u32) -> bool
         requires { o < length self.now.entries }
         ensures { result ≡ not (is_local self.now o) }
     {
-        match self.memory.word(o as usize).read() {
-            Pointer::Remote => true,
-            Pointer::Local { .. } => false,
-        }
+        !self.is_local(o)
     }
 
     // The refusal that says that an object is away.

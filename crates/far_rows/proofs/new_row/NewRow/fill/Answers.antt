@@ -4,6 +4,8 @@ use Rattle.std.proofs.lemmas.Iterator.Adapters.{YieldsList-from_vec}
 use Rattle.std.proofs.lemmas.Iterator.Consumers.{YieldsList-turn, YieldsList-end}
 use Rattle.far_rows.specs.declared.slot.Slot.TheVariants as slot
 use Rattle.far_rows.specs.Slots.{Values, row_of}
+use Rattle.far_types.specs.Cells.{is_too_long}
+use Rattle.far_rows.proofs.ShortRows.{short-at}
 use Rattle.far_rows.proofs.Filling.{kind-next, numbers-kept, texts-kept, row-more, within-still}
 use Rattle.far_rows.proofs.new_row.NewRow.fill.Goals as goal
 
@@ -32,6 +34,11 @@ put-requires-clause-of_kind c =
     let turn = YieldsList-turn (YieldsList-from_vec c.args.row (cc) (cc)) c.loop-cell.yielded c.loop-cell.cell-iterator c.loop-cell.yielded_by c.next.result c.next.new.self c.in-Some.cell c.in-Some.is c.next.ensures.steps in
     let within : c.loop-cell.column < length c.args.slots.now = omega (arith, turn.0, c.loop-cell.invariant.column, c.requires.width) in
     kind-next c.args.slots.now c.args.row c.loop-cell.column (length c.loop-cell.yielded) (slot.Number 0) c.in-Some.cell c.requires.of_kinds c.loop-cell.invariant.column within turn
+
+pub put-requires-clause-short : goal.put-requires-clause-short
+put-requires-clause-short c =
+    let turn = YieldsList-turn (YieldsList-from_vec c.args.row (cc) (cc)) c.loop-cell.yielded c.loop-cell.cell-iterator c.loop-cell.yielded_by c.next.result c.next.new.self c.in-Some.cell c.in-Some.is c.next.ensures.steps in
+    ap is_too_long turn.1 ∙ short-at c.args.row (length c.loop-cell.yielded) c.in-Some.cell c.requires.short turn.0
 
 pub loop-cell-preserved : goal.loop-cell-preserved
 loop-cell-preserved c =

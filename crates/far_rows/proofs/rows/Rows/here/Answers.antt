@@ -6,7 +6,7 @@ use Rattle.far_types.specs.FirstOf.{first_of}
 use Rattle.far_rows.specs.declared.slot.Slot.{Slot}
 use Rattle.far_rows.specs.declared.slot.Slot.TheVariants as slot
 use Rattle.far_rows.specs.Slots.{IsWithin}
-use Rattle.far_rows.specs.Refusing.{absent_at}
+use Rattle.far_rows.specs.Refusing.{told_at}
 use Rattle.far_rows.proofs.AbsentNames.{absents-named}
 use Rattle.far_rows.proofs.rows.Rows.here.Goals as goal
 
@@ -16,34 +16,26 @@ is_here-requires-after_bounds g c κs within =
     let there = subst (λ (ss : List Slot). c.loop-slot.slot-index < length ss) c.slots-slot-items.ensures c.loop-slot-test.true in
     subst (λ (ss : List Slot). IsWithin (length c.args.self.now.numbers) (length c.args.self.now.texts) (get_or ss c.loop-slot.slot-index (slot.Number 0))) (sym c.slots-slot-items.ensures) (c.len-len.ensures.rows.slots.within c.loop-slot.slot-index (slot.Number 0) there)
 
-pub returns-in_err-is_here-clause-refused : goal.returns-in_err-is_here-clause-refused
-returns-in_err-is_here-clause-refused g c =
-    let p = err_from_is_err_and c.from_residual.result c.from_residual.ensures.1 in
-    let slots = c.slots-slot-items.result.now in
-    let at = c.loop-slot.slot-index in
-    let s = get_or slots at (slot.Number 0) in
-    rw (p.1, p.2) (sym (c.loop-slot.invariant ∙ next-due (absent_at c.args.self.now c.args.group) slots at s c.in_err-is_here.field-0.0 c.loop-slot-test.true (get_or_default slots at (slot.Number 0) s c.loop-slot-test.true) c.in_err-is_here.ensures))
-
 pub loop-slot-preserved : goal.loop-slot-preserved
 loop-slot-preserved g c =
     let slots = c.slots-slot-items.result.now in
     let at = c.loop-slot.slot-index in
     let s = get_or slots at (slot.Number 0) in
-    c.loop-slot.invariant ∙ next-free (absent_at c.args.self.now c.args.group) slots at s c.loop-slot-test.true (get_or_default slots at (slot.Number 0) s c.loop-slot-test.true) c.in_ok-is_here.ensures
+    c.loop-slot.invariant ∙ next-free (told_at c.args.self.now c.args.group) slots at s c.loop-slot-test.true (get_or_default slots at (slot.Number 0) s c.loop-slot-test.true) c.in_ok-is_here.ensures
 
-pub returns-in_err-is_here-clause-names : goal.returns-in_err-is_here-clause-names
-returns-in_err-is_here-clause-names g c =
+pub returns-in_err-is_here : goal.returns-in_err-is_here
+returns-in_err-is_here g c =
     let p = err_from_is_err_and c.from_residual.result c.from_residual.ensures.1 in
     let slots = c.slots-slot-items.result.now in
     let at = c.loop-slot.slot-index in
     let s = get_or slots at (slot.Number 0) in
-    let due = c.loop-slot.invariant ∙ next-due (absent_at c.args.self.now c.args.group) slots at s c.in_err-is_here.field-0.0 c.loop-slot-test.true (get_or_default slots at (slot.Number 0) s c.loop-slot-test.true) c.in_err-is_here.ensures in
-    rw (p.1, p.2) (sym due ∙ absents-named g.S.FarTickets.content c.args.self.now c.len-len.ensures.rows c.args.group)
+    let due = c.loop-slot.invariant ∙ next-due (told_at c.args.self.now c.args.group) slots at s c.in_err-is_here.field-0.0 c.loop-slot-test.true (get_or_default slots at (slot.Number 0) s c.loop-slot-test.true) c.in_err-is_here.ensures in
+    rw (p.1, p.2) (sym due ∙ ap (λ (ss : List Slot). first_of (map (told_at c.args.self.now c.args.group) ss)) c.slots-slot-items.ensures ∙ absents-named g.S.FarTickets.content c.args.self.now c.len-len.ensures.rows c.args.group)
 
-pub returns-clause-names : goal.returns-clause-names
-returns-clause-names g c =
+pub returns : goal.returns
+returns g c =
     let slots = c.slots-slot-items.result.now in
     let none : drop c.loop-slot.slot-index slots ≡ [] = drop_all c.loop-slot.slot-index slots c.loop-slot-test.false in
-    sym (ap (λ (ss : List Slot). first_of (map (absent_at c.args.self.now c.args.group) ss)) none)
+    sym (ap (λ (ss : List Slot). first_of (map (told_at c.args.self.now c.args.group) ss)) none)
     ∙ sym c.loop-slot.invariant
-    ∙ absents-named g.S.FarTickets.content c.args.self.now c.len-len.ensures.rows c.args.group
+    ∙ ap (λ (ss : List Slot). first_of (map (told_at c.args.self.now c.args.group) ss)) c.slots-slot-items.ensures ∙ absents-named g.S.FarTickets.content c.args.self.now c.len-len.ensures.rows c.args.group

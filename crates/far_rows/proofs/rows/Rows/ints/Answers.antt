@@ -1,4 +1,4 @@
-use Rattle.std.proofs.Common.{◌≡◌, Bool, List, length, map, Some, refl, sym, ap, ◌∙◌}
+use Rattle.std.proofs.Common.{◌≡◌, Bool, List, length, map, Some, refl, sym, ap, subst, ◌∙◌}
 use Rattle.std.specs.Prelude.{option_map, slice_get, slice_range}
 use Rattle.std.specs.List.{flat_map}
 use Rattle.std.proofs.lemmas.Bool.{ltb-true}
@@ -9,7 +9,7 @@ use Rattle.far_columns.specs.Numbers.{Numbers}
 use Rattle.far_rows.specs.declared.slot.Slot.{Slot}
 use Rattle.far_rows.specs.declared.slot.Slot.TheVariants as slot
 use Rattle.far_rows.specs.Cells.{int_cell}
-use Rattle.far_rows.specs.Rows.{Rows, cells_of}
+use Rattle.far_rows.specs.Rows.{Rows, AreRows, cells_of}
 use Rattle.far_rows.specs.Lending.{numbers_of}
 use Rattle.far_rows.proofs.LentNumbers.{part-cells, part-due}
 use Rattle.far_rows.proofs.rows.Rows.ints.Goals as goal
@@ -31,4 +31,4 @@ returns-clause-refused g c =
     let slots = c.deref.ensures.value ∙ ap (λ (r : Rows g.row.S-Ticket.Denot). r.slots) c.self.view_is in
     let read = slice_get_read c.deref.result.now (length c.deref.result.now) c.args.column c.in-Some.slot.now refl (ltb-true _ _ (sym c.in-Some.ensures.lookup.0)) c.in-Some.ensures.lookup.1 in
     let lies = sym (ap (λ (ss : List Slot). slice_get ss c.args.column) slots) ∙ read ∙ ap Some c.in-Number.is in
-    c.ints_at.ensures.refused ∙ sym (part-due g.S.FarTickets.content c.args.self.now c.args.column c.in-Number.number c.args.from c.args.to lies)
+    c.ints_at.ensures.refused ∙ sym (part-due g.S.FarTickets.content c.args.self.now c.args.column c.in-Number.number c.args.from c.args.to lies (subst (AreRows g.S.FarTickets.content) c.self.view_is c.self.invariant))

@@ -7,7 +7,7 @@ use Rattle.far_vector.specs.Pieces.{touched, pieces_of}
 use Rattle.far_columns.specs.Numbers.{Numbers, numbers_in, with_flags}
 use Rattle.far_rows.specs.declared.slot.Slot.TheVariants as slot
 use Rattle.far_rows.specs.Rows.{Rows}
-use Rattle.far_rows.specs.Refusing.{absent_at, no_range}
+use Rattle.far_rows.specs.Refusing.{told_at, no_range}
 use Rattle.far_rows.specs.Lending.{numbers_of}
 use Rattle.far_rows.proofs.LentNumbers.{pieces-read, range-read, part-refused}
 use Rattle.far_rows.proofs.rows.Rows.ints_at.Goals as goal
@@ -34,4 +34,4 @@ returns-clause-refused g c =
     let column = subst (λ (r : Rows g.row.S-Ticket.Denot). c.args.number < length r.numbers) (sym c.self.view_is) c.requires in
     c.lent.ensures.refused
     ∙ part-refused g.S.FarTickets.content _ c.self.invariant c.args.number c.args.from c.args.to c.index-column.result.now column c.index-column.ensures
-    ∙ ap (λ (r : Rows g.row.S-Ticket.Denot). first_of (no_range r c.args.from c.args.to ∷ map (λ h. absent_at r h (slot.Number c.args.number)) (touched r.size c.args.from c.args.to))) c.self.view_is
+    ∙ ap (λ (r : Rows g.row.S-Ticket.Denot). first_of (no_range r c.args.from c.args.to ∷ map (λ h. told_at r h (slot.Number c.args.number)) (touched r.size c.args.from c.args.to))) c.self.view_is

@@ -1,4 +1,7 @@
-use Rattle.std.proofs.Common.{refl}
+use Rattle.std.proofs.Common.{refl, Some, ap, subst, ◌∙◌}
+use Rattle.far_scopes.specs.Refusing.{pin_refusal as pin_refusal_in}
+use Rattle.far_rows.specs.Rows.{Rows, AreRows}
+use Rattle.far_rows.proofs.Pinning.{pin-number, pin-text}
 use Rattle.far_rows.proofs.Moved.{numbers-moved, texts-moved, number-cells, text-cells}
 use Rattle.far_rows.proofs.Names.{names-with, still-named}
 use Rattle.far_rows.proofs.rows.Rows.pin.Goals as goal
@@ -14,3 +17,17 @@ invariant_of-self-in-Text g c = texts-moved g.S.FarTickets.content c.self.invari
 
 pub returns-in-Text-clause-cells : goal.returns-in-Text-clause-cells
 returns-in-Text-clause-cells g c = text-cells g.S.FarTickets.content c.self.view_is c.pin-in-Text.new.self c.pin-in-Text.ensures.lists
+
+pub returns-in-Number-clause-refused : goal.returns-in-Number-clause-refused
+returns-in-Number-clause-refused g c =
+    let r = c.args.self.now in
+    c.pin.ensures.refused
+    ∙ ap (λ (rows : Rows g.row.S-Ticket.Denot). pin_refusal_in rows.number_objects c.in-Number.o) c.self.view_is
+    ∙ pin-number g.S.FarTickets.content r (subst (AreRows g.S.FarTickets.content) c.self.view_is c.self.invariant) c.args.column c.args.group c.in-Number.o (c.in_ok-o.ensures.object ∙ ap Some c.in-Number.is)
+
+pub returns-in-Text-clause-refused : goal.returns-in-Text-clause-refused
+returns-in-Text-clause-refused g c =
+    let r = c.args.self.now in
+    c.pin-in-Text.ensures.refused
+    ∙ ap (λ (rows : Rows g.row.S-Ticket.Denot). pin_refusal_in rows.text_objects c.in-Text.o) c.self.view_is
+    ∙ pin-text g.S.FarTickets.content r (subst (AreRows g.S.FarTickets.content) c.self.view_is c.self.invariant) c.args.column c.args.group c.in-Text.o (c.in_ok-o.ensures.object ∙ ap Some c.in-Text.is)

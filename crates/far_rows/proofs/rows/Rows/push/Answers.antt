@@ -1,11 +1,11 @@
-use Rattle.std.proofs.Common.{◌≡◌, ◌≢◌, ◌+◌, ◌*◌, ◌/◌, ◌%◌, ◌<◌, ◌^◌, Bool, true, false, if◌then◌else◌, List, length, map, sym, ap, subst, ◌∙◌, arith}
+use Rattle.std.proofs.Common.{◌≡◌, ◌≢◌, ◌+◌, ◌*◌, ◌/◌, ◌%◌, ◌<◌, ◌≤◌, ◌^◌, Bool, true, false, if◌then◌else◌, List, length, map, sym, ap, subst, ◌∙◌, arith}
 use Rattle.std.specs.Prelude.{All}
 use Rattle.std.proofs.lemmas.Bool.{eqb-true, eqb-false}
 use Rattle.std.proofs.lemmas.List.{with_items_is, length_push, length-map}
 use Rattle.far_vector.specs.Vector.{IsShaped}
-use Rattle.far_columns.specs.Texts.{Lists, HasGroups, lists_of, texts_in}
+use Rattle.far_columns.specs.Texts.{Texts, Lists, HasGroups, lists_of, texts_in}
 use Rattle.far_columns.specs.Numbers.{number_lists, numbers_in}
-use Rattle.far_columns.specs.NumbersTogether.{all_begin, all_pushed, all_pushed_in, all_numbers_with, push_numbers_refusal}
+use Rattle.far_columns.specs.NumbersTogether.{NumberColumns, all_begin, all_pushed, all_pushed_in, all_numbers_with, push_numbers_refusal}
 use Rattle.far_columns.specs.Together.{AreReplaced, all_begin as all_texts_begin, all_created, all_pushed as all_texts_pushed, all_texts_with, next_forms}
 use Rattle.far_columns.specs.RefusingTogether.{push_texts_refusal}
 use Rattle.far_types.specs.FirstOf.{first_of}
@@ -17,7 +17,12 @@ use Rattle.far_rows.proofs.GrownNumbers.{even-grown, count-grown}
 use Rattle.far_rows.proofs.GrownTexts.{even-grown as texts-even-grown, count-grown as texts-count-grown}
 use Rattle.far_rows.proofs.NumbersNamed.{IsNamed, same-numbers, numbers-named}
 use Rattle.far_rows.proofs.TextsNamed.{IsNamed as IsTextNamed, same-numbers as texts-same-numbers, texts-named}
-use Rattle.far_rows.specs.Naming.{names_of, AreNumbered}
+use Rattle.far_rows.specs.Naming.{names_of, AreNumbered, AreOwned, ArePlaced}
+use Rattle.far_rows.specs.declared.slot.Slot.TheVariants as slot
+use Rattle.far_scopes.specs.Movement.{version_of}
+use Rattle.far_rows.proofs.Versions.{number-versions, text-versions}
+use Rattle.far_rows.proofs.NumbersOwned.{numbers-owned}
+use Rattle.far_rows.proofs.TextsOwned.{texts-owned}
 use Rattle.far_rows.specs.Rows.{AreRows, cells_of}
 use Rattle.far_rows.specs.Slots.{AreSlots, columns_of, row_of, with_row}
 use Rattle.std.specs.Vec.{with_items}
@@ -29,7 +34,7 @@ push_values-pushed-requires-clause-begin g c κs within begins =
     let columns = c.self.inside.numbers.items in
     let size = c.self.inside.size in
     let len = length c.self.inside.alive in
-    let are = are-numbers size len columns (subst (All IsShaped) c.deref.ensures.value c.known_numbers.ensures) c.self.invariant.even_numbers in
+    let are = are-numbers size len columns c.self.invariant.shaped c.self.invariant.even_numbers in
     let divides : len % size ≡ 0 = ap (λ n. n % size) (sym c.len.ensures) ∙ eqb-true (c.len.result % size) 0 begins in
     ap all_begin c.deref_mut.ensures.value ∙ numbers-begin size len columns c.self.invariant.some divides are
 
@@ -38,7 +43,7 @@ push_values-pushed-requires-clause-begun g c κs within begun more =
     let columns = c.self.inside.numbers.items in
     let size = c.self.inside.size in
     let len = length c.self.inside.alive in
-    let are = are-numbers size len columns (subst (All IsShaped) c.deref.ensures.value c.known_numbers.ensures) c.self.invariant.even_numbers in
+    let are = are-numbers size len columns c.self.invariant.shaped c.self.invariant.even_numbers in
     let not_divides : len % size ≢ 0 = λ divides. eqb-false (c.len.result % size) 0 begun (ap (λ n. n % size) c.len.ensures ∙ divides) in
     ap all_begin c.deref_mut.ensures.value ∙ numbers-begun size len columns c.self.invariant.some not_divides (subst (λ cs. 0 < length cs) c.deref_mut.ensures.value more) are
 
@@ -47,7 +52,7 @@ push_values-pushed-requires-clause-numbers_few g c κs within begin =
     let columns = c.self.inside.numbers.items in
     let size = c.self.inside.size in
     let len = length c.self.inside.alive in
-    let are = are-numbers size len columns (subst (All IsShaped) c.deref.ensures.value c.known_numbers.ensures) c.self.invariant.even_numbers in
+    let are = are-numbers size len columns c.self.invariant.shaped c.self.invariant.even_numbers in
     let below : len < 2 ^ 24 = subst (λ (flags : List Bool). length flags < 2 ^ 24) (sym (ap (λ r. r.alive) c.self.view_is)) c.requires.few in
     let is = c.deref_mut.ensures.value in
     let sum = numbers-few size len (length c.self.inside.number_objects.entries) c.self.invariant.some below c.number-number.ensures.tracked.few columns (omega (arith, c.self.invariant.few)) are c.self.invariant.number_objects (sym (ap all_begin is) ∙ begin) in
@@ -58,7 +63,7 @@ push_values-pushed-requires-clause-texts_few g c κs within begin =
     let columns = c.self.inside.texts.items in
     let size = c.self.inside.size in
     let len = length c.self.inside.alive in
-    let are = are-texts size len columns (subst (All HasGroups) c.deref-2.ensures.value c.known_texts.ensures) c.self.invariant.even_texts in
+    let are = are-texts size len columns c.self.invariant.grouped c.self.invariant.even_texts in
     let below : len < 2 ^ 24 = subst (λ (flags : List Bool). length flags < 2 ^ 24) (sym (ap (λ r. r.alive) c.self.view_is)) c.requires.few in
     let is = c.deref_mut-2.ensures.value in
     let sum = texts-few size len (length c.self.inside.text_objects.entries) c.self.invariant.some below c.number-number-2.ensures.tracked.few columns (omega (arith, c.self.invariant.few)) are c.self.invariant.text_objects (sym (ap all_texts_begin is) ∙ begin) in
@@ -77,8 +82,8 @@ push_values-pushed-requires-clause-texts_free g c κs within =
     ∙ ap (λ rows. push_texts_refusal content rows.text_objects rows.texts values.texts) c.self.view_is
     ∙ free
 
-pub invariant_of-self-in_default : goal.invariant_of-self-in_default
-invariant_of-self-in_default g c =
+pub invariant_of-self-2 : goal.invariant_of-self-2
+invariant_of-self-2 g c =
     let content = g.S.FarTickets.content in
     let size = c.self.inside.size in
     let alive = c.self.inside.alive in
@@ -93,7 +98,7 @@ invariant_of-self-in_default g c =
     let pushed : numbers ≡ all_pushed first columns = done.numbers_pushed ∙ ap (all_pushed first) c.deref_mut.ensures.value in
     let many : length numbers ≡ length columns = ap length pushed ∙ as-many-numbers first columns in
     let numbers_is = with_items_is c.self.inside.numbers numbers (many ∙ sym c.self.inside.numbers.ok.0) in
-    let are = are-numbers size len columns (subst (All IsShaped) c.deref.ensures.value c.known_numbers.ensures) inv.even_numbers in
+    let are = are-numbers size len columns c.self.invariant.shaped inv.even_numbers in
     let count = done.numbers_count ∙ ap (λ cs. first + (if all_begin cs then length cs else 0)) c.deref_mut.ensures.value in
     let texts_before = c.self.inside.texts.items in
     let first_text = length c.self.inside.text_objects.entries in
@@ -101,7 +106,7 @@ invariant_of-self-in_default g c =
     let texts_pushed : texts ≡ all_texts_pushed first_text texts_before = done.texts_pushed ∙ ap (all_texts_pushed first_text) c.deref_mut-2.ensures.value in
     let texts_many : length texts ≡ length texts_before = ap length texts_pushed ∙ as-many-texts first_text texts_before in
     let texts_is = with_items_is c.self.inside.texts texts (texts_many ∙ sym c.self.inside.texts.ok.0) in
-    let texts_are = are-texts size len texts_before (subst (All HasGroups) c.deref-2.ensures.value c.known_texts.ensures) inv.even_texts in
+    let texts_are = are-texts size len texts_before c.self.invariant.grouped inv.even_texts in
     let texts_count = done.texts_count ∙ ap (λ cs. first_text + (if all_texts_begin cs then length cs else 0)) c.deref_mut-2.ensures.value in
     let now = length c.push_values-pushed.new.number_objects.entries in
     let texts_now = length c.push_values-pushed.new.text_objects.entries in
@@ -131,6 +136,8 @@ invariant_of-self-in_default g c =
       places = omega (arith, more, below);
       numbers = c.push_values-pushed.ensures.numbers_are;
       texts = c.push_values-pushed.ensures.texts_are;
+      shaped = subst (All IsShaped) (c.deref.ensures.value ∙ numbers_is) c.known_numbers.ensures;
+      grouped = subst (All HasGroups) (c.deref-2.ensures.value ∙ texts_is) c.known_texts.ensures;
       even_numbers = subst (All (λ v. (v.size ≡ size) × (v.len ≡ length c.push.new.self))) (sym pushed)
           (all-numbers (λ v. (v.size ≡ size) × (v.len ≡ len)) (λ v. (v.size ≡ size) × (v.len ≡ length c.push.new.self)) (even-grown size len (length c.push.new.self) more) first columns inv.even_numbers);
       even_texts = subst (All (λ v. (v.size ≡ size) × (v.len ≡ length c.push.new.self))) (sym texts_pushed)
@@ -143,11 +150,20 @@ invariant_of-self-in_default g c =
           (subst (λ cs. AreNumbered c.self.inside.slots.items (map (λ v. v.column) cs) (map (λ v. v.column) (all_texts_pushed first_text texts_before))) (sym pushed)
           (subst (λ ns. AreNumbered c.self.inside.slots.items ns (map (λ v. v.column) (all_texts_pushed first_text texts_before))) (sym (same-numbers first columns))
           (subst (AreNumbered c.self.inside.slots.items (map (λ v. v.column) columns)) (sym (texts-same-numbers first_text texts_before)) inv.numbered)));
+      placed_numbers = subst (λ cs. ArePlaced c.self.inside.slots.items (λ i. slot.Number i) (map (λ v. v.column) cs)) (sym pushed)
+          (subst (ArePlaced c.self.inside.slots.items (λ i. slot.Number i)) (sym (same-numbers first columns)) inv.placed_numbers);
+      placed_texts = subst (λ cs. ArePlaced c.self.inside.slots.items (λ i. slot.Text i) (map (λ v. v.column) cs)) (sym texts_pushed)
+          (subst (ArePlaced c.self.inside.slots.items (λ i. slot.Text i)) (sym (texts-same-numbers first_text texts_before)) inv.placed_texts);
       number_names = subst (All (IsNamed (names_of c.push_values-pushed.new.number_objects))) (sym pushed)
           (subst (λ m. All (IsNamed (names_of m)) (all_pushed first columns)) (sym moved)
           (numbers-named size len columns inv.some are c.self.inside.number_objects values.numbers numbers_even inv.number_names));
       text_names = subst (All (IsTextNamed (names_of after))) (sym texts_pushed)
           (texts-named lists size len texts_before inv.some texts_are before after values.texts texts_even texts_begun texts_replaced inv.text_names);
+      owned_numbers = subst (λ (cs : NumberColumns). AreOwned (λ v. v.column) (λ v. v.objects) (names_of c.push_values-pushed.new.number_objects) cs) (sym pushed)
+          (subst (λ m. AreOwned (λ v. v.column) (λ v. v.objects) (names_of m) (all_pushed first columns)) (sym moved)
+          (numbers-owned size len columns inv.some are c.self.inside.number_objects values.numbers numbers_even inv.owned_numbers));
+      owned_texts = subst (λ (cs : List Texts). AreOwned (λ v. v.column) (λ v. v.objects) (names_of after) cs) (sym texts_pushed)
+          (texts-owned lists size len texts_before inv.some texts_are before after values.texts texts_even texts_begun texts_replaced inv.owned_texts);
       clean_numbers = c.push_values-pushed.ensures.numbers_clean inv.clean_numbers;
       clean_texts = c.push_values-pushed.ensures.texts_clean inv.clean_texts;
     } in
@@ -188,3 +204,32 @@ returns-clause-cells g c =
     ∙ ap (columns_of slots (all_with was values.numbers)) texts_are
     ∙ columns-with was texts_was values (length columns) (length texts_before) even texts_even (sym (length-map columns (numbers_in content c.self.inside.number_objects))) (sym (length-map texts_before (texts_in text_lists_before))) slots inv.slots.within
     ∙ ap (λ r. with_row (cells_of content r) (row_of r.slots values)) c.self.view_is
+
+pub returns-clause-number_versions : goal.returns-clause-number_versions
+returns-clause-number_versions g c = λ o.
+    let columns = c.self.inside.numbers.items in
+    let m = c.self.inside.number_objects in
+    let inv = c.self.invariant in
+    let are = are-numbers c.self.inside.size (length c.self.inside.alive) columns inv.shaped inv.even_numbers in
+    let values = c.args.row.now in
+    let even : length values.numbers ≡ length columns = c.requires.numbers ∙ ap (λ r. length r.numbers) (sym c.self.view_is) in
+    let moved : c.push_values-pushed.new.number_objects ≡ all_pushed_in m columns values.numbers = c.in_default.ensures.numbers_moved ∙ ap (λ cs. all_pushed_in m cs values.numbers) c.deref_mut.ensures.value in
+    let most = number-versions g.S.FarTickets.content c.self.inside.size (length c.self.inside.alive) columns inv.some are m inv.numbers values.numbers even o in
+    subst (λ r. version_of c.push_values-pushed.new.number_objects o ≤ version_of r.number_objects o + 1) c.self.view_is
+    (subst (λ now. version_of now o ≤ version_of m o + 1) (sym moved) most)
+
+pub returns-clause-text_versions : goal.returns-clause-text_versions
+returns-clause-text_versions g c = λ o.
+    let columns = c.self.inside.texts.items in
+    let m = c.self.inside.text_objects in
+    let now = c.push_values-pushed.new.text_objects in
+    let inv = c.self.invariant in
+    let first = length m.entries in
+    let lists : Lists = lists_of g.S.FarTickets.content m in
+    let are = are-texts c.self.inside.size (length c.self.inside.alive) columns inv.grouped inv.even_texts in
+    let values = c.args.row.now in
+    let even : length values.texts ≡ length columns = c.requires.texts ∙ ap (λ r. length r.texts) (sym c.self.view_is) in
+    let begun = subst (λ cs. all_texts_begin cs ≡ true → now ≡ all_created m cs (next_forms lists first cs values.texts)) c.deref_mut-2.ensures.value c.in_default.ensures.texts_begun in
+    let replaced = subst (λ cs. all_texts_begin cs ≡ false → AreReplaced m (next_forms lists first cs values.texts) now) c.deref_mut-2.ensures.value c.in_default.ensures.texts_replaced in
+    let most = text-versions g.S.FarTickets.content c.self.inside.size (length c.self.inside.alive) columns inv.some are m now inv.texts values.texts even begun replaced o in
+    subst (λ r. version_of now o ≤ version_of r.text_objects o + 1) c.self.view_is most

@@ -1,18 +1,19 @@
-use Rattle.std.proofs.Common.{◌≡◌, ◌*◌, ◌<◌, [], ◌∷◌, length, map, get_or, Option, Some, sym, ap, subst, ◌∙◌}
+use Rattle.std.proofs.Common.{◌≡◌, ◌*◌, ◌+◌, ◌<◌, ◌≤◌, [], ◌∷◌, length, map, get_or, Option, Some, sym, ap, subst, ◌∙◌}
 use Rattle.std.specs.Prelude.{ℤ, All, option_map, slice_get, slice_set}
 use Rattle.std.specs.Option.{option_map_or}
 use Rattle.std.proofs.lemmas.Option.{slice_get-get_or, slice_get-map, get_or_from_slice_get}
-use Rattle.far_scopes.specs.Movement.{Movement, AreHere}
+use Rattle.far_scopes.specs.Movement.{Movement, AreHere, version_of}
 use Rattle.far_vector.specs.Vector.{Vector, IsVector, AreApart, IsUntouched, object_at}
 use Rattle.far_vector.specs.Effects.{range_written}
 use Rattle.far_columns.specs.Numbers.{number_lists, numbers_in}
 use Rattle.far_columns.specs.NumbersTogether.{NumberColumns}
 use Rattle.far_rows.specs.declared.slot.Slot.TheVariants as slot
 use Rattle.far_rows.specs.declared.new_cell.NewCell.TheVariants as new
-use Rattle.far_rows.specs.Naming.{names_of, AreNamed}
+use Rattle.far_rows.specs.Naming.{names_of, AreNamed, AreOwned}
 use Rattle.far_rows.specs.Rows.{AreRows, all_numbers}
 use Rattle.far_rows.specs.Setting.{set_in}
 use Rattle.far_rows.proofs.Names.{as-many, names-written}
+use Rattle.far_rows.proofs.Versions.{written-once}
 use Rattle.far_rows.proofs.OneCell.{set-same, numbers-still, numbers-set}
 use Rattle.far_rows.proofs.rows.Rows.set_number.Goals as goal
 
@@ -47,13 +48,19 @@ invariant_of-self g c =
       places = inv.places;
       numbers = numbers-still (number_lists content m) (number_lists content now) columns inv.numbers c.args.i v at is apart;
       texts = inv.texts;
+      shaped = inv.shaped;
+      grouped = inv.grouped;
       even_numbers = inv.even_numbers;
       even_texts = inv.even_texts;
       number_objects = subst (λ n. All (λ (w : Vector (Option ℤ)). n ≡ length columns * length w.objects) columns) (sym (as-many m now names)) inv.number_objects;
       text_objects = inv.text_objects;
       numbered = inv.numbered;
+      placed_numbers = inv.placed_numbers;
+      placed_texts = inv.placed_texts;
       number_names = subst (λ ns. All (λ (w : Vector (Option ℤ)). AreNamed ns w.column w.objects) columns) (sym names) inv.number_names;
       text_names = inv.text_names;
+      owned_numbers = subst (λ ns. AreOwned (λ (w : Vector (Option ℤ)). w.column) (λ w. w.objects) ns columns) (sym names) inv.owned_numbers;
+      owned_texts = inv.owned_texts;
       clean_numbers = done.clean inv.clean_numbers;
       clean_texts = inv.clean_texts;
     } in
@@ -109,3 +116,10 @@ returns-clause-numbers g c =
 
 pub returns-clause-store : goal.returns-clause-store
 returns-clause-store g c = λ name here. c.in-Ok.ensures.store name (subst (λ r. AreHere g.S.FarTickets.is_of name r.number_objects) (sym c.self.view_is) here)
+
+pub returns-clause-versions : goal.returns-clause-versions
+returns-clause-versions g c = λ o.
+    let v : Vector (Option ℤ) = c.index_mut.result.now in
+    let m = c.self.inside.number_objects in
+    subst (λ r. version_of c.set.new.objects o ≤ version_of r.number_objects o + 1) c.self.view_is
+    (subst (λ (now : Movement (Option ℤ) g.row.S-Ticket.Denot). version_of now o ≤ version_of m o + 1) (sym c.in-Ok.ensures.written) (written-once m (object_at v c.args.place) o))

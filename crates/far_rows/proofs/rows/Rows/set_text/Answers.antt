@@ -1,20 +1,21 @@
-use Rattle.std.proofs.Common.{◌≡◌, ℕ, ◌*◌, ◌<◌, List, [], length, map, get_or, Option, None, Some, sym, ap, subst, ◌∙◌}
+use Rattle.std.proofs.Common.{◌≡◌, ℕ, ◌*◌, ◌+◌, ◌<◌, ◌≤◌, arith, List, [], length, map, get_or, Option, None, Some, sym, ap, subst, ◌∙◌}
 use Rattle.std.specs.Prelude.{All, option_map, slice_get, slice_set}
 use Rattle.std.specs.Option.{option_map_or, option_and_then}
 use Rattle.std.proofs.lemmas.Option.{slice_get-get_or, slice_get-map, get_or_from_slice_get}
 use Rattle.far_types.specs.declared.refusal.Refusal.{Refusal}
 use Rattle.far_codec.specs.TextForm.{texts_form}
-use Rattle.far_scopes.specs.Movement.{Movement, AreHere}
+use Rattle.far_scopes.specs.Movement.{Movement, AreHere, version_of}
 use Rattle.far_columns.specs.Texts.{Texts, Lists, IsTextColumn, lists_of, texts_in, object_at}
 use Rattle.far_columns.specs.Changes.{group_with, set_in as text_set_in}
 use Rattle.far_columns.specs.Refusing.{set_refusal}
-use Rattle.far_columns.proofs.Setting.{on-ok}
+use Rattle.far_columns.proofs.Setting.{by-outcome, on-ok}
 use Rattle.far_rows.specs.declared.slot.Slot.TheVariants as slot
 use Rattle.far_rows.specs.declared.new_cell.NewCell.TheVariants as new
-use Rattle.far_rows.specs.Naming.{names_of, AreNamed}
+use Rattle.far_rows.specs.Naming.{names_of, AreNamed, AreOwned}
 use Rattle.far_rows.specs.Rows.{all_texts}
 use Rattle.far_rows.specs.Setting.{set_in}
 use Rattle.far_rows.proofs.Names.{as-many, names-replaced, still-named}
+use Rattle.far_rows.proofs.Versions.{replaced-version}
 use Rattle.far_rows.proofs.OneCell.{texts-still, texts-set, only-memory}
 use Rattle.far_rows.proofs.rows.Rows.set_text.Goals as goal
 
@@ -44,13 +45,19 @@ invariant_of-self g c =
       places = inv.places;
       numbers = inv.numbers;
       texts = texts-still (lists_of content m) (lists_of content now) columns inv.texts c.args.i v at c.set.ensures.is c.set.ensures.others;
+      shaped = inv.shaped;
+      grouped = inv.grouped;
       even_numbers = inv.even_numbers;
       even_texts = inv.even_texts;
       number_objects = inv.number_objects;
       text_objects = subst (λ n. All (λ (w : Texts). n ≡ length columns * length w.objects) columns) (sym (as-many m now names)) inv.text_objects;
       numbered = inv.numbered;
+      placed_numbers = inv.placed_numbers;
+      placed_texts = inv.placed_texts;
       number_names = inv.number_names;
       text_names = subst (λ ns. All (λ (w : Texts). AreNamed ns w.column w.objects) columns) (sym names) inv.text_names;
+      owned_numbers = inv.owned_numbers;
+      owned_texts = subst (λ ns. AreOwned (λ (w : Texts). w.column) (λ w. w.objects) ns columns) (sym names) inv.owned_texts;
       clean_numbers = inv.clean_numbers;
       clean_texts = c.set.ensures.clean inv.clean_texts;
     }
@@ -115,3 +122,13 @@ returns-clause-memory g c =
     ∙ ap (λ r. option_and_then (λ w. set_refusal content r.text_objects w c.args.place text) (slice_get r.texts c.args.i)) c.self.view_is
     ∙ c.requires.free in
     only-memory c.set.result (due v) free c.set.ensures.refused
+
+pub returns-clause-versions : goal.returns-clause-versions
+returns-clause-versions g c = λ o.
+    let v : Texts = c.index.result.now in
+    let m = c.self.inside.text_objects in
+    let form : List ℕ = texts_form (group_with (lists_of g.S.FarTickets.content m) v c.args.place c.args.text.now) in
+    subst (λ r. version_of c.set.new.objects o ≤ version_of r.text_objects o + 1) c.self.view_is
+    (by-outcome c.set.result c.set.ensures.set c.set.ensures.err
+    (λ is. subst (λ (now : Movement ℕ g.row.S-Ticket.Denot). version_of now o ≤ version_of m o + 1) (sym is) (replaced-version m (object_at v c.args.place) (length form) o))
+    (λ is. subst (λ (now : Movement ℕ g.row.S-Ticket.Denot). version_of now o ≤ version_of m o + 1) (sym is) (omega arith)))

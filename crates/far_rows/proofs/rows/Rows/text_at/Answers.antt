@@ -10,6 +10,7 @@ use Rattle.far_rows.specs.Cells.{text_cell}
 use Rattle.far_rows.specs.Slots.{column_in}
 use Rattle.far_rows.specs.Rows.{Rows, all_numbers, all_texts}
 use Rattle.far_rows.specs.Refusing.{absent_at}
+use Rattle.far_rows.proofs.AbsentNames.{one-told}
 use Rattle.far_rows.proofs.Reading.{text-column, text-refused, cell-of-text}
 use Rattle.far_rows.proofs.rows.Rows.text_at.Goals as goal
 
@@ -33,4 +34,5 @@ returns-clause-refused g c =
     let place = subst (λ (r : Rows g.row.S-Ticket.Denot). c.args.place < length r.alive) (sym c.self.view_is) c.requires.place in
     c.text.ensures.refused
     ∙ text-refused g.S.FarTickets.content _ c.self.invariant c.args.text c.args.place c.index-column.result.now column c.index-column.ensures place c.len-len.ensures.groups
-    ∙ ap (λ (r : Rows g.row.S-Ticket.Denot). first_of (absent_at r (c.args.place / r.size) (slot.Text c.args.text) ∷ [])) c.self.view_is
+    ∙ one-told g.S.FarTickets.content _ c.self.invariant c.args.at (slot.Text c.args.text) (subst (λ (r : Rows g.row.S-Ticket.Denot). slice_get r.slots c.args.at ≡ Some (slot.Text c.args.text)) (sym c.self.view_is) c.requires.lies) (c.args.place / c.self.inside.size)
+    ∙ ap (λ (r : Rows g.row.S-Ticket.Denot). first_of (absent_at r c.args.at (c.args.place / r.size) (slot.Text c.args.text) ∷ [])) c.self.view_is

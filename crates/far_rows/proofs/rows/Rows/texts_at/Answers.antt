@@ -7,7 +7,7 @@ use Rattle.far_vector.specs.Pieces.{touched}
 use Rattle.far_columns.specs.Texts.{lists_of, texts_in}
 use Rattle.far_rows.specs.declared.slot.Slot.TheVariants as slot
 use Rattle.far_rows.specs.Rows.{Rows}
-use Rattle.far_rows.specs.Refusing.{absent_at, no_range}
+use Rattle.far_rows.specs.Refusing.{told_at, no_range}
 use Rattle.far_rows.specs.Lending.{texts_of}
 use Rattle.far_rows.proofs.Reading.{text-column}
 use Rattle.far_rows.proofs.LentTexts.{texts-read, lent-values, lent-flags, flags-even, part-refused}
@@ -57,4 +57,4 @@ returns-clause-refused g c =
     let column = subst (λ (r : Rows g.row.S-Ticket.Denot). c.args.text < length r.texts) (sym c.self.view_is) c.requires in
     c.texts.ensures.refused
     ∙ part-refused g.S.FarTickets.content _ c.self.invariant c.args.text c.args.from c.args.to c.index-column.result.now column c.index-column.ensures
-    ∙ ap (λ (r : Rows g.row.S-Ticket.Denot). first_of (no_range r c.args.from c.args.to ∷ map (λ h. absent_at r h (slot.Text c.args.text)) (touched r.size c.args.from c.args.to))) c.self.view_is
+    ∙ ap (λ (r : Rows g.row.S-Ticket.Denot). first_of (no_range r c.args.from c.args.to ∷ map (λ h. told_at r h (slot.Text c.args.text)) (touched r.size c.args.from c.args.to))) c.self.view_is

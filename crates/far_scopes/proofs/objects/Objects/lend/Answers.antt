@@ -1,9 +1,8 @@
 use Rattle.std.proofs.Common.{◌≡◌, true, sym, subst}
 use Rattle.far_scopes.specs.Movement.{is_local}
-use Rattle.far_scopes.specs.Memory.{place_of}
-use Rattle.far_scopes.proofs.WordPlaces.{some-true}
 use Rattle.far_scopes.proofs.Refused.{not-not}
+use Rattle.far_scopes.proofs.Tracked.{long-read}
 use Rattle.far_scopes.proofs.objects.Objects.lend.Goals as goal
 
-pub lend-requires-after_bounds : goal.lend-requires-after_bounds
-lend-requires-after_bounds g c = λ κs le. some-true (place_of c.self.inside.memory.words c.args.o) (subst (λ m. is_local m c.args.o ≡ true) (sym c.self.view_is) (not-not (is_local c.args.self.now c.args.o) (sym c.if-is_away.ensures)))
+pub lend-requires-clause-long : goal.lend-requires-clause-long
+lend-requires-clause-long g c = λ κs le. long-read _ _ _ _ c.self.invariant c.args.o c.index.result.now (subst (λ m. is_local m c.args.o ≡ true) (sym c.self.view_is) (not-not (is_local c.args.self.now c.args.o) (sym c.if-is_away.ensures))) c.index.ensures

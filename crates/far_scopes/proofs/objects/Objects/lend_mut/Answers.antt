@@ -1,15 +1,15 @@
 use Rattle.std.proofs.Common.{◌≡◌, ℕ, true, Some, refl, sym, ap, subst, ◌∙◌}
 use Rattle.far_codec.specs.Spelling.{IsSpelled}
 use Rattle.far_scopes.specs.Movement.{is_local, list_of, AreClean}
-use Rattle.far_scopes.specs.Memory.{place_of, list_in, ChangesList}
+use Rattle.far_scopes.specs.Memory.{list_in, ChangesList}
 use Rattle.far_scopes.specs.Effects.{written, overwritten}
-use Rattle.far_scopes.proofs.WordPlaces.{some-true}
+use Rattle.far_scopes.proofs.Tracked.{long-read}
 use Rattle.far_scopes.proofs.Overwritten.{tracked-overwritten, list-since, clean-overwritten}
 use Rattle.far_scopes.proofs.Framing.{others-overwritten, here-written}
 use Rattle.far_scopes.proofs.objects.Objects.lend_mut.Goals as goal
 
-pub lend_mut-requires-after_bounds : goal.lend_mut-requires-after_bounds
-lend_mut-requires-after_bounds g c = λ κs le. some-true (place_of c.self.inside.memory.words c.args.o) (subst (λ m. is_local m c.args.o ≡ true) (sym c.self.view_is) c.mark.ensures.local)
+pub lend_mut-requires-clause-long : goal.lend_mut-requires-clause-long
+lend_mut-requires-clause-long g c = λ κs le. long-read _ _ _ _ c.self.invariant c.args.o c.index.result.now (subst (λ m. is_local m c.args.o ≡ true) (sym c.self.view_is) c.mark.ensures.local) c.index.ensures
 
 pub invariant_of-self-lent : goal.invariant_of-self-lent
 invariant_of-self-lent g c w = tracked-overwritten g.T.Elem.meaning g.S.FarTickets.content _ _ c.args.o 0 w c.self.invariant

@@ -1,15 +1,15 @@
--- What contracts see of an agent store, and what ties a ticket to it.
+-- What contracts see of a store that keeps what it gave out in a vector that only grows, and what ties a ticket to it.
 use Rattle.std.specs.Prelude.{◌≡◌, ℕ, List, map, slice_index_or}
 use base.Stored.{Coded, coded×, coded_ℕ, coded_list, coded_via}
 use Rattle.boxcar.specs.Table.{Shelves, Where}
 
 -- the name that tells the store from others, and how many numbers it may give out
-pub record Agent : Type 0 where
+pub record Named : Type 0 where
   pub name : List ℕ
   pub capacity : ℕ
 
-abbrev pub agent_coded : Coded Agent
-agent_coded = coded_via (coded× (coded_list coded_ℕ) coded_ℕ) (λ (a : Agent). (a.name, a.capacity)) (λ x y e i. record { name = (e i).0; capacity = (e i).1 })
+abbrev pub named_coded : Coded Named
+named_coded = coded_via (coded× (coded_list coded_ℕ) coded_ℕ) (λ (s : Named). (s.name, s.capacity)) (λ x y e i. record { name = (e i).0; capacity = (e i).1 })
 
 -- a vector that only grows is told from others by the names of its buckets, which are there from the beginning
 abbrev pub bucket_names : Shelves → List ℕ

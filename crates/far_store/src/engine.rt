@@ -1,0 +1,58 @@
+// What keeps bytes for a far store.
+ghost use Rattle.std.specs.Prelude.{◌≡◌, ℕ, List, [], IfOk, OnOk};
+
+use std::alloc::{AllocError, Global};
+
+/// Why an engine did not serve a call.
+#[derive(Drop, Debug)]
+pub enum Failure<E> {
+    /// Local memory was refused.
+    NoMemory,
+    /// The engine failed, for a reason of its own.
+    Engine(E),
+}
+
+impl<E> From<AllocError> for Failure<E> {
+    fn from(_: AllocError) -> Failure<E> {
+        Failure::NoMemory
+    }
+}
+
+/// Something that keeps bytes: a file, a server, memory of another machine. [`EngineStore`](crate::EngineStore) makes a
+/// far store of it.
+///
+/// An engine may be written in any repository, and either call may wait: put the bound that this asks for on the `impl`.
+/// It knows nothing of tickets, meters and refusals. All that is believed of an engine beyond this process is the one
+/// clause of [`read`](Engine::read). The split of a table from what moves its bytes is AIFM's device (OSDI 2020).
+pub trait Engine: Sync + Drop {
+    /// By what the engine finds bytes again. It borrows nothing and goes from thread to thread.
+    type Key: Send + Sync + Drop;
+
+    /// Why the engine fails.
+    type Error: Drop;
+
+    /// The bytes that were written under a key. A key of an engine beyond this process has them as a ghost field.
+    ghost written: { Self.Key → List ℕ };
+
+    /// Numbers that tell the engine from others. They are the same as long as it lasts.
+    ghost name: { Self → List ℕ };
+
+    /// The key is of the engine of this name.
+    ghost is_of: { Self.Key → List ℕ → Type 0 };
+
+    /// Writes these bytes, for good, and gives the key under which they lie.
+    fn write(&self, alloc: Global, bytes: &[u8]) -> Result<Self::Key, Failure<Self::Error>>
+        ensures here { IfOk result (λ key. is_of key (name self.now)) }
+        ensures written { IfOk result (λ key. written key ≡ bytes.now) };
+
+    /// Reads the bytes under a key into the buffer, which is empty. What the buffer holds after a failure is thrown away.
+    fn read(
+        &self,
+        alloc: Global,
+        key: &Self::Key,
+        buffer: &mut Vec<u8>,
+    ) -> Result<(), Failure<Self::Error>>
+        requires here { is_of key.now (name self.now) }
+        requires empty { buffer.old.items ≡ [] }
+        ensures { OnOk result (buffer.new.items ≡ written key.now) };
+}

@@ -1,0 +1,173 @@
+// A far store over an engine of one's own.
+ghost use Rattle.std.specs.Prelude.{◌≡◌, ◌==◌, ◌+◌, ◌<◌, ◌^◌, ◌∷◌, [], IfOk, IfErr, IsTrue};
+ghost use Rattle.std.specs.List.{list_any};
+ghost use Rattle.far_types.specs.Refusals.{number_of};
+ghost use Rattle.far_store.specs.Faults.{faults_of, faults_in, RefusedBy};
+ghost use Rattle.far_store.specs.Named.{IsOf};
+
+use crate::Meter;
+use crate::drawn::below;
+use crate::engine::{Engine, Failure};
+use crate::store::{FarRead, FarStore, FarTickets};
+use boxcar::tag::{Names, Tag};
+use boxcar::{Keeps, Pushed};
+use far_types::Refusal;
+use std::alloc::Global;
+use std::marker::{Model, PhantomData};
+use std::sync::Wait;
+
+/// A far store that keeps its contents in an engine: a server, a file, memory of another machine. Contracts see its
+/// name and its capacity.
+///
+/// The store keeps the engine's keys, one for each number. It answers `FarFault` (21) wherever the engine fails, and
+/// counts it. Reading waits only where the engine does; a put may wait for other threads, as an agent's.
+#[derive(Drop)]
+pub struct EngineStore<E: Engine, R> {
+    rt: R,
+    engine: E,
+    keys: boxcar::Vec<E::Key, Global, OfEngine<E>>,
+    capacity: u64,
+}
+
+/// A ticket of an `EngineStore`: the place of its key.
+pub type Kept<E> = Pushed<<E as Engine>::Key, Global, OfEngine<E>>;
+
+/// What holds of the keys of a store: they are of its engine.
+pub struct OfEngine<E> {
+    engine: PhantomData<E>,
+}
+
+impl<E: Engine> Keeps<E::Key> for OfEngine<E> {
+    ghost holds = { λ name _ key. E.is_of key name };
+}
+
+impl<E: Engine> Names<E> for OfEngine<E> {
+    ghost numbers = { E.name };
+}
+
+impl<E: Engine, R> Model for EngineStore<E, R> {
+    ghost use Rattle.std.specs.Prelude.{◌≡◌};
+    ghost use Rattle.far_store.specs.Named.{Named, named_coded, bucket_names};
+
+    ghost Value = { Named };
+
+    ghost coded = { named_coded };
+
+    ghost view = { λ s. record { name = bucket_names s.keys; capacity = s.capacity } };
+
+    ghost invariant = { λ s. s.keys.tag ≡ E.name s.engine };
+}
+
+impl<E: Engine, R: Drop> EngineStore<E, R> {
+    /// A store over this engine that gives out the numbers below `capacity`. It keeps `rt`, by which a put may wait.
+    /// Refused with `NoMemory` (1) alone.
+    pub fn new(rt: R, alloc: Global, engine: E, capacity: u64) -> Result<EngineStore<E, R>, Refusal>
+        ensures capacity { IfOk result (λ s. s.capacity ≡ capacity) }
+        ensures memory { IfErr result (λ e. e ≡ Refusal.NoMemory) }
+    {
+        let keys = boxcar::Vec::with_rule(alloc, Tag::of::<E, OfEngine<E>>(&engine))?;
+        Ok(EngineStore {
+            rt,
+            engine,
+            keys,
+            capacity,
+        })
+    }
+
+    /// The engine, as for its own figures. Takes no memory.
+    pub fn engine(&self) -> &E {
+        &self.engine
+    }
+}
+
+impl<E: Engine, R: Sync + Drop> FarTickets for EngineStore<E, R> {
+    type Ticket = Kept<E>;
+
+    ghost content = { λ t. E.written t.value };
+
+    ghost number_of = { λ t. t.index };
+
+    ghost name = { λ s. s.name };
+
+    ghost is_of = { IsOf };
+
+    ghost capacity_of = { λ s. s.capacity };
+
+    fn again(&self, ticket: &Kept<E>) -> Kept<E> {
+        ticket.again()
+    }
+
+    fn number(&self, ticket: &Kept<E>) -> u64 {
+        ticket.index() as u64
+    }
+
+    fn same(&self, a: &Kept<E>, b: &Kept<E>) -> bool {
+        if a.index() != b.index() {
+            return false;
+        }
+        // At run time nothing happens here: the vector tells the proof that one number has one key.
+        self.keys.agrees(a, b);
+        true
+    }
+}
+
+impl<E: Engine, R: Sync + Drop> FarRead for EngineStore<E, R> {
+    fn get(
+        &self,
+        alloc: Global,
+        meter: &mut Meter,
+        ticket: &Kept<E>,
+        buffer: &mut Vec<u8>,
+    ) -> Result<(), Refusal> {
+        buffer.clear();
+        let Some(key) = self.keys.get_seen(ticket.index(), ticket) else {
+            unreachable!()
+        };
+        match self.engine.read(alloc, key, buffer) {
+            Ok(()) => Ok(()),
+            Err(failure) => {
+                buffer.clear();
+                Err(counted(meter, failure))
+            }
+        }
+    }
+}
+
+impl<E: Engine, R: Sync + Drop + Wait> FarStore for EngineStore<E, R> {
+    fn put(&self, alloc: Global, meter: &mut Meter, bytes: &[u8]) -> Result<Kept<E>, Refusal>
+        requires few { meter.old < 2 ^ 63 }
+        ensures here { IfOk result (λ ticket. IsOf ticket self.now.name) }
+        ensures content { IfOk result (λ ticket. E.written ticket.value ≡ bytes.now) }
+        ensures number { IfOk result (λ ticket. ticket.index < self.now.capacity) }
+        ensures faults { meter.new ≡ meter.old + faults_in result }
+        ensures refused { RefusedBy (21 ∷ 22 ∷ 1 ∷ []) result }
+    {
+        // A store that is full asks its engine for nothing.
+        if self.keys.count() as u64 >= self.capacity {
+            return Err(Refusal::FarFull);
+        }
+        let key = match self.engine.write(alloc, bytes) {
+            Ok(key) => key,
+            Err(failure) => return Err(counted(meter, failure)),
+        };
+        let Ok(ticket) = self.keys.push_shown(&self.rt, key) else {
+            return Err(Refusal::NoMemory);
+        };
+        below(self.capacity, ticket)
+    }
+}
+
+// The refusal for a failure of the engine. A failure that is not want of local memory is a fault, and is counted.
+fn counted<F: Drop>(meter: &mut Meter, failure: Failure<F>) -> Refusal
+    requires { meter.old < 2 ^ 63 }
+    ensures faults { meter.new ≡ meter.old + faults_of result }
+    ensures refused { IsTrue (list_any (λ number. number == number_of result) (21 ∷ 1 ∷ [])) }
+{
+    match failure {
+        Failure::NoMemory => Refusal::NoMemory,
+        Failure::Engine(_) => {
+            meter.rise();
+            Refusal::FarFault
+        }
+    }
+}

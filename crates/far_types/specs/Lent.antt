@@ -1,0 +1,22 @@
+-- What is lent in place, as cells of the plain table.
+use Rattle.std.specs.Prelude.{ℤ, ℕ, List, Option, None, Some}
+use Rattle.far_types.specs.declared.cell.Cell.{Cell}
+use Rattle.far_types.specs.declared.cell.Cell.TheVariants as cell
+use Rattle.far_types.specs.declared.cell_ref.CellRef.{CellRef}
+use Rattle.far_types.specs.declared.cell_ref.CellRef.TheVariants as lent
+
+-- the cell that is lent in place
+abbrev pub lent_cell : CellRef → Cell
+lent_cell (lent.Int number) = cell.Int number
+lent_cell (lent.Text text) = cell.Text text.now
+lent_cell lent.Missing = cell.Missing
+
+-- a number that may be missing, as a cell
+abbrev pub int_cell : Option ℤ → Cell
+int_cell (Some number) = cell.Int number
+int_cell None = cell.Missing
+
+-- likewise a text
+abbrev pub text_cell : Option (List ℕ) → Cell
+text_cell (Some text) = cell.Text text
+text_cell None = cell.Missing

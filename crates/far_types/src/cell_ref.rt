@@ -1,0 +1,103 @@
+// Cells lent in place.
+ghost use Rattle.std.specs.Prelude.{◌≡◌, Some, IfOk, IfErr, IfSome, FitsSigned};
+ghost use Rattle.std.specs.Int.{w64};
+ghost use Rattle.std.specs.Option.{option_copied};
+ghost use Rattle.far_types.specs.declared.key.Key.TheVariants as keys;
+ghost use Rattle.far_types.specs.Cells.{number_in, key_in};
+ghost use Rattle.far_types.specs.Lent.{lent_cell, int_cell, text_cell};
+
+use super::cell::Cell;
+use super::key::Key;
+use super::refusal::Refusal;
+use super::text::Text;
+use std::alloc::Global;
+
+/// A cell that is lent where it lies. `specs/Lent.antt` has the cell that it stands for (`lent_cell`).
+#[derive(Clone, Copy, Debug)]
+pub enum CellRef<'a> {
+    /// A number.
+    Int(i64),
+    /// A text.
+    Text(&'a str),
+    /// No value.
+    Missing,
+}
+
+impl Cell {
+    /// The cell, lent in place. Takes no memory.
+    #[inline(always)]
+    pub fn lend(&self) -> CellRef<'_>
+        ensures { lent_cell result ≡ self.now }
+    {
+        match self {
+            Cell::Int(number) => CellRef::Int(*number),
+            Cell::Text(text) => CellRef::Text(text.as_str()),
+            Cell::Missing => CellRef::Missing,
+        }
+    }
+}
+
+impl<'a> CellRef<'a> {
+    /// The cell of a number that may be missing. Takes no memory.
+    #[inline(always)]
+    pub fn of_int(number: Option<i64>) -> CellRef<'a>
+        ensures { lent_cell result ≡ int_cell number }
+    {
+        match number {
+            Some(number) => CellRef::Int(number),
+            None => CellRef::Missing,
+        }
+    }
+
+    /// The cell of a text that may be missing, lent in place. Takes no memory.
+    #[inline(always)]
+    pub fn of_text(text: Option<&'a str>) -> CellRef<'a>
+        ensures { lent_cell result ≡ text_cell (option_copied text.entry) }
+    {
+        match text {
+            Some(text) => CellRef::Text(text),
+            None => CellRef::Missing,
+        }
+    }
+
+    /// The cell's number, or `None` where it has none. Takes no memory.
+    #[inline(always)]
+    pub fn number(self) -> Option<i64>
+        ensures number { result ≡ number_in (Some (lent_cell self.entry)) }
+        ensures fits { IfSome result (FitsSigned w64) }
+    {
+        match self {
+            CellRef::Int(number) => Some(number),
+            _ => None,
+        }
+    }
+
+    /// The key that the cell gives, or `None` where it has no value. The memory of an earlier key is used again.
+    /// Refused with `NoMemory` (1) alone.
+    pub fn key(self, alloc: Global, earlier: Option<Key>) -> Result<Option<Key>, Refusal>
+        ensures key { IfOk result (λ key. key ≡ key_in (Some (lent_cell self.entry))) }
+        ensures memory { IfErr result (λ e. e ≡ Refusal.NoMemory) }
+    {
+        match self {
+            CellRef::Int(number) => Ok(Some(Key::Int(number))),
+            CellRef::Text(text) => Ok(Some(text_key(alloc, earlier, text)?)),
+            CellRef::Missing => Ok(None),
+        }
+    }
+}
+
+/// The key of a text. The memory of an earlier key is used again.
+fn text_key(alloc: Global, earlier: Option<Key>, text: &str) -> Result<Key, Refusal>
+    ensures key { IfOk result (λ key. key ≡ keys.Text text.now) }
+    ensures memory { IfErr result (λ e. e ≡ Refusal.NoMemory) }
+{
+    match earlier {
+        Some(Key::Text(earlier)) => {
+            let mut string = earlier.into_string();
+            string.clear();
+            string.push_str(text)?;
+            Ok(Key::Text(Text::new(string)))
+        }
+        _ => Ok(Key::Text(Text::new(String::from_str(alloc, text)?))),
+    }
+}

@@ -1,0 +1,30 @@
+// What has cells by column.
+ghost use Rattle.std.specs.Prelude.{◌≡◌, option_map};
+ghost use Rattle.far_types.specs.Cells.{Cells, cells_of};
+ghost use Rattle.far_types.specs.Lent.{lent_cell};
+
+use super::cell_ref::CellRef;
+use super::row::Row;
+
+/// What lends the cells of a row by the number of the column: a row, or whoever has at hand the columns that a reader
+/// needs. Filters and aggregates read any of them.
+pub trait LendCells {
+    /// The cells, by the number of the column: nothing where there is no such column.
+    ghost cells: { Self → Cells };
+
+    /// The cell of a column, lent in place, or `None` where there is no such column. Takes no memory.
+    fn cell(&self, column: u32) -> Option<CellRef<'_>>
+        ensures { option_map lent_cell result ≡ cells self.now column };
+}
+
+impl LendCells for Row {
+    ghost cells = { cells_of };
+
+    #[inline(always)]
+    fn cell(&self, column: u32) -> Option<CellRef<'_>> {
+        match self.get(column as usize) {
+            Some(cell) => Some(cell.lend()),
+            None => None,
+        }
+    }
+}

@@ -1,0 +1,104 @@
+// A row that is read once: its cells, lent where they lie.
+ghost use Rattle.std.specs.Prelude.{◌≡◌, ◌<◌, ◌≤◌, [], ◌∷◌, ◌++◌, length, slice_get, slice_set, option_map};
+ghost use Rattle.far_types.specs.Cells.{cells_of};
+ghost use Rattle.far_types.specs.Lent.{lent_cell};
+
+use super::cell_ref::CellRef;
+use super::lend_cells::LendCells;
+use super::row::Row;
+use std::marker::Model;
+
+/// The cells of a row, each lent where it lies, so that all who look at the row find its columns once. A table has at
+/// most 16 columns. Nothing here takes memory. Contracts see the list of the cells.
+#[derive(Drop)]
+pub struct LentRow<'a> {
+    cells: [CellRef<'a>; 16],
+    width: usize,
+}
+
+impl<'a> Model for LentRow<'a> {
+    ghost use Rattle.std.specs.Prelude.{List, ◌≡◌, ◌≤◌, map, take, length};
+    ghost use Rattle.far_types.specs.declared.cell.Cell.{Cell};
+    ghost use Rattle.far_types.specs.Lent.{lent_cell};
+
+    ghost Value = { List Cell };
+
+    ghost view = { λ row. map lent_cell (take row.width row.cells) };
+
+    ghost invariant = { λ row. (row.width ≤ 16) × (length row.cells ≡ 16) };
+}
+
+impl<'a> LentRow<'a> {
+    /// A row without a cell.
+    #[inline(always)]
+    pub fn new() -> LentRow<'a>
+        ensures { result ≡ [] }
+    {
+        LentRow {
+            cells: [CellRef::Missing; 16],
+            width: 0,
+        }
+    }
+
+    /// The cells of a row of at most 16 columns, lent in place.
+    pub fn of_row(row: &'a Row) -> LentRow<'a>
+        requires { length row.now ≤ 16 }
+        ensures { result ≡ row.now }
+    {
+        let mut lent = LentRow::new();
+        for cell in row.as_slice() {
+            lent.push(cell.lend());
+        }
+        lent
+    }
+
+    /// How many cells the row has: at most 16.
+    #[inline(always)]
+    pub fn len(&self) -> usize
+        ensures len { result ≡ length self.now }
+        ensures within { length self.now ≤ 16 }
+    {
+        self.width
+    }
+
+    /// The cell of a column, or `None` where the row has no such column.
+    #[inline(always)]
+    pub fn get(&self, column: usize) -> Option<CellRef<'a>>
+        ensures { option_map lent_cell result ≡ slice_get self.now column }
+    {
+        if column < self.width {
+            Some(self.cells[column])
+        } else {
+            None
+        }
+    }
+
+    /// Appends a cell.
+    #[inline(always)]
+    pub fn push(&mut self, cell: CellRef<'a>)
+        requires { length self.old < 16 }
+        ensures { self.new ≡ self.old ++ lent_cell cell.entry ∷ [] }
+    {
+        self.cells[self.width] = cell;
+        self.width += 1;
+    }
+
+    /// Puts a cell in the place of that of a column. Where there is no such column nothing changes.
+    #[inline(always)]
+    pub fn set(&mut self, column: usize, cell: CellRef<'a>)
+        ensures { self.new ≡ slice_set self.old column (lent_cell cell.entry) }
+    {
+        if column < self.width {
+            self.cells[column] = cell;
+        }
+    }
+}
+
+impl<'a> LendCells for LentRow<'a> {
+    ghost cells = { cells_of };
+
+    #[inline(always)]
+    fn cell(&self, column: u32) -> Option<CellRef<'_>> {
+        self.get(column as usize)
+    }
+}
