@@ -2,7 +2,7 @@
 use Rattle.std.specs.Prelude.{◌≡◌, ℕ, ◌<◌, true, false, List, length, Some, option_map, IsSomeAnd}
 use Rattle.far_pointer.specs.declared.pointer.Pointer.TheVariants.{Remote}
 use Rattle.far_scopes.specs.Memory.{list_in}
-use Rattle.far_scopes.specs.Movement.{Movement, word_of, entry_of, is_local, dirty, version_of, leavings_of, ticket_of}
+use Rattle.far_scopes.specs.Movement.{Movement, ChangesObject, word_of, entry_of, is_local, dirty, version_of, leavings_of, ticket_of, list_of, AreClean, AreHere}
 use Rattle.far_evacuator.specs.declared.evacuation.EvacForm.{EvacForm}
 use Rattle.far_evacuator.specs.declared.evacuation.EvacForm.TheVariants.{Dirty, Clean}
 use Rattle.far_evacuator.specs.Jobs.{CarriedEvacuation, CarriedFetch}
@@ -40,3 +40,11 @@ module _ {X K : Type 0} (number_of : K → ℕ) where
       pub leavings : leavings_of m fetched.job.object ≡ fetched.job.leavings
       pub ticket : IsUnder m fetched.job.object fetched.job.ticket
       pub form : IsFarForm spelled m fetched.job.object fetched.bytes
+
+-- what an end of a job on object o leaves as it was: every list, and the word and the record of every other object. What
+-- is clean stays so, and tickets stay those of the store of this name
+pub record LeavesRest {X K : Type 0} (meaning : List ℕ → List X) (content : K → List ℕ) (is_of : K → List ℕ → Type 0) (name : List ℕ) (old new : Movement X K) (o : ℕ) : Type 0 where
+  pub lists : (p : ℕ) → list_of meaning content new p ≡ list_of meaning content old p
+  pub others : ChangesObject old new o
+  pub clean : AreClean meaning content old → AreClean meaning content new
+  pub here : AreHere is_of name new

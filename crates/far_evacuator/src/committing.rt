@@ -4,7 +4,7 @@ ghost use Rattle.far_codec.specs.Spelling.{IsSpelled};
 ghost use Rattle.far_scopes.specs.Memory.{list_in};
 ghost use Rattle.far_scopes.specs.Movement.{ChangesObject, list_of, pins_of, AreClean, AreHere, AreTracked};
 ghost use Rattle.far_scopes.specs.Effects.{departed};
-ghost use Rattle.far_evacuator.specs.Acceptance.{IsCommittable, IsStill};
+ghost use Rattle.far_evacuator.specs.Acceptance.{IsCommittable, IsStill, LeavesRest};
 
 use crate::evacuation::{Carried, EvacForm};
 use crate::tickets::is_under;
@@ -28,13 +28,11 @@ pub fn commit<T: Elem, S: FarTickets>(
     requires carried_here { S.is_of carried.now.ticket (S.name store.now) }
     requires clean { AreClean T.meaning S.content objects.old }
     ensures committed { OnOk result (objects.new ≡ departed objects.old carried.now.job.object carried.now.ticket) }
+    ensures accepted { OnOk result (IsCommittable S.number_of T.spelling objects.old carried.now) }
     ensures stale { IsErrOf result Refusal.StaleJob ↔ (¬ IsCommittable S.number_of T.spelling objects.old carried.now) }
     ensures pinned { IsErrOf result Refusal.Pinned ↔ (IsCommittable S.number_of T.spelling objects.old carried.now × (pins_of objects.old carried.now.job.object ≢ 0)) }
     ensures refused { IfErr result (λ e. (e ≡ Refusal.StaleJob) ⊎ (e ≡ Refusal.Pinned)) }
-    ensures lists { (p : ℕ) → list_of T.meaning S.content objects.new p ≡ list_of T.meaning S.content objects.old p }
-    ensures others { ChangesObject objects.old objects.new carried.now.job.object }
-    ensures clean { AreClean T.meaning S.content objects.new }
-    ensures here { AreHere S.is_of (S.name store.now) objects.new }
+    ensures rest { LeavesRest T.meaning S.content S.is_of (S.name store.now) objects.old objects.new carried.now.job.object }
     ensures err { OnErr result (objects.new ≡ objects.old) }
 {
     if !is_committable(objects, store, carried) {

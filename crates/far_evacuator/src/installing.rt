@@ -4,7 +4,7 @@ ghost use Rattle.far_log.specs.Room.{fits_in};
 ghost use Rattle.far_codec.specs.Spelling.{IsSpelled};
 ghost use Rattle.far_scopes.specs.Movement.{ChangesObject, list_of, ticket_of, AreClean, AreHere};
 ghost use Rattle.far_scopes.specs.Effects.{arrived};
-ghost use Rattle.far_evacuator.specs.Acceptance.{IsInstallable};
+ghost use Rattle.far_evacuator.specs.Acceptance.{IsInstallable, LeavesRest};
 
 use crate::fetching::Fetched;
 use crate::tickets::is_under;
@@ -33,24 +33,23 @@ pub fn install<T: Elem, S: FarTickets>(
     ensures stale { IsErrOf result Refusal.StaleJob ↔ (¬ IsInstallable S.number_of (IsSpelled T.in_range T.has_spelling T.spelling) objects.old fetched.now) }
     ensures full { IsErrOf result Refusal.RegionFull ↔ (IsInstallable S.number_of (IsSpelled T.in_range T.has_spelling T.spelling) objects.old fetched.now × IsSomeAnd (list_of T.meaning S.content objects.old fetched.now.job.object) (λ list. fits_in objects.old.memory.room (length list) ≡ false)) }
     ensures refused { IfErr result (λ e. (e ≡ Refusal.StaleJob) ⊎ ((e ≡ Refusal.RegionFull) ⊎ (e ≡ Refusal.NoMemory))) }
-    ensures lists { (p : ℕ) → list_of T.meaning S.content objects.new p ≡ list_of T.meaning S.content objects.old p }
-    ensures others { ChangesObject objects.old objects.new fetched.now.job.object }
-    ensures clean { AreClean T.meaning S.content objects.old → AreClean T.meaning S.content objects.new }
-    ensures here { AreHere S.is_of (S.name store.now) objects.new }
+    ensures rest { LeavesRest T.meaning S.content S.is_of (S.name store.now) objects.old objects.new fetched.now.job.object }
     ensures err { OnErr result (objects.new ≡ objects.old) }
 {
     if !is_installable(objects, store, fetched) {
         return Err(Refusal::StaleJob);
     }
     let o = fetched.job.object;
-    if !objects.fits(objects.len(o)) {
+    let len = objects.len(o);
+    if !objects.fits(len) {
         return Err(Refusal::RegionFull);
     }
-    // The object's ticket has these bytes as its content, so they are a far form of it.
-    let Some(list) = T::unspell(alloc, &fetched.bytes)? else {
-        unreachable!()
-    };
-    objects.arrive(o, &list)
+    // The object's ticket has these bytes as its content, so they are a far form of its kind and length. A store whose
+    // contents change would break that, and its bytes are refused here.
+    match T::unspell(alloc, &fetched.bytes)? {
+        Some(list) if list.len() == len => objects.arrive(o, &list),
+        _ => Err(Refusal::StaleJob),
+    }
 }
 
 // Whether what a fetch rests on still holds. Takes no memory.
