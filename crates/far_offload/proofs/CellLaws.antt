@@ -3,7 +3,7 @@ use Rattle.std.proofs.Common.{◌≡◌, ℕ, zero, suc, ℤ, List, [], ◌∷�
 use Rattle.std.specs.Prelude.{slice_get}
 use Rattle.std.specs.Option.{option_and_then}
 use Rattle.far_types.specs.declared.cell.Cell.TheVariants.{Missing}
-use Rattle.far_offload.specs.Columns.{int_cell, text_cell}
+use Rattle.far_types.specs.Lent.{int_cell, text_cell}
 
 pub int_here : (numbers : List (Option ℤ)) (place : ℕ) → get_or (map int_cell numbers) place Missing ≡ int_cell (option_and_then (λ number. number) (slice_get numbers place))
 int_here [] place = refl

@@ -1,7 +1,6 @@
 -- The columns under the first tickets, with one ticket more.
-use Rattle.std.proofs.Common.{◌≡◌, ℕ, ◌+◌, ◌<◌, List, [], ◌∷◌, ◌++◌, length, get_or, map, take, ap, ◌∙◌}
+use Rattle.std.proofs.Common.{◌≡◌, ℕ, ◌+◌, ◌<◌, List, [], ◌∷◌, ◌++◌, length, get_or, take, ap, ◌∙◌}
 use Rattle.std.proofs.lemmas.List.{take_more, map-append}
-use Rattle.far_types.specs.declared.cell.Cell.{Cell}
 use Rattle.far_offload.specs.Columns.{cells_meant}
 use Rattle.far_offload.specs.Jobs.{columns_under}
 

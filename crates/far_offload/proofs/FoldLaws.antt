@@ -6,7 +6,7 @@ use Rattle.std.specs.Option.{option_and_then}
 use Rattle.std.proofs.lemmas.Bool.{false≢true}
 use Rattle.std.specs.List.{filter_map, cons_option, enumerate_from}
 use Rattle.std.proofs.lemmas.Int.{ints}
-use Rattle.std.proofs.lemmas.List.{append-nil, take_more, length-take, take_all}
+use Rattle.std.proofs.lemmas.List.{append-nil, take_more}
 use Rattle.std.proofs.lemmas.List.Elements.{filter_map-append}
 use Rattle.far_types.specs.declared.key.Key.{Key}
 use Rattle.far_types.specs.declared.spec.Spec.{Spec}
@@ -16,7 +16,7 @@ use Rattle.far_types.specs.Cells.{number_in, key_in}
 use Rattle.far_types.specs.Filters.{keeps}
 use Rattle.far_types.specs.Pairs.{Pair, key_under, paired}
 use Rattle.far_types.specs.Answers.{tally, int_sum, span, totals, extrema}
-use Rattle.far_types.specs.Changes.{widened, with_pair, with_seen, joined_totals, joined_extrema}
+use Rattle.far_types.specs.Changes.{widened, joined_totals, joined_extrema}
 use Rattle.far_types.proofs.ByKeyMaps.{grouped-one}
 use Rattle.far_types.proofs.Values.{tally-among, span-among, span-cons}
 use Rattle.far_types.proofs.TotalLaws.{totals-cons, totals-among, totals-append, extrema-cons, extrema-among, extrema-append}
@@ -89,7 +89,7 @@ paired-is None (Some value) = refl
 paired-is (Some key) None = refl
 paired-is (Some key) (Some value) = refl
 
-pair-is : (spec : Spec) (columns : Columns) (place : ℕ × Bool) → pair_at spec columns place ≡ option_and_then (λ value. option_map (λ key. (key, value)) (key_under spec.key (cells_at columns place.0))) (value_at spec columns place)
+pub pair-is : (spec : Spec) (columns : Columns) (place : ℕ × Bool) → pair_at spec columns place ≡ option_and_then (λ value. option_map (λ key. (key, value)) (key_under spec.key (cells_at columns place.0))) (value_at spec columns place)
 pair-is spec columns place =
     let under = key_under spec.key (cells_at columns place.0) in
     let number = number_in (cells_at columns place.0 spec.value) in
@@ -99,7 +99,7 @@ pair-is spec columns place =
     ]
 
 -- the pairs of the first places, with one place more
-pairs-next : (spec : Spec) (columns : Columns) (flags : List Bool) (i : ℕ) (flag : Bool) (pair : Option Pair) → i < length flags → get_or flags i false ≡ flag → pair_at spec columns (i, flag) ≡ pair → pairs_over spec columns (take (i + 1) flags) ≡ pairs_over spec columns (take i flags) ++ cons_option pair []
+pub pairs-next : (spec : Spec) (columns : Columns) (flags : List Bool) (i : ℕ) (flag : Bool) (pair : Option Pair) → i < length flags → get_or flags i false ≡ flag → pair_at spec columns (i, flag) ≡ pair → pairs_over spec columns (take (i + 1) flags) ≡ pairs_over spec columns (take i flags) ++ cons_option pair []
 pairs-next spec columns flags i flag pair within is there =
     over-more (pair_at spec columns) flags i flag within is
     ∙ ap (λ (o : Option Pair). pairs_over spec columns (take i flags) ++ cons_option o []) there

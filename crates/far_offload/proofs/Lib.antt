@@ -1,3 +1,5 @@
 pub mod CellLaws
 pub mod ColumnLaws
 pub mod FoldLaws
+pub mod HandLaws
+pub mod UnderLaws

@@ -1,22 +1,13 @@
 -- The columns that a job has at hand: the cells that their far forms mean, and what a place has in them.
-use Rattle.std.specs.Prelude.{ℕ, ℤ, Bool, ◌==◌, List, map, Option, None, Some, option_map, slice_index_or}
+use Rattle.std.specs.Prelude.{ℕ, Bool, ◌==◌, List, map, Option, option_map, slice_index_or}
 use Rattle.std.specs.List.{find}
 use Rattle.far_types.specs.declared.cell.Cell.{Cell}
 use Rattle.far_types.specs.declared.cell.Cell.TheVariants as cell
 use Rattle.far_types.specs.Cells.{Cells}
+use Rattle.far_types.specs.Lent.{int_cell, text_cell}
 use Rattle.far_codec.specs.declared.lent.LentValues.{LentValues}
 use Rattle.far_codec.specs.declared.lent.LentValues.TheVariants as lent
 use Rattle.far_codec.specs.Lent.{lent_in}
-
--- a number that may be missing, as a cell
-abbrev pub int_cell : Option ℤ → Cell
-int_cell (Some number) = cell.Int number
-int_cell None = cell.Missing
-
--- likewise a text
-abbrev pub text_cell : Option (List ℕ) → Cell
-text_cell (Some text) = cell.Text text
-text_cell None = cell.Missing
 
 -- values of either kind, as cells
 abbrev pub cells_in : LentValues → List Cell

@@ -1,11 +1,13 @@
--- The cells that lent cells are.
+-- The cells of a column, by where its values lie.
+use Rattle.std.specs.Prelude.{List, [], map}
 use Rattle.far_types.specs.declared.cell.Cell.{Cell}
-use Rattle.far_types.specs.declared.cell.Cell.TheVariants as cell
-use Rattle.far_offload.specs.declared.cell_ref.CellRef.{CellRef}
-use Rattle.far_offload.specs.declared.cell_ref.CellRef.TheVariants as lent
+use Rattle.far_types.specs.Lent.{int_cell, text_cell}
+use Rattle.far_offload.specs.declared.column.ColumnValues.{ColumnValues}
+use Rattle.far_offload.specs.declared.column.ColumnValues.TheVariants as values
 
--- the cell that is lent in place
-abbrev pub lent_cell : CellRef → Cell
-lent_cell (lent.Int number) = cell.Int number
-lent_cell (lent.Text text) = cell.Text text.now
-lent_cell lent.Missing = cell.Missing
+-- the cells of a column, wherever its values lie
+abbrev pub cells_lent : ColumnValues → List Cell
+cells_lent (values.Numbers numbers) = map int_cell numbers.now
+cells_lent (values.Ints numbers) = map int_cell numbers
+cells_lent (values.Texts texts) = map text_cell texts
+cells_lent values.Nowhere = []

@@ -1,3 +1,4 @@
+pub mod AtHand
 pub mod Columns
 pub mod Jobs
 pub mod Lent

@@ -1,40 +1,86 @@
-// Columns whose contents are at hand.
-ghost use Rattle.std.specs.Prelude.{◌≡◌, slice_index_or};
+// Columns whose values are at hand.
+ghost use Rattle.std.specs.Prelude.{◌≡◌, map, slice_index_or, Some};
 ghost use Rattle.std.specs.Option.{option_copied};
 ghost use Rattle.far_types.specs.declared.cell.Cell.TheVariants.{Missing};
 ghost use Rattle.far_types.specs.Cells.{CellFits};
-ghost use Rattle.far_offload.specs.Columns.{column_of, cell_of};
-ghost use Rattle.far_offload.specs.Lent.{lent_cell};
+ghost use Rattle.far_codec.specs.Lent.{IsForm, lent_in};
+ghost use Rattle.far_offload.specs.Columns.{column_of, cell_of, cells_in, cells_meant};
+ghost use Rattle.far_types.specs.Lent.{lent_cell, int_cell};
+ghost use Rattle.far_offload.specs.Lent.{cells_lent};
 
-use crate::cell_ref::CellRef;
-use far_codec::LentValues;
+use far_codec::{LentInts, LentTexts, LentValues, kind_of, lend_values};
+use far_types::{CellRef, Kind};
 use std::marker::Model;
+
+/// Where the values of a column lie.
+#[derive(Drop)]
+pub(crate) enum ColumnValues<'a> {
+    /// In a list of numbers.
+    Numbers(&'a [Option<i64>]),
+    /// In a far form of numbers.
+    Ints(LentInts<'a>),
+    /// In a far form of texts.
+    Texts(LentTexts<'a>),
+    /// Nowhere: the bytes are no far form.
+    Nowhere,
+}
 
 /// A column: its number, and its values where they lie. Contracts see the number and the cells.
 #[derive(Drop)]
-pub(crate) struct Column<'a> {
+pub struct Column<'a> {
     number: u32,
-    values: LentValues<'a>,
+    values: ColumnValues<'a>,
 }
 
 impl<'a> Model for Column<'a> {
     ghost use Rattle.std.specs.Prelude.{ℕ, List};
     ghost use Rattle.far_types.specs.declared.cell.Cell.{Cell};
-    ghost use Rattle.far_offload.specs.Columns.{cells_in};
+    ghost use Rattle.far_offload.specs.Lent.{cells_lent};
 
     ghost Value = { ℕ × List Cell };
 
-    ghost view = { λ column. (column.number, cells_in column.values) };
+    ghost view = { λ column. (column.number, cells_lent column.values) };
 }
 
 impl<'a> Column<'a> {
-    ghost use Rattle.far_offload.specs.Columns.{cells_in};
-
-    /// The column of this number with these values.
-    pub fn new(number: u32, values: LentValues<'a>) -> Column<'a>
-        ensures { result ≡ (number, cells_in values.entry) }
+    /// The column of this number with these numbers, read where they lie. Takes no memory.
+    pub fn of_numbers(number: u32, values: &'a [Option<i64>]) -> Column<'a>
+        ensures { result ≡ (number, map int_cell values.now) }
     {
-        Column { number, values }
+        Column {
+            number,
+            values: ColumnValues::Numbers(values),
+        }
+    }
+
+    /// The column of this number with the values of a far form, read where they lie. The form must be one of the
+    /// caller's own: it is not tested. Takes no memory, and looks at the head alone.
+    pub fn of_form(number: u32, form: &'a [u8]) -> Column<'a>
+        requires { IsForm form.now }
+        ensures { result ≡ (number, cells_meant form.now) }
+    {
+        Column {
+            number,
+            values: values_in(lend_values(form)),
+        }
+    }
+
+    /// The column of this number with the values of a content. The bytes came from a store, so they are tested, in one
+    /// pass, before a value is read; bytes that are no far form have no values. Takes no memory.
+    pub(crate) fn of_content(number: u32, bytes: &'a [u8]) -> Column<'a>
+        requires { IsForm bytes.now }
+        ensures { result ≡ (number, cells_meant bytes.now) }
+    {
+        match tested(bytes) {
+            Some(values) => Column {
+                number,
+                values: values_in(values),
+            },
+            None => Column {
+                number,
+                values: ColumnValues::Nowhere,
+            },
+        }
     }
 
     /// The number of the column.
@@ -46,20 +92,46 @@ impl<'a> Column<'a> {
 
     /// The cell of a place. Past the end there is no value.
     #[inline(always)]
-    pub fn cell(&self, place: usize) -> CellRef<'_>
+    pub(crate) fn cell(&self, place: usize) -> CellRef<'_>
         ensures cell { lent_cell result ≡ cell_of place self.now }
         ensures fits { CellFits (lent_cell result) }
     {
         match &self.values {
-            LentValues::Ints(numbers) => match numbers.get(place) {
+            ColumnValues::Numbers(numbers) => match numbers.get(place) {
+                Some(Some(number)) => CellRef::Int(*number),
+                _ => CellRef::Missing,
+            },
+            ColumnValues::Ints(numbers) => match numbers.get(place) {
                 Some(number) => CellRef::Int(number),
                 None => CellRef::Missing,
             },
-            LentValues::Texts(texts) => match texts.get(place) {
+            ColumnValues::Texts(texts) => match texts.get(place) {
                 Some(text) => CellRef::Text(text),
                 None => CellRef::Missing,
             },
+            ColumnValues::Nowhere => CellRef::Missing,
         }
+    }
+}
+
+/// The values of a form, as a column has them.
+fn values_in(values: LentValues<'_>) -> ColumnValues<'_>
+    ensures { cells_lent result ≡ cells_in values.entry }
+{
+    match values {
+        LentValues::Ints(numbers) => ColumnValues::Ints(numbers),
+        LentValues::Texts(texts) => ColumnValues::Texts(texts),
+    }
+}
+
+/// The values of bytes that are a far form; `None` where they are none.
+fn tested(bytes: &[u8]) -> Option<LentValues<'_>>
+    ensures { IsForm bytes.now → result ≡ Some (lent_in bytes.now) }
+{
+    match kind_of(bytes) {
+        Some(Kind::Int) => Some(lend_values(bytes)),
+        Some(Kind::Text) => Some(lend_values(bytes)),
+        None => None,
     }
 }
 

@@ -6,7 +6,6 @@ ghost use Rattle.far_offload.specs.Columns.{cells_meant};
 ghost use Rattle.far_offload.specs.Jobs.{columns_under, AreForms};
 
 use crate::column::Column;
-use far_codec::lend_values;
 use far_store::{FarRead, Meter};
 use far_types::Refusal;
 use std::alloc::{AllocError, Global};
@@ -37,7 +36,7 @@ impl Content {
     fn lend(&self) -> Column<'_>
         ensures { result ≡ self.now }
     {
-        Column::new(self.number, lend_values(&self.form))
+        Column::of_content(self.number, &self.form)
     }
 }
 

@@ -5,7 +5,7 @@ ghost use Rattle.far_offload.specs.Jobs.{columns_under, AreForms, outcome};
 ghost use Rattle.far_offload.specs.Partials.{partial_of, pairs_over};
 
 use crate::content::{contents_under, lend_all};
-use crate::fold::fold;
+use crate::folding::fold;
 use crate::partial::PartialDone;
 use far_store::{FarRead, FarTickets, Meter};
 use far_types::{Refusal, Spec};
@@ -51,6 +51,27 @@ impl<S: FarTickets> OffloadJob<S> {
             alive,
         }
     }
+
+    /// The aggregate.
+    pub fn spec(&self) -> &Spec
+        ensures { result.now ≡ self.now.spec }
+    {
+        &self.spec
+    }
+
+    /// The tickets, each with the number of its column.
+    pub fn tickets(&self) -> &[(u32, S::Ticket)]
+        ensures { result.now ≡ self.now.tickets }
+    {
+        &self.tickets
+    }
+
+    /// The alive flag of each place.
+    pub fn alive(&self) -> &[bool]
+        ensures { result.now ≡ self.now.alive }
+    {
+        &self.alive
+    }
 }
 
 impl<S: FarRead> OffloadJob<S> {
@@ -77,8 +98,13 @@ impl<S: FarRead> OffloadJob<S> {
         }
     }
 
-    /// What `carry` answers, of a job that is kept.
-    fn partial(&self, alloc: Global, store: &S, meter: &mut Meter) -> Result<PartialDone, Refusal>
+    /// What `carry` answers, of a job that is kept. Refused as `carry` is, with `FarFault` (21) and `NoMemory` (1).
+    pub fn partial(
+        &self,
+        alloc: Global,
+        store: &S,
+        meter: &mut Meter,
+    ) -> Result<PartialDone, Refusal>
         requires few { meter.old < 2 ^ 63 }
         requires here { All (λ ticket. S.is_of ticket.1 (S.name store.now)) self.now.tickets }
         ensures partial { IfOk result (λ done. done ≡ partial_of self.now.spec.fold (pairs_over self.now.spec (columns_under S.content self.now.tickets) self.now.alive)) }

@@ -1,16 +1,22 @@
 #![tactic(auto)]
-//! Aggregates of a row group whose columns lie in the far store: the agent reads the contents under the tickets and
-//! folds them where they lie, so nothing enters the local region.
+//! Aggregates of a row group whose columns are at hand, as lists of numbers or as far forms: `fold` and `span_under` read
+//! them where they lie. Where they lie in the far store an `OffloadJob` reads the contents under their tickets and folds
+//! those, so nothing enters the local region.
 
-mod cell_ref;
 mod column;
 mod content;
-mod fold;
+mod folding;
 mod job;
 mod kept;
 mod keys;
+mod laws;
 mod partial;
 mod plain;
+mod under;
 
+pub use column::Column;
+pub use folding::fold;
 pub use job::OffloadJob;
+pub use laws::columns_at_hand_give_the_pairs_of_their_places;
 pub use partial::PartialDone;
+pub use under::span_under;

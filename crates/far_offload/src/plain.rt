@@ -41,7 +41,7 @@ pub(crate) fn tally_of(spec: &Spec, columns: &[Column<'_>], alive: &[bool]) -> (
 
 /// The least and the greatest of some values with one more.
 #[inline(always)]
-fn widened(span: Option<(i64, i64)>, value: i64) -> (i64, i64)
+pub(crate) fn widened(span: Option<(i64, i64)>, value: i64) -> (i64, i64)
     requires { SpanFits span }
     ensures value { result ≡ widened value span }
     ensures fits { SpanFits (Some result) }

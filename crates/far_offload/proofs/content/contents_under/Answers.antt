@@ -1,4 +1,4 @@
-use Rattle.std.proofs.Common.{◌≡◌, ℕ, List, ◌∷◌, [], ◌++◌, take, sym, ap, ◌∙◌, arith}
+use Rattle.std.proofs.Common.{ℕ, List, ◌∷◌, [], ◌++◌, take, sym, ap, ◌∙◌, arith}
 use Rattle.far_types.specs.declared.cell.Cell.{Cell}
 use Rattle.far_offload.specs.Jobs.{columns_under}
 use Rattle.far_offload.proofs.ColumnLaws.{columns-more}

@@ -11,8 +11,8 @@ use Rattle.far_types.specs.declared.key.Key.{Key}
 use Rattle.far_offload.specs.declared.partial.PartialDone.{PartialDone}
 use Rattle.far_offload.specs.Partials.{pair_at, pairs_over, partial_of, with_folded, CanFold}
 use Rattle.far_offload.proofs.FoldLaws.{pairs-with, pairs-keyless, pairs-valueless, partial-more, can-fold, over-few}
-use Rattle.far_offload.proofs.fold.keyed.Goals as goal
-use Rattle.far_offload.proofs.fold.keyed.Goals.{in-Some+in_ok-key+then-is_some+in_ok-fold_under, in-Some+in_ok-key+else-is_some, in_default}
+use Rattle.far_offload.proofs.folding.keyed.Goals as goal
+use Rattle.far_offload.proofs.folding.keyed.Goals.{in-Some+in_ok-key+then-is_some+in_ok-fold_under, in-Some+in_ok-key+else-is_some, in_default}
 
 pub fold_under-requires : goal.fold_under-requires
 fold_under-requires c =

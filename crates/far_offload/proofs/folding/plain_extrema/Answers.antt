@@ -1,4 +1,4 @@
-use Rattle.std.proofs.Common.{◌≡◌, ℤ, None, to_z, of_z, sym, ap, ◌∙◌}
+use Rattle.std.proofs.Common.{ℤ, None, to_z, of_z, sym, ap, ◌∙◌}
 use Rattle.std.specs.Int.{w64}
 use Rattle.std.proofs.lemmas.Int.{to_z-of_z}
 use Rattle.std.specs.FinMap as fin
@@ -7,8 +7,8 @@ use Rattle.far_types.specs.Answers.{Extrema, extrema}
 use Rattle.far_types.specs.Changes.{joined_extrema}
 use Rattle.far_offload.specs.Partials.{values_over}
 use Rattle.far_offload.proofs.FoldLaws.{plain-pairs, seen-extrema, no-extrema}
-use Rattle.far_offload.proofs.fold.plain_extrema.Goals as goal
-use Rattle.far_offload.proofs.fold.plain_extrema.Goals.{in-Some+in_ok-see_rows, in_default}
+use Rattle.far_offload.proofs.folding.plain_extrema.Goals as goal
+use Rattle.far_offload.proofs.folding.plain_extrema.Goals.{in-Some+in_ok-see_rows, in_default}
 
 pub returns-clause-extrema : goal.returns-clause-extrema
 returns-clause-extrema c =

@@ -1,16 +1,16 @@
-use Rattle.std.proofs.Common.{◌≡◌, ◌+◌, ℕ, ℤ, [], None, length, sym, ap, ◌∙◌, arith}
+use Rattle.std.proofs.Common.{◌≡◌, ℕ, ℤ, [], None, length, sym, ap, ◌∙◌, arith}
 use Rattle.std.specs.Int.{w128}
 use Rattle.std.proofs.lemmas.Int.{to_z-of_z}
 use Rattle.std.specs.FinMap as fin
 use Rattle.std.specs.List.{enumerate_from}
-use Rattle.far_types.specs.Answers.{Totals, totals, tally}
+use Rattle.far_types.specs.Answers.{Totals, totals}
 use Rattle.far_types.specs.Changes.{joined_totals, count_in}
 use Rattle.far_groups.specs.Live.{Live}
 use Rattle.far_groups.proofs.PairLaws.{counted}
 use Rattle.far_offload.specs.Partials.{values_over}
 use Rattle.far_offload.proofs.FoldLaws.{plain-pairs, added-totals, no-totals}
-use Rattle.far_offload.proofs.fold.plain_totals.Goals as goal
-use Rattle.far_offload.proofs.fold.plain_totals.Goals.{then-count-ne0+in_ok-add_rows, else-count-ne0}
+use Rattle.far_offload.proofs.folding.plain_totals.Goals as goal
+use Rattle.far_offload.proofs.folding.plain_totals.Goals.{then-count-ne0+in_ok-add_rows, else-count-ne0}
 
 abbrev live_of : ℕ → Totals → Live
 live_of left totals = record { left = left; totals = totals }

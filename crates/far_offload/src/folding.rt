@@ -80,8 +80,11 @@ fn keyed(
     Ok(done)
 }
 
-/// What the live places come to. Refused with `NoMemory` (1) alone.
-pub(crate) fn fold(
+/// What the live places of columns at hand come to: there is a place for each flag, at most 2^26. A column that is not
+/// at hand, and a place past the end of a column, have no value. Of columns with one number the first counts.
+///
+/// Refused with `NoMemory` (1) alone.
+pub fn fold(
     alloc: Global,
     spec: &Spec,
     columns: &[Column<'_>],

@@ -1,0 +1,61 @@
+-- The extrema under one key, with one place more.
+use Rattle.std.proofs.Common.{◌≡◌, ℕ, ◌+◌, ◌<◌, Bool, true, false, cond, List, [], ◌∷◌, ◌++◌, length, get_or, take, Option, None, Some, refl, sym, ap, ◌∙◌}
+use Rattle.std.specs.Prelude.{ℤ, option_map}
+use Rattle.std.specs.FinMap as fin
+use Rattle.std.specs.List.{cons_option}
+use Rattle.std.specs.Option.{option_and_then}
+use Rattle.std.specs.Ordering.{eq_by_cmp}
+use Rattle.std.proofs.lemmas.List.{append-nil}
+use Rattle.far_types.specs.declared.key.Key.{Key}
+use Rattle.far_types.specs.declared.spec.Spec.{Spec}
+use Rattle.far_types.specs.Keys.{line_cmp}
+use Rattle.far_types.specs.KeyOrder.{line_total}
+use Rattle.far_types.specs.Pairs.{Pair, key_under}
+use Rattle.far_types.specs.Answers.{Extrema, extrema}
+use Rattle.far_types.specs.Changes.{widened, with_seen}
+use Rattle.far_types.proofs.Grouping.{same_key}
+use Rattle.far_types.proofs.ByKeyMaps.{get_inserted}
+use Rattle.far_types.proofs.TotalLaws.{extrema-cons, extrema-among}
+use Rattle.far_offload.specs.Columns.{Columns, cells_at}
+use Rattle.far_offload.specs.Partials.{pairs_over, value_at}
+use Rattle.far_offload.proofs.FoldLaws.{pair-is, pairs-next}
+
+extrema-more : (pairs : List Pair) (pair : Pair) → extrema (pairs ++ pair ∷ []) ≡ with_seen (extrema pairs) pair
+extrema-more pairs pair = extrema-among pairs pair [] ∙ ap (λ l. extrema (pair ∷ l)) (append-nil pairs) ∙ extrema-cons pair pairs
+
+-- a pair under another key leaves what stands under this one
+elsewhere : (m : Extrema) (pair : Pair) (key : Option Key) → (pair.0 ≡ key → ⊥) → fin.get (with_seen m pair) key ≡ fin.get m key
+elsewhere m pair key h =
+    fin.get-insert line_total m pair.0 (widened pair.1 (fin.get m pair.0)) key
+    ∙ elim (eq_by_cmp line_cmp key pair.0) as (λ b. eq_by_cmp line_cmp key pair.0 ≡ b → cond b (Some (widened pair.1 (fin.get m pair.0))) (fin.get m key) ≡ fin.get m key) [
+      | true ↦ λ e. absurd (h (sym (same_key key pair.0 e)))
+      | false ↦ λ e. refl
+    ] refl
+
+not-under : (pairs : List Pair) (key : Option Key) (under : Option (Option Key)) (value : Option ℤ) → (under ≡ Some key → ⊥) → fin.get (extrema (pairs ++ cons_option (option_and_then {U = Pair} (λ v. option_map (λ k. (k, v)) under) value) [])) key ≡ fin.get (extrema pairs) key
+not-under pairs key under None h = ap (λ l. fin.get (extrema l) key) (append-nil pairs)
+not-under pairs key None (Some v) h = ap (λ l. fin.get (extrema l) key) (append-nil pairs)
+not-under pairs key (Some k) (Some v) h = ap (λ m. fin.get m key) (extrema-more pairs (k, v)) ∙ elsewhere (extrema pairs) (k, v) key (λ e. h (ap Some e))
+
+module _ (spec : Spec) (columns : Columns) (flags : List Bool) (i : ℕ) (flag : Bool) (key : Option Key) (within : i < length flags) (is : get_or flags i false ≡ flag) where
+  abbrev pairs : List Pair
+  pairs = pairs_over spec columns (take i flags)
+
+  abbrev there : Option Pair
+  there = option_and_then {U = Pair} (λ v. option_map (λ k. (k, v)) (key_under spec.key (cells_at columns i))) (value_at spec columns (i, flag))
+
+  next : pairs_over spec columns (take (i + 1) flags) ≡ pairs ++ cons_option there []
+  next = pairs-next spec columns flags i flag there within is (pair-is spec columns (i, flag))
+
+  -- a place that stands under another key, or under none
+  pub span-elsewhere : (key_under spec.key (cells_at columns i) ≡ Some key → ⊥) → fin.get (extrema (pairs_over spec columns (take (i + 1) flags))) key ≡ fin.get (extrema pairs) key
+  span-elsewhere h = ap (λ l. fin.get (extrema l) key) next ∙ not-under pairs key (key_under spec.key (cells_at columns i)) (value_at spec columns (i, flag)) h
+
+  -- a place that stands under the key and has a value
+  pub span-there : (value : ℤ) → key_under spec.key (cells_at columns i) ≡ Some key → Some value ≡ value_at spec columns (i, flag) → fin.get (extrema (pairs_over spec columns (take (i + 1) flags))) key ≡ Some (widened value (fin.get (extrema pairs) key))
+  span-there value under has =
+      ap (λ l. fin.get (extrema l) key) next
+      ∙ ap (λ (o : Option ℤ). fin.get (extrema (pairs ++ cons_option (option_and_then {U = Pair} (λ v. option_map (λ k. (k, v)) (key_under spec.key (cells_at columns i))) o) [])) key) (sym has)
+      ∙ ap (λ (u : Option (Option Key)). fin.get (extrema (pairs ++ cons_option (option_map {U = Pair} (λ k. (k, value)) u) [])) key) under
+      ∙ ap (λ m. fin.get m key) (extrema-more pairs (key, value))
+      ∙ get_inserted (extrema pairs) key (widened value (fin.get (extrema pairs) key))
