@@ -57,6 +57,7 @@ impl Frame {
         number: u32,
     ) -> Result<Frame, Refusal>
         ensures ok { IfOk result (λ frame. frame ≡ empty_state schema limits) }
+        ensures limits { OnOk result (AreLimits limits) }
         ensures bad { IfErr result (λ e. ((e ≡ Refusal.BadSchema) × ¬ (AreLimits limits)) ⊎ ((e ≡ Refusal.NoMemory) × AreLimits limits)) }
     {
         limits.check()?;
