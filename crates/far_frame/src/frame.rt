@@ -166,14 +166,15 @@ impl Frame {
         if self.registrations == 4_294_967_296 {
             return Err(Refusal::TooManyAggregates);
         }
+        let places = self.rows.len();
         register(
             self.alloc,
             &mut self.aggregates,
             a,
             spec,
             self.registrations,
-            &self.rows,
             self.limits.group,
+            places,
         )?;
         self.registrations += 1;
         Ok(a)

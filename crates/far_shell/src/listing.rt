@@ -1,6 +1,6 @@
 // The rows of a table as text.
 ghost use Rattle.std.specs.Prelude.{◌≡◌, ◌≢◌, map, drop, length, ◌++◌, OnOk, IfErr};
-ghost use Rattle.far_frame.specs.Columns.{lent_cell};
+ghost use Rattle.far_types.specs.Lent.{lent_cell};
 ghost use Rattle.csv.specs.Writing.{default_writer, fields_text};
 ghost use Rattle.far_types.specs.Table.{rows_of};
 ghost use Rattle.far_shell.specs.Breaks.{PrintsCut};
@@ -11,8 +11,8 @@ use super::fault::ShellFault;
 use super::output::Output;
 use super::page::Page;
 use super::print::numbered;
-use far_frame::{CellRef, Frame};
-use far_types::Refusal;
+use far_frame::Frame;
+use far_types::{CellRef, Refusal};
 use itoa::Buffer;
 use std::io::Write;
 
