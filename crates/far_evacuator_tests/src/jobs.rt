@@ -1,9 +1,10 @@
 // Jobs that are begun, carried, accepted and found stale: worked examples.
 use crate::call::Call;
 use crate::desk::{Desk, Limits};
+use far_byte_log::ByteLog;
 use far_evacuator::Want;
 use far_fixtures::agent;
-use far_store::{FarStore, FaultyStore};
+use far_store::{EngineStore, FarStore, FaultyStore};
 use far_types::Refusal;
 use std::alloc::Global;
 use std::test::Fail;
@@ -238,6 +239,44 @@ fn a_pinned_object_stays_until_it_is_unpinned(rt: HostRuntime) -> Result<(), Fai
         Step::Has(0, &[1, 2]),
     ];
     let store = agent(&rt, 8)?;
+    assert_eq!(rt; first_wrong(rt.alloc(), store, LIMITS, STEPS)?, None);
+    Ok(())
+}
+
+#[test]
+fn a_carry_into_a_full_store_is_refused_and_keeps_its_job(rt: HostRuntime) -> Result<(), Fail> {
+    const STEPS: &[Step] = &[
+        Step::Done(Call::Create(&[1, 2])),
+        Step::Done(Call::Create(&[3, 4])),
+        Step::SentAway(0),
+        Step::Done(Call::Begin(Want::Object(1))),
+        Step::Refused(Call::Carry, Refusal::FarFull),
+        Step::Refused(Call::Carry, Refusal::FarFull),
+        Step::Has(1, &[3, 4]),
+        Step::BroughtBack(0),
+        Step::Has(0, &[1, 2]),
+    ];
+    let store = agent(&rt, 1)?;
+    assert_eq!(rt; first_wrong(rt.alloc(), store, LIMITS, STEPS)?, None);
+    Ok(())
+}
+
+#[test]
+fn a_carry_into_a_full_log_is_a_fault_and_keeps_its_job(rt: HostRuntime) -> Result<(), Fail> {
+    const STEPS: &[Step] = &[
+        Step::Done(Call::Create(&[1, 2])),
+        Step::Done(Call::Create(&[3, 4])),
+        Step::SentAway(0),
+        Step::Done(Call::Begin(Want::Object(1))),
+        Step::Refused(Call::Carry, Refusal::FarFault),
+        Step::Refused(Call::Carry, Refusal::FarFault),
+        Step::Has(1, &[3, 4]),
+        Step::BroughtBack(0),
+        Step::Has(0, &[1, 2]),
+    ];
+    // The far form of two numbers has 22 bytes.
+    let log = ByteLog::new(rt.alloc(), 43)?;
+    let store = EngineStore::new(&rt, rt.alloc(), log, 4)?;
     assert_eq!(rt; first_wrong(rt.alloc(), store, LIMITS, STEPS)?, None);
     Ok(())
 }

@@ -7,7 +7,7 @@ mod several;
 use crate::call::Call;
 use crate::desk::{Limits, Record};
 use far_types::Refusal;
-pub use numbers::Numbers;
+pub use numbers::{Log, Numbers};
 use std::alloc::Global;
 
 /// Where a list lies.

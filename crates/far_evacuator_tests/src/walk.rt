@@ -1,11 +1,12 @@
 // Random calls against plain objects, call by call.
 use crate::call::Call;
 use crate::desk::{Desk, Limits};
-use crate::plain::{Numbers, Plains};
+use crate::plain::{Log, Numbers, Plains};
+use far_byte_log::ByteLog;
 use far_evacuator::Want;
 use far_fixtures::Element;
 use far_random::Draws;
-use far_store::{AgentStore, FarStore, FaultyStore};
+use far_store::{AgentStore, EngineStore, FarStore, FaultyStore};
 use far_types::Refusal;
 use std::alloc::Global;
 use std::test::Fail;
@@ -41,6 +42,16 @@ impl Drawn for Option<i64> {
             } else {
                 Some(i64::from(number))
             })?;
+        }
+        Ok(list)
+    }
+}
+
+impl Drawn for i64 {
+    fn draw(alloc: Global, draws: &mut Draws) -> Result<Vec<i64>, Refusal> {
+        let mut list = Vec::new(alloc);
+        for _ in 0..1 + draws.below(4) {
+            list.push(i64::from(draws.below(1_000)))?;
         }
         Ok(list)
     }
@@ -206,6 +217,28 @@ fn stores_of(
     Ok(stores)
 }
 
+/// A store over a log.
+type Logged<'a> = FaultyStore<EngineStore<ByteLog, &'a HostRuntime>>;
+
+/// The stores of a walk over logs, each of which holds so many bytes and fails in its own get.
+fn logs_of<'a>(
+    rt: &'a HostRuntime,
+    seed: u64,
+    form: Log,
+) -> Result<Vec<Numbered<Logged<'a>>>, Refusal> {
+    let mut stores = Vec::new(rt.alloc());
+    for turn in 0..STORES {
+        let get = seed.wrapping_add(2 * turn) % 5;
+        let left = 20 + seed.wrapping_add(37 * turn) % 101;
+        let log = ByteLog::new(rt.alloc(), left as usize)?;
+        stores.push(Numbered {
+            store: FaultyStore::new(EngineStore::new(rt, rt.alloc(), log, 8)?, 0, get),
+            numbers: Numbers::logged(8, 0, get, Log { left, ..form }),
+        })?;
+    }
+    Ok(stores)
+}
+
 /// Whether a walk of random calls that begins with no object goes as it should, over stores in turn.
 fn walks_over<T: Drawn, S: FarStore>(
     alloc: Global,
@@ -282,6 +315,43 @@ fn random_calls_on_texts_agree_with_plain_objects(rt: HostRuntime) -> Result<(),
         let stores = stores_of(&rt, seed)?;
         assert!(rt;
             walks_over::<u8, _>(rt.alloc(), stores, seed)?,
+            "seed {seed}"
+        );
+    }
+    Ok(())
+}
+
+// What the form of a list has: a text list is its own form, and numbers of which none is missing have 8 bytes each.
+const TEXTS: Log = Log {
+    left: 0,
+    head: 0,
+    each: 1,
+};
+
+const NUMBERS: Log = Log {
+    left: 0,
+    head: 6,
+    each: 8,
+};
+
+#[test]
+fn random_calls_on_texts_agree_over_logs_that_fill_up(rt: HostRuntime) -> Result<(), Fail> {
+    for seed in 0..WALKS {
+        let stores = logs_of(&rt, seed, TEXTS)?;
+        assert!(rt;
+            walks_over::<u8, _>(rt.alloc(), stores, seed)?,
+            "seed {seed}"
+        );
+    }
+    Ok(())
+}
+
+#[test]
+fn random_calls_on_numbers_agree_over_logs_that_fill_up(rt: HostRuntime) -> Result<(), Fail> {
+    for seed in 0..WALKS {
+        let stores = logs_of(&rt, seed, NUMBERS)?;
+        assert!(rt;
+            walks_over::<i64, _>(rt.alloc(), stores, seed)?,
             "seed {seed}"
         );
     }

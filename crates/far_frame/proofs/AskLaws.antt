@@ -12,7 +12,7 @@ use Rattle.far_types.specs.Table.{Table, Registered, left, is_unbuilt}
 use Rattle.far_frame.specs.declared.aggregate.Aggregate.{Aggregate}
 use Rattle.far_frame.specs.Kept.{Slot, registered_in, registered_of}
 use Rattle.far_frame.specs.Aggregates.{joined, ask_refusal, group_count, scan_refusal, lowest_free, or_else, watch_refusal}
-use Rattle.far_frame.specs.Steps.{MayRefuse}
+use Rattle.far_types.specs.MayRefuse.{MayRefuse}
 
 abbrev pub seen : Aggregate → Registered
 seen a = record { spec = a.spec; registration = a.registration; unbuilt = a.unbuilt }

@@ -13,7 +13,8 @@ use Rattle.far_types.specs.Cells.{is_of_kind, CellFits, RowFits}
 use Rattle.far_types.specs.Edits.{kinds_fit, is_of_other_kind}
 use Rattle.far_frame.specs.declared.column.Column.{Column}
 use Rattle.far_frame.specs.declared.column.Column.TheVariants.{Ints, Texts}
-use Rattle.far_frame.specs.Columns.{int_cell, text_cell, kind_in, cells_in}
+use Rattle.far_types.specs.Lent.{int_cell, text_cell}
+use Rattle.far_frame.specs.Columns.{kind_in, cells_in}
 use Rattle.far_frame.specs.Rows.{row_at, pushed, IsFull, IsRow}
 
 -- the cells of a column are as many as places

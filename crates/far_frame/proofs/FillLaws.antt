@@ -11,7 +11,8 @@ use Rattle.far_types.specs.Cells.{text_in}
 use Rattle.far_types.specs.FormLengths.{texts_length}
 use Rattle.far_types.specs.Table.{in_group}
 use Rattle.far_frame.specs.declared.fill.Fill.{Fill}
-use Rattle.far_frame.specs.Columns.{text_cell, put}
+use Rattle.far_types.specs.Lent.{text_cell}
+use Rattle.far_frame.specs.Columns.{put}
 use Rattle.far_frame.specs.Fills.{bytes_in, missing_in, fuller, emptier, form_length, put_text, empty_fill, fill_at, TextFits, AreFills}
 use Rattle.far_frame.proofs.ExtremaLaws.{same_or_not}
 use Rattle.far_frame.proofs.FormLaws.{texts-back}

@@ -5,7 +5,8 @@ use Rattle.std.proofs.Math.Seq.{take-append-add}
 use Rattle.far_types.specs.declared.cell.Cell.{Cell}
 use Rattle.far_types.specs.Cells.{text_in}
 use Rattle.far_types.specs.Table.{in_group}
-use Rattle.far_frame.specs.Columns.{text_cell, put}
+use Rattle.far_types.specs.Lent.{text_cell}
+use Rattle.far_frame.specs.Columns.{put}
 
 -- a part of a list in which x is put at p
 part-put : {X : Type 0} (size p from to after : ℕ) (x : X) (xs : List X) → from ≤ p → p < from + size → p ≤ length xs → to ≡ min (from + size) (length xs) → after ≡ min (p + 1) to → take size (drop from (take p xs ++ x ∷ drop (p + 1) xs)) ≡ take (p - from) (drop from xs) ++ x ∷ take (to - after) (drop after xs)

@@ -1,7 +1,7 @@
 -- What a place gives to each aggregate, and what is kept of pairs.
-use Rattle.std.specs.Prelude.{◌≡◌, ℕ, ℤ, ◌≤◌, ◌^◌, ◌/◌, cond, List, length, Option, None, Some, slice_get}
-use Rattle.far_types.specs.declared.key.Key.{Key}
-use Rattle.far_types.specs.Answers.{Totals, Extrema, totals, is_under}
+use Rattle.std.specs.Prelude.{◌≡◌, ℕ, ℤ, ◌≤◌, ◌^◌, ◌/◌, true, cond, List, length, Option, None, Some, slice_get}
+use Rattle.far_types.specs.declared.cell.Cell.{Cell}
+use Rattle.far_types.specs.Answers.{Totals, Extrema, totals}
 use Rattle.far_types.specs.Changes.{with_pair, without_pair, with_seen, widened}
 use Rattle.far_types.specs.Pairs.{Pair, PairsFit}
 use Rattle.far_types.specs.Table.{Place, is_unbuilt}
@@ -14,10 +14,9 @@ abbrev pub change_of : ℕ → ℕ → Option Place → Slot → Change
 change_of size i place None = None
 change_of size i place (Some a) = cond (is_unbuilt a.unbuilt (i / size)) None (pair_if a.spec place)
 
--- the value of a pair, where it stands under a key
-abbrev pub value_if : Option Key → Change → Option ℤ
-value_if key None = None
-value_if key (Some pair) = cond (is_under key pair) (Some pair.1) None
+-- the place of a row that is alive
+abbrev pub alive_with : List Cell → Place
+alive_with row = record { cells = row; alive = true }
 
 -- one pair more or less, where there is one
 abbrev pub with_change : Totals → Change → Totals

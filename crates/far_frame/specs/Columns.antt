@@ -1,34 +1,16 @@
--- What a column and a lent cell hold, as cells of the plain table.
-use Rattle.std.specs.Prelude.{ℕ, ◌+◌, ◌/◌, ℤ, ◌<◌, Bool, ◌&&◌, nat_lt, List, ◌∷◌, ◌++◌, map, take, drop, Option, None, Some, vec_len, vec_capacity}
+-- What a column holds, as cells of the plain table.
+use Rattle.std.specs.Prelude.{ℕ, ◌+◌, ◌/◌, ◌<◌, Bool, ◌&&◌, nat_lt, List, ◌∷◌, ◌++◌, map, take, drop, Some, vec_len, vec_capacity}
 use Rattle.far_types.specs.declared.cell.Cell.{Cell}
-use Rattle.far_types.specs.declared.cell.Cell.TheVariants as cell
 use Rattle.far_types.specs.declared.cell.Kind.{Kind}
 use Rattle.far_types.specs.declared.cell.Kind.TheVariants as kind
 use Rattle.far_types.specs.declared.limits.Limits.{Limits}
 use Rattle.far_types.specs.Bounds.{is_text}
 use Rattle.far_types.specs.Cells.{text_in}
 use Rattle.far_types.specs.FormLengths.{texts_length}
+use Rattle.far_types.specs.Lent.{int_cell, text_cell}
 use Rattle.far_types.specs.Table.{in_group}
 use Rattle.far_frame.specs.declared.column.Column.{Column}
 use Rattle.far_frame.specs.declared.column.Column.TheVariants.{Ints, Texts}
-use Rattle.far_frame.specs.declared.cell_ref.CellRef.{CellRef}
-use Rattle.far_frame.specs.declared.cell_ref.CellRef.TheVariants as lent
-
--- the cell that is lent in place
-abbrev pub lent_cell : CellRef → Cell
-lent_cell (lent.Int number) = cell.Int number
-lent_cell (lent.Text text) = cell.Text text.now
-lent_cell lent.Missing = cell.Missing
-
--- a number that may be missing, as a cell
-abbrev pub int_cell : Option ℤ → Cell
-int_cell (Some number) = cell.Int number
-int_cell None = cell.Missing
-
--- likewise a text
-abbrev pub text_cell : Option (List ℕ) → Cell
-text_cell (Some text) = cell.Text text
-text_cell None = cell.Missing
 
 -- the kind of a column's cells
 abbrev pub kind_in : Column → Kind

@@ -1,5 +1,5 @@
 -- How the places of a table follow from its columns and its flags.
-use Rattle.std.specs.Prelude.{◌≡◌, ℕ, Bool, true, List, [], ◌∷◌, ◌++◌, map, length, slice_index_or, slice_set}
+use Rattle.std.specs.Prelude.{◌≡◌, ℕ, Bool, true, List, [], ◌∷◌, ◌++◌, map, length, slice_index_or}
 use Rattle.std.specs.List.{enumerate_from, All}
 use Rattle.far_types.specs.declared.cell.Cell.{Cell}
 use Rattle.far_types.specs.declared.cell.Cell.TheVariants.{Missing}
@@ -8,8 +8,6 @@ use Rattle.far_types.specs.Cells.{RowFits}
 use Rattle.far_types.specs.Edits.{kinds_fit}
 use Rattle.far_types.specs.Table.{Place}
 use Rattle.far_frame.specs.declared.column.Column.{Column}
-use Rattle.far_frame.specs.declared.row_ref.RowRef.{RowRef}
-use Rattle.far_frame.specs.declared.row_ref.RowRef.TheVariants as lent
 use Rattle.far_frame.specs.Columns.{kind_in, cells_in}
 
 -- the rows of a table: the kinds of its columns, and its places
@@ -33,12 +31,6 @@ rows_in columns flags = record { kinds = map kind_in columns; places = places_of
 pub record IsFull (places : ℕ) (cells : List Cell) : Type 0 where
   pub count : length cells ≡ places
   pub fits : RowFits cells
-
--- the cells of a row that is read where it lies
-abbrev pub row_in : RowRef → List Cell
-row_in (lent.Given row) = row.now
-row_in (lent.Standing columns place) = row_at (map cells_in columns.now) place
-row_in (lent.Changed columns place column cell) = slice_set (row_at (map cells_in columns.now) place) column cell.now
 
 -- the columns with one more row: a cell more in each, in order
 abbrev pub pushed : List (List Cell) → List Cell → List (List Cell)

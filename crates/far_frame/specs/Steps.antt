@@ -5,8 +5,8 @@ use Rattle.far_types.specs.declared.edit.Edit.TheVariants as edit
 use Rattle.far_types.specs.declared.cell.Kind.{Kind}
 use Rattle.far_types.specs.declared.limits.Limits.{Limits}
 use Rattle.far_types.specs.declared.refusal.Refusal.{Refusal}
-use Rattle.far_types.specs.declared.refusal.Refusal.TheVariants as refusal
 use Rattle.far_types.specs.Edits.{edit_refusal, edited}
+use Rattle.far_types.specs.MayRefuse.{MayRefuse}
 use Rattle.far_types.specs.Table.{Place, Table, Registered, empty_table, answer_now}
 use Rattle.far_frame.specs.declared.step.Step.{Step}
 use Rattle.far_frame.specs.declared.step.Step.TheVariants as step
@@ -74,11 +74,6 @@ reply_to state (step.Watch spec) = number_reply (lowest_free state.table)
 reply_to state (step.Unwatch a) = reply.Done
 reply_to state (step.ScanGroup a g) = reply.Done
 reply_to state (step.Ask a) = answer_reply state.table (aggregate_at state.table a)
-
--- a refusal that may come: the one that is due, and where none is, want of memory in a step that takes some
-abbrev pub MayRefuse : Option Refusal → Bool → Refusal → Type 0
-MayRefuse (Some due) may_grow given = given ≡ due
-MayRefuse None may_grow given = (given ≡ refusal.NoMemory) × (may_grow ≡ true)
 
 -- a step is refused: nothing changes
 abbrev pub Refuses : State → Step → Refusal → State → Type 0

@@ -1,10 +1,10 @@
 // What an aggregate answers.
 ghost use Rattle.std.specs.Prelude.{◌≡◌, ◌≢◌, ◌<◌, ℕ, List, Some, true, Err, OnOk, IfOk, IfErr};
 ghost use Rattle.far_types.specs.Answers.{total_lines, answer_over};
+ghost use Rattle.far_types.specs.MayRefuse.{MayRefuse};
 ghost use Rattle.far_types.specs.Table.{Place, left, rows_of};
 ghost use Rattle.far_frame.specs.Kept.{KeepsSlot, registered_in};
 ghost use Rattle.far_frame.specs.Aggregates.{ask_refusal};
-ghost use Rattle.far_frame.specs.Steps.{MayRefuse};
 
 use super::aggregate::{Aggregate, Kept};
 use far_groups::LiveTotals;

@@ -1,25 +1,24 @@
 // What a place gives to each aggregate.
 ghost use Rattle.std.specs.Prelude.{◌≡◌, ◌<◌, Some, IfOk, IfErr, map};
-ghost use Rattle.far_frame.specs.Changes.{change_of};
+ghost use Rattle.far_frame.specs.Changes.{change_of, alive_with};
 
 use super::aggregate::Aggregate;
-use super::place_ref::PlaceRef;
-use far_types::{Key, Refusal};
+use far_types::{Key, LentRow, Refusal};
 use std::alloc::Global;
 
 /// A folded row: its key, none in an aggregate without key column, and its value.
 pub type Pair = (Option<Key>, i64);
 
-/// What a place of this number gives to an aggregate, where its row group is built in.
+/// What a row that is alive at a place gives to an aggregate, where its row group is built in.
 pub fn change(
     alloc: Global,
     slot: &Option<Aggregate>,
-    at: &PlaceRef<'_>,
+    row: &LentRow<'_>,
     size: u32,
     place: usize,
 ) -> Result<Option<Pair>, Refusal>
     requires size { 0 < size }
-    ensures ok { IfOk result (λ change. change ≡ change_of size place (Some at.now) slot.now) }
+    ensures ok { IfOk result (λ change. change ≡ change_of size place (Some (alive_with row.now)) slot.now) }
     ensures memory { IfErr result (λ e. e ≡ Refusal.NoMemory) }
 {
     match slot {
@@ -28,26 +27,26 @@ pub fn change(
             if aggregate.unbuilt.has(place / size as usize) {
                 return Ok(None);
             }
-            at.pair(alloc, &aggregate.spec)
+            aggregate.spec.pair_of(alloc, row)
         }
     }
 }
 
-/// What a place of this number gives to each aggregate.
+/// What a row that is alive at a place gives to each aggregate.
 pub fn changes(
     alloc: Global,
     slots: &[Option<Aggregate>],
-    at: &PlaceRef<'_>,
+    row: &LentRow<'_>,
     size: u32,
     place: usize,
 ) -> Result<Vec<Option<Pair>>, Refusal>
     requires size { 0 < size }
-    ensures ok { IfOk result (λ changes. changes.items ≡ map (change_of size place (Some at.now)) slots.now) }
+    ensures ok { IfOk result (λ changes. changes.items ≡ map (change_of size place (Some (alive_with row.now))) slots.now) }
     ensures memory { IfErr result (λ e. e ≡ Refusal.NoMemory) }
 {
     let mut changes = Vec::with_capacity(alloc, slots.len())?;
     for slot in slots {
-        changes.push(change(alloc, slot, at, size, place)?)?;
+        changes.push(change(alloc, slot, row, size, place)?)?;
     }
     Ok(changes)
 }

@@ -2,11 +2,11 @@
 ghost use Rattle.std.specs.Prelude.{◌≡◌, ◌<◌, ◌≤◌, ◌++◌, [], ◌∷◌, true, OnOk, IfErr, slice_index_or, slice_set, length};
 ghost use Rattle.far_types.specs.Cells.{is_of_kind, CellFits};
 ghost use Rattle.far_types.specs.declared.cell.Cell.TheVariants.{Missing};
-ghost use Rattle.far_frame.specs.Columns.{lent_cell, int_cell, text_cell, kind_in, cells_in, HasRoom, overfilled};
+ghost use Rattle.far_types.specs.Lent.{lent_cell, int_cell, text_cell};
+ghost use Rattle.far_frame.specs.Columns.{kind_in, cells_in, HasRoom, overfilled};
 
-use super::cell_ref::CellRef;
 use super::text_column::TextColumn;
-use far_types::{Cell, Kind, Limits, Refusal, Text};
+use far_types::{Cell, CellRef, Kind, Limits, Refusal, Text};
 use std::alloc::Global;
 
 /// The cells of one column, by place. A cell without a value is a `None`.

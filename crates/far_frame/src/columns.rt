@@ -3,14 +3,14 @@ ghost use Rattle.std.specs.Prelude.{◌≡◌, ◌≤◌, true, map, length, opt
 ghost use Rattle.std.specs.List.{All, list_any, enumerate_from};
 ghost use Rattle.std.specs.Option.{option_copied};
 ghost use Rattle.far_types.specs.declared.cell.Cell.TheVariants.{Missing};
-ghost use Rattle.far_types.specs.Cells.{RowFits, cell_at};
+ghost use Rattle.far_types.specs.Cells.{RowFits, cell_at, cells_of};
+ghost use Rattle.far_types.specs.Lent.{lent_cell};
 ghost use Rattle.far_types.specs.Edits.{kinds_fit};
-ghost use Rattle.far_frame.specs.Columns.{lent_cell, kind_in, cells_in, HasRoom, overfilled};
+ghost use Rattle.far_frame.specs.Columns.{kind_in, cells_in, HasRoom, overfilled};
 ghost use Rattle.far_frame.specs.Rows.{row_at, pushed};
 
-use super::cell_ref::CellRef;
 use super::column::Column;
-use far_types::{Cell, Limits, Refusal, Row};
+use far_types::{Cell, CellRef, LendCells, LentRow, Limits, Refusal, Row};
 
 /// The cell of a column at a place, or `None` where there is no such column. Past the end there is no value.
 pub fn cell_of(columns: &[Column], column: usize, place: usize) -> Option<CellRef<'_>>
@@ -20,6 +20,34 @@ pub fn cell_of(columns: &[Column], column: usize, place: usize) -> Option<CellRe
         Some(column) => Some(column.cell(place)),
         None => None,
     }
+}
+
+/// The row that stands at a place, of which only the columns are looked at that a reader asks for.
+#[derive(Drop)]
+pub struct RowAt<'a> {
+    pub columns: &'a [Column],
+    pub place: usize,
+}
+
+impl<'a> LendCells for RowAt<'a> {
+    ghost cells = { λ at. cells_of (row_at (map cells_in at.columns.now) at.place) };
+
+    #[inline(always)]
+    fn cell(&self, column: u32) -> Option<CellRef<'_>> {
+        cell_of(self.columns, column as usize, self.place)
+    }
+}
+
+/// The row that stands at a place, each of its columns looked at once. Takes no memory.
+pub fn lend_row(columns: &[Column], place: usize) -> LentRow<'_>
+    requires { length columns.now ≤ 16 }
+    ensures { result ≡ row_at (map cells_in columns.now) place }
+{
+    let mut row = LentRow::new();
+    for column in columns {
+        row.push(column.cell(place));
+    }
+    row
 }
 
 /// Takes the memory for one more cell in each column.

@@ -1,15 +1,14 @@
 // Pairs that come into what is kept, and how they are taken back where a later growth is refused.
 ghost use Rattle.std.specs.Prelude.{◌≡◌, ◌/◌, ◌^◌, ◌<◌, ◌≤◌, Some, OnOk, OnErr, IfErr, IfOk, length, map};
-ghost use Rattle.far_frame.specs.Changes.{EachFolds};
+ghost use Rattle.far_frame.specs.Changes.{EachFolds, alive_with};
 ghost use Rattle.far_frame.specs.Coming.{stood_in, come_of, added, back, MayAdd, MayBack, EachFits, EachMayBack};
 ghost use Rattle.far_frame.specs.Rooms.{HaveRoom};
 ghost use Rattle.far_frame.specs.Until.{zip_until, zip_all};
 
 use super::aggregate::{Aggregate, Kept};
 use super::changes::{Pair, change};
-use super::place_ref::PlaceRef;
 use far_extrema::Span;
-use far_types::Refusal;
+use far_types::{LentRow, Refusal};
 use std::alloc::Global;
 
 /// A pair that comes, and where extrema are kept what stood under its key in the row group, which takes it back.
@@ -31,22 +30,22 @@ fn with_stood(kept: &Kept, group: u32, pair: Pair) -> Coming
     Coming { pair, stood }
 }
 
-/// What comes of a place of this number into an aggregate.
+/// What comes of a row that is alive at a place into an aggregate.
 fn come(
     alloc: Global,
     slot: &Option<Aggregate>,
-    at: &PlaceRef<'_>,
+    row: &LentRow<'_>,
     size: u32,
     place: usize,
 ) -> Result<Option<Coming>, Refusal>
     requires size { 0 < size }
     requires few { place ≤ 2 ^ 24 }
-    ensures ok { IfOk result (λ come. come ≡ come_of size place (Some at.now) slot.now) }
+    ensures ok { IfOk result (λ come. come ≡ come_of size place (Some (alive_with row.now)) slot.now) }
     ensures memory { IfErr result (λ e. e ≡ Refusal.NoMemory) }
 {
     match slot {
         None => Ok(None),
-        Some(aggregate) => match change(alloc, slot, at, size, place)? {
+        Some(aggregate) => match change(alloc, slot, row, size, place)? {
             None => Ok(None),
             Some(pair) => Ok(Some(with_stood(
                 &aggregate.kept,
@@ -57,22 +56,22 @@ fn come(
     }
 }
 
-/// What comes of a place of this number into each aggregate.
+/// What comes of a row that is alive at a place into each aggregate.
 fn comings(
     alloc: Global,
     slots: &[Option<Aggregate>],
-    at: &PlaceRef<'_>,
+    row: &LentRow<'_>,
     size: u32,
     place: usize,
 ) -> Result<Vec<Option<Coming>>, Refusal>
     requires size { 0 < size }
     requires few { place ≤ 2 ^ 24 }
-    ensures ok { IfOk result (λ comes. comes.items ≡ map (come_of size place (Some at.now)) slots.now) }
+    ensures ok { IfOk result (λ comes. comes.items ≡ map (come_of size place (Some (alive_with row.now))) slots.now) }
     ensures memory { IfErr result (λ e. e ≡ Refusal.NoMemory) }
 {
     let mut comes = Vec::with_capacity(alloc, slots.len())?;
     for slot in slots {
-        comes.push(come(alloc, slot, at, size, place)?)?;
+        comes.push(come(alloc, slot, row, size, place)?)?;
     }
     Ok(comes)
 }
@@ -147,12 +146,12 @@ fn add_all(
     Ok(())
 }
 
-/// The pairs of a place of this number come into what is kept for each aggregate, or none where memory is refused. What
+/// The pairs of a row that is alive at a place come into what is kept for each aggregate, or none where memory is refused. What
 /// came is handed back: `back_all` of it undoes this.
 pub fn come_in(
     alloc: Global,
     slots: &mut [Option<Aggregate>],
-    at: &PlaceRef<'_>,
+    row: &LentRow<'_>,
     size: u32,
     place: usize,
 ) -> Result<Vec<Option<Coming>>, Refusal>
@@ -160,14 +159,14 @@ pub fn come_in(
     requires few { place ≤ 2 ^ 24 }
     requires folds { EachFolds slots.old }
     requires room { HaveRoom (place / size) slots.old }
-    ensures ok { OnOk result (slots.new ≡ zip_all (added (place / size)) slots.old (map (come_of size place (Some at.now)) slots.old)) }
+    ensures ok { OnOk result (slots.new ≡ zip_all (added (place / size)) slots.old (map (come_of size place (Some (alive_with row.now))) slots.old)) }
     ensures len { IfOk result (λ comes. length comes.items ≡ length slots.new) }
     ensures may_back { IfOk result (λ comes. EachMayBack (place / size) (length slots.new) slots.new comes.items) }
     ensures back { IfOk result (λ comes. zip_all (back (place / size)) slots.new comes.items ≡ slots.old) }
     ensures err { OnErr result (slots.new ≡ slots.old) }
     ensures memory { IfErr result (λ e. e ≡ Refusal.NoMemory) }
 {
-    let comes = comings(alloc, slots, at, size, place)?;
+    let comes = comings(alloc, slots, row, size, place)?;
     add_all(slots, (place / size as usize) as u32, comes.as_slice())?;
     Ok(comes)
 }

@@ -1,7 +1,7 @@
 // Edits of the rows, and what they change of what is kept for the aggregates. Each has three parts: growths of what is
 // kept, which can be taken back without memory; the change of the rows, the last step that may be refused; and then what
 // cannot fail. What comes of the new row is read before the rows change.
-ghost use Rattle.std.specs.Prelude.{◌≡◌, ◌<◌, ◌≤◌, ◌^◌, length, map, true, false, slice_get, OnOk, OnErr, IfErr};
+ghost use Rattle.std.specs.Prelude.{◌≡◌, ◌<◌, ◌≤◌, ◌^◌, Some, length, map, option_map, true, false, slice_get, OnOk, OnErr, IfErr};
 ghost use Rattle.far_types.specs.declared.edit.Edit.TheVariants as edit;
 ghost use Rattle.far_types.specs.Edits.{kinds_fit, is_of_other_kind, places_after};
 ghost use Rattle.far_frame.specs.Kept.{Keeps, registered_in};
@@ -10,10 +10,9 @@ use super::aggregate::Aggregate;
 use super::changes::changes;
 use super::coming::{back_all, come_in};
 use super::going::take_all;
-use super::place_ref::PlaceRef;
 use super::rooms::make_rooms;
 use super::rows::Rows;
-use far_types::{Cell, Refusal, Row};
+use far_types::{Cell, LentRow, Refusal, Row};
 use std::alloc::Global;
 
 /// Appends a row, which is alive. Refused with `NoMemory` (1) alone, and then rows and answers are as before.
@@ -39,7 +38,7 @@ pub fn insert_row(
     let place = rows.len();
     let group = (place / size as usize) as u32;
     make_rooms(slots, group);
-    let comes = come_in(alloc, slots, &PlaceRef::inserted(&row), size, place)?;
+    let comes = come_in(alloc, slots, &LentRow::of_row(&row), size, place)?;
     match rows.push(row) {
         Ok(()) => Ok(()),
         Err(refusal) => {
@@ -62,7 +61,7 @@ pub fn set_cell(
 ) -> Result<(), Refusal>
     requires size { 0 < size }
     requires few { length rows.old.places ≤ 2 ^ 24 }
-    requires within { place < length rows.old.places }
+    requires alive { option_map (λ p. p.alive) (slice_get rows.old.places place) ≡ Some true }
     requires column { column < length rows.old.kinds }
     requires of_kind { is_of_other_kind (slice_get rows.old.kinds column) cell ≡ false }
     requires kept { Keeps size rows.old.places slots.old }
@@ -77,9 +76,10 @@ pub fn set_cell(
     let _fit = rows.len();
     let group = place / size as usize;
     make_rooms(slots, group as u32);
-    let gone = changes(alloc, slots, &rows.lend(place), size, place)?;
-    let set = rows.lend_with(place, column, &cell);
-    come_in(alloc, slots, &set, size, place)?;
+    let old = rows.row(place);
+    let gone = changes(alloc, slots, &old, size, place)?;
+    let new = old.with(column, cell.lend());
+    come_in(alloc, slots, &new, size, place)?;
     // nothing from here on can fail
     rows.set(place, column, cell);
     let _still_fit = rows.len();
@@ -97,7 +97,7 @@ pub fn remove_row(
 ) -> Result<(), Refusal>
     requires size { 0 < size }
     requires few { length rows.old.places ≤ 2 ^ 24 }
-    requires within { place < length rows.old.places }
+    requires alive { option_map (λ p. p.alive) (slice_get rows.old.places place) ≡ Some true }
     requires kept { Keeps size rows.old.places slots.old }
     ensures kinds { rows.new.kinds ≡ rows.old.kinds }
     ensures count { length rows.new.places ≡ length rows.old.places }
@@ -110,7 +110,7 @@ pub fn remove_row(
     let _fit = rows.len();
     let group = place / size as usize;
     make_rooms(slots, group as u32);
-    let gone = changes(alloc, slots, &rows.lend(place), size, place)?;
+    let gone = changes(alloc, slots, &rows.row(place), size, place)?;
     // nothing from here on can fail
     rows.clear(place);
     let _still_fit = rows.len();

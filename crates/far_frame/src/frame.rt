@@ -1,7 +1,7 @@
 // A table and what it answers.
 ghost use Rattle.std.specs.Prelude.{◌≡◌, ◌⊎◌, ℕ, true, false, length, slice_get, option_map, IfOk, IfErr, IfSome, IfNone, OnOk};
 ghost use Rattle.std.specs.Option.{option_copied, option_and_then};
-ghost use Rattle.far_frame.specs.Columns.{lent_cell};
+ghost use Rattle.far_types.specs.Lent.{lent_cell};
 ghost use Rattle.far_frame.specs.Readings.{has_left, plain_in};
 ghost use Rattle.far_types.specs.declared.edit.Edit.TheVariants as edit;
 ghost use Rattle.far_types.specs.Bounds.{AreLimits};
@@ -12,14 +12,13 @@ ghost use Rattle.far_frame.specs.declared.step.Reply.TheVariants as reply;
 
 use super::aggregate::Aggregate;
 use super::answers::answer;
-use super::cell_ref::CellRef;
 use super::edits::{insert_row, remove_row, set_cell};
 use super::readings::{first_unbuilt, plain};
 use super::refusals::{insert_refusal, remove_refusal, set_refusal};
 use super::registrations::{aggregate_at, forget, free_number, group_count, register};
 use super::rows::Rows;
 use super::scans::build_at;
-use far_types::{Answer, Cell, Limits, Refusal, Row, Schema, Spec};
+use far_types::{Answer, Cell, CellRef, Limits, Refusal, Row, Schema, Spec};
 use std::alloc::Global;
 use std::marker::Model;
 
@@ -58,6 +57,7 @@ impl Frame {
         number: u32,
     ) -> Result<Frame, Refusal>
         ensures ok { IfOk result (λ frame. frame ≡ empty_state schema limits) }
+        ensures limits { OnOk result (AreLimits limits) }
         ensures bad { IfErr result (λ e. ((e ≡ Refusal.BadSchema) × ¬ (AreLimits limits)) ⊎ ((e ≡ Refusal.NoMemory) × AreLimits limits)) }
     {
         limits.check()?;
@@ -166,14 +166,15 @@ impl Frame {
         if self.registrations == 4_294_967_296 {
             return Err(Refusal::TooManyAggregates);
         }
+        let places = self.rows.len();
         register(
             self.alloc,
             &mut self.aggregates,
             a,
             spec,
             self.registrations,
-            &self.rows,
             self.limits.group,
+            places,
         )?;
         self.registrations += 1;
         Ok(a)

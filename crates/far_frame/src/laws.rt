@@ -4,6 +4,7 @@ ghost use Rattle.far_types.specs.declared.answer.Answer.{Answer};
 ghost use Rattle.far_types.specs.declared.edit.Edit.{Edit};
 ghost use Rattle.far_types.specs.declared.refusal.Refusal.{Refusal};
 ghost use Rattle.far_types.specs.Edits.{edit_refusal, edited};
+ghost use Rattle.far_types.specs.MayRefuse.{MayRefuse};
 ghost use Rattle.far_types.specs.Table.{Registered, left, answer_now};
 ghost use Rattle.far_frame.specs.declared.step.Reply.{Reply};
 ghost use Rattle.far_frame.specs.declared.step.Reply.TheVariants as reply;
@@ -11,7 +12,7 @@ ghost use Rattle.far_frame.specs.declared.step.Step.{Step};
 ghost use Rattle.far_frame.specs.declared.step.Step.TheVariants as step;
 ghost use Rattle.far_frame.specs.Runs.{plain_rows};
 ghost use Rattle.far_frame.specs.Aggregates.{aggregate_at};
-ghost use Rattle.far_frame.specs.Steps.{State, MayRefuse, IsStep, IsRun};
+ghost use Rattle.far_frame.specs.Steps.{State, IsStep, IsRun};
 
 /// After any list of steps the rows are those of the plain list under the edits that were accepted, whatever was
 /// registered, built in and asked between them.

@@ -3,7 +3,6 @@
 
 mod aggregate;
 mod answers;
-pub mod cell_ref;
 mod changes;
 mod column;
 mod columns;
@@ -14,12 +13,10 @@ pub mod frame;
 mod going;
 mod groups;
 pub mod laws;
-mod place_ref;
 mod readings;
 mod refusals;
 mod registrations;
 mod rooms;
-mod row_ref;
 pub mod rows;
 mod scans;
 pub mod step;
@@ -28,7 +25,6 @@ mod text_form;
 mod unbuilt;
 pub mod world;
 
-pub use cell_ref::CellRef;
 pub use frame::Frame;
 pub use rows::Rows;
 pub use step::{Reply, Step};

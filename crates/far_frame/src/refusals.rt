@@ -1,6 +1,6 @@
 // Which refusal an edit meets, want of memory aside: the first in the order of the table's refusals. None of these
 // takes memory.
-ghost use Rattle.std.specs.Prelude.{◌≡◌, ◌≢◌, ◌<◌, ◌≤◌, ◌^◌, true, false, length, slice_get, IfNone};
+ghost use Rattle.std.specs.Prelude.{◌≡◌, ◌≢◌, ◌<◌, ◌≤◌, ◌^◌, Some, true, false, length, option_map, slice_get, IfNone};
 ghost use Rattle.std.specs.List.{list_any};
 ghost use Rattle.far_types.specs.declared.edit.Edit.TheVariants as edit;
 ghost use Rattle.far_types.specs.Cells.{is_of_kind, is_too_long};
@@ -100,7 +100,7 @@ pub fn set_refusal(
     requires group { 1 ≤ limits.now.group }
     requires kinds { rows.now.kinds ≡ schema.now }
     ensures value { result ≡ edit_refusal (plain_table schema.now limits.now rows.now.places edits) (edit.Set place column cell.now) }
-    ensures place { IfNone result (place < length rows.now.places) }
+    ensures alive { IfNone result (option_map (λ p. p.alive) (slice_get rows.now.places place) ≡ Some true) }
     ensures column { IfNone result (column < length schema.now) }
     ensures of_kind { IfNone result (is_of_other_kind (slice_get schema.now column) cell.now ≡ false) }
     ensures edits { IfNone result (edits ≢ limits.now.edits) }
@@ -136,7 +136,7 @@ pub fn set_refusal(
 /// Why a removal is refused: `NoRow` (8), `RemovedRow` (9) or `EditsUsedUp` (24), or `None`.
 pub fn remove_refusal(limits: &Limits, rows: &Rows, edits: u64, place: u32) -> Option<Refusal>
     ensures value { result ≡ edit_refusal (plain_table rows.now.kinds limits.now rows.now.places edits) (edit.Remove place) }
-    ensures place { IfNone result (place < length rows.now.places) }
+    ensures alive { IfNone result (option_map (λ p. p.alive) (slice_get rows.now.places place) ≡ Some true) }
     ensures edits { IfNone result (edits ≢ limits.now.edits) }
 {
     match rows.is_alive(place as usize) {

@@ -1,12 +1,11 @@
 // Aggregates under their numbers.
-ghost use Rattle.std.specs.Prelude.{◌≡◌, ◌<◌, ◌≤◌, ◌+◌, ◌^◌, ℕ, List, Some, None, true, length, slice_get, slice_set, IfOk, IfErr, IfSome, OnOk, OnErr};
+ghost use Rattle.std.specs.Prelude.{◌≡◌, ◌<◌, ◌≤◌, ◌+◌, ◌^◌, ℕ, List, Some, None, true, length, replicate, slice_get, slice_set, IfOk, IfErr, IfSome, OnOk, OnErr};
 ghost use Rattle.std.specs.Option.{option_copied};
-ghost use Rattle.far_types.specs.Table.{Place, groups, all_unbuilt, is_unbuilt};
+ghost use Rattle.far_types.specs.Table.{Place, groups, is_unbuilt};
 ghost use Rattle.far_frame.specs.Kept.{Keeps, KeepsSlot, KeepsNothing, fold_of, registered_in, registered_of};
 ghost use Rattle.far_frame.specs.Aggregates.{free_from, joined};
 
 use super::aggregate::{Aggregate, Kept};
-use super::rows::Rows;
 use super::unbuilt::Unbuilt;
 use far_extrema::LiveExtrema;
 use far_groups::LiveTotals;
@@ -62,21 +61,21 @@ fn nothing_kept(alloc: Global, fold: Fold, left: u32) -> Kept
     }
 }
 
-/// An aggregate with nothing built in: all row groups that hold a place are left.
+/// An aggregate with nothing built in: all row groups that hold one of so many places are left.
 pub fn new_aggregate(
     alloc: Global,
     spec: Spec,
     registration: u64,
-    rows: &Rows,
     size: u32,
+    places: usize,
 ) -> Result<Aggregate, Refusal>
     requires size { 0 < size }
-    requires few { length rows.now.places ≤ 2 ^ 24 }
-    ensures registered { IfOk result (λ a. registered_in (Some a) ≡ Some (record { spec = spec; registration = registration; unbuilt = all_unbuilt size rows.now.places })) }
-    ensures kept { IfOk result (λ a. KeepsSlot size rows.now.places (Some a)) }
+    requires few { places ≤ 2 ^ 24 }
+    ensures registered { IfOk result (λ a. registered_in (Some a) ≡ Some (record { spec = spec; registration = registration; unbuilt = replicate (groups size places) true })) }
+    ensures kept { IfOk result (λ a. (all : List Place) → length all ≡ places → KeepsSlot size all (Some a)) }
     ensures memory { IfErr result (λ e. e ≡ Refusal.NoMemory) }
 {
-    let groups = group_count(size, rows.len());
+    let groups = group_count(size, places);
     let unbuilt = Unbuilt::all(alloc, groups)?;
     Ok(Aggregate {
         registration,
@@ -105,29 +104,28 @@ pub fn put(slots: &mut Vec<Option<Aggregate>>, a: u32, aggregate: Aggregate) -> 
     Ok(())
 }
 
-/// Registers an aggregate under a number, which is free.
+/// Registers an aggregate over so many places under a number, which is free.
 pub fn register(
     alloc: Global,
     slots: &mut Vec<Option<Aggregate>>,
     a: u32,
     spec: Spec,
     registration: u64,
-    rows: &Rows,
     size: u32,
+    places: usize,
 ) -> Result<(), Refusal>
     requires size { 0 < size }
-    requires few { length rows.now.places ≤ 2 ^ 24 }
+    requires few { places ≤ 2 ^ 24 }
     requires number { a < 32 }
     requires within { a ≤ length slots.old.items }
     requires numbers { length slots.old.items ≤ 32 }
-    requires kept { Keeps size rows.now.places slots.old.items }
-    ensures registered { OnOk result (registered_of slots.new.items ≡ slice_set (registered_of slots.old.items) a (Some (record { spec = spec; registration = registration; unbuilt = all_unbuilt size rows.now.places }))) }
-    ensures kept { Keeps size rows.now.places slots.new.items }
+    ensures registered { OnOk result (registered_of slots.new.items ≡ slice_set (registered_of slots.old.items) a (Some (record { spec = spec; registration = registration; unbuilt = replicate (groups size places) true }))) }
+    ensures kept { (all : List Place) → length all ≡ places → Keeps size all slots.old.items → Keeps size all slots.new.items }
     ensures numbers { length slots.new.items ≤ 32 }
     ensures unchanged { OnErr result (slots.new.items ≡ slots.old.items) }
     ensures memory { IfErr result (λ e. e ≡ Refusal.NoMemory) }
 {
-    let aggregate = new_aggregate(alloc, spec, registration, rows, size)?;
+    let aggregate = new_aggregate(alloc, spec, registration, size, places)?;
     put(slots, a, aggregate)
 }
 

@@ -4,18 +4,15 @@ ghost use Rattle.std.specs.Int.{w64};
 ghost use Rattle.std.specs.Option.{option_and_then};
 ghost use Rattle.far_types.specs.declared.edit.Edit.TheVariants.{Insert, Set};
 ghost use Rattle.far_types.specs.Edits.{kinds_fit, is_of_other_kind, with_cell, removed, changed_at, overfills};
+ghost use Rattle.far_types.specs.Lent.{lent_cell};
 ghost use Rattle.far_types.specs.Table.{place_pair};
-ghost use Rattle.far_frame.specs.Changes.{value_if};
-ghost use Rattle.far_frame.specs.Columns.{lent_cell};
+ghost use Rattle.far_types.specs.Under.{value_if};
 ghost use Rattle.far_frame.specs.Kept.{pair_if};
 ghost use Rattle.far_frame.specs.Rows.{AreRows};
 
-use super::cell_ref::CellRef;
 use super::column::Column;
-use super::columns::{cell_of, overfills_any, push_all, reserve_all};
-use super::place_ref::PlaceRef;
-use super::row_ref::RowRef;
-use far_types::{Cell, Key, Limits, Refusal, Row, Schema, Spec};
+use super::columns::{RowAt, cell_of, lend_row, overfills_any, push_all, reserve_all};
+use far_types::{Cell, CellRef, Key, LentRow, Limits, Refusal, Row, Schema, Spec};
 use std::alloc::Global;
 use std::marker::Model;
 
@@ -28,7 +25,7 @@ pub struct Rows {
 }
 
 impl Model for Rows {
-    ghost use Rattle.std.specs.Prelude.{length, map};
+    ghost use Rattle.std.specs.Prelude.{length, map, ◌≤◌};
     ghost use Rattle.std.specs.List.{All};
     ghost use Rattle.far_frame.specs.Columns.{cells_in};
     ghost use Rattle.far_frame.specs.Rows.{TableRows, rows_in, IsFull};
@@ -37,7 +34,7 @@ impl Model for Rows {
 
     ghost view = { λ rows. rows_in rows.columns.items rows.alive.items };
 
-    ghost invariant = { λ rows. All (IsFull (length rows.alive.items)) (map cells_in rows.columns.items) };
+    ghost invariant = { λ rows. All (IsFull (length rows.alive.items)) (map cells_in rows.columns.items) × (length rows.columns.items ≤ 16) };
 }
 
 impl Rows {
@@ -58,10 +55,11 @@ impl Rows {
         })
     }
 
-    /// How many places there are, dead ones too. Each has a row of the table's columns.
+    /// How many places there are, dead ones too. Each has a row of the table's columns, of which there are at most 16.
     pub fn len(&self) -> usize
         ensures len { result ≡ length self.now.places }
         ensures rows { AreRows self.now }
+        ensures columns { length self.now.kinds ≤ 16 }
     {
         self.alive.len()
     }
@@ -122,34 +120,12 @@ impl Rows {
         self.alive[place] = false;
     }
 
-    /// A place, lent where it lies. Takes no memory.
-    pub(crate) fn lend(&self, place: usize) -> PlaceRef<'_>
+    /// The row of a place, lent where it lies: one look at each column. Takes no memory.
+    pub fn row(&self, place: usize) -> LentRow<'_>
         requires { place < length self.now.places }
-        ensures { Some result ≡ slice_get self.now.places place }
+        ensures { Some result ≡ option_map (λ p. p.cells) (slice_get self.now.places place) }
     {
-        let columns = self.columns.as_slice();
-        PlaceRef::new(RowRef::Standing { columns, place }, self.alive[place])
-    }
-
-    /// A place as a set of a cell in one of its columns is to leave it: the columns are read where they lie, and nothing
-    /// is changed. Takes no memory.
-    pub(crate) fn lend_with<'a>(
-        &'a self,
-        place: usize,
-        column: usize,
-        cell: &'a Cell,
-    ) -> PlaceRef<'a>
-        requires { place < length self.now.places }
-        ensures { Some result ≡ option_map (with_cell column cell.now) (slice_get self.now.places place) }
-    {
-        let columns = self.columns.as_slice();
-        let row = RowRef::Changed {
-            columns,
-            place,
-            column,
-            cell,
-        };
-        PlaceRef::new(row, self.alive[place])
+        lend_row(self.columns.as_slice(), place)
     }
 
     /// What a place gives to an aggregate: its key and its value where it is alive, kept and folded. The columns are
@@ -160,7 +136,11 @@ impl Rows {
         ensures fits { IfOk result (λ pair. IfSome pair (λ p. FitsSigned w64 p.1)) }
         ensures memory { IfErr result (λ e. e ≡ Refusal.NoMemory) }
     {
-        self.lend(place).pair(*self.alive.allocator(), spec)
+        if !self.alive[place] {
+            return Ok(None);
+        }
+        let columns = self.columns.as_slice();
+        spec.pair_of(*self.alive.allocator(), &RowAt { columns, place })
     }
 
     /// The value that a place gives to an aggregate, where it gives one under this key. Takes no memory.
@@ -168,7 +148,11 @@ impl Rows {
         requires { place < length self.now.places }
         ensures { result ≡ value_if key.now (pair_if spec.now (slice_get self.now.places place)) }
     {
-        self.lend(place).value_under(spec, key)
+        if !self.alive[place] {
+            return None;
+        }
+        let columns = self.columns.as_slice();
+        spec.value_under(&RowAt { columns, place }, key)
     }
 
     /// Whether the row's insert would make a text object longer than a text segment. Each text column is looked at,

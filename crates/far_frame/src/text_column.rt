@@ -3,7 +3,8 @@ ghost use Rattle.std.specs.Prelude.{◌≡◌, ◌<◌, ◌≤◌, ◌/◌, ◌+
 ghost use Rattle.far_types.specs.Cells.{text_in};
 ghost use Rattle.far_types.specs.FormLengths.{texts_length};
 ghost use Rattle.far_types.specs.Table.{in_group};
-ghost use Rattle.far_frame.specs.Columns.{put, text_cell};
+ghost use Rattle.far_types.specs.Lent.{text_cell};
+ghost use Rattle.far_frame.specs.Columns.{put};
 ghost use Rattle.far_frame.specs.Fills.{AreFills, fill_at, put_text};
 
 use super::fill::{EMPTY, Fill, emptier, form_length, fuller, fuller_by_cell};

@@ -10,7 +10,7 @@ use Rattle.far_rows.specs.declared.slot.Slot.TheVariants as slot
 use Rattle.far_rows.specs.Cells.{int_cell, text_cell}
 use Rattle.far_types.specs.declared.cell.Kind.{Kind}
 use Rattle.far_rows.specs.Slots.{kind_of, column_in, columns_of}
-use Rattle.far_rows.specs.Setting.{with_cell}
+use Rattle.far_rows.specs.Setting.{with_cell_at}
 use Rattle.far_rows.proofs.OneCell.{map-one}
 
 -- texts of columns
@@ -38,7 +38,7 @@ at-slot slots numbers texts c s at =
     get_or_from_slice_get (columns_of slots numbers texts) c (column_in numbers texts s) [] (slice_get-map (column_in numbers texts) slots c ∙ ap (option_map (column_in numbers texts)) at)
 
 pub number-set : (slots : List Slot) (numbers : List Numbers) (texts : TextLists) (c i place : ℕ) (number : Option ℤ) → AllPairs (λ s t. s ≢ t) slots → slice_get slots c ≡ Some (slot.Number i) → i < length numbers
-    → columns_of slots (set numbers i (set (get_or numbers i []) place number)) texts ≡ with_cell (columns_of slots numbers texts) c place (int_cell number)
+    → columns_of slots (set numbers i (set (get_or numbers i []) place number)) texts ≡ with_cell_at (columns_of slots numbers texts) c place (int_cell number)
 number-set slots numbers texts c i place number once at within =
     let now = set (get_or numbers i []) place number in
     let numbers_now = set numbers i now in
@@ -60,7 +60,7 @@ number-set slots numbers texts c i place number once at within =
       ]
 
 pub text-set : (slots : List Slot) (numbers : List Numbers) (texts : TextLists) (c i place : ℕ) (text : Option (List ℕ)) → AllPairs (λ s t. s ≢ t) slots → slice_get slots c ≡ Some (slot.Text i) → i < length texts
-    → columns_of slots numbers (set texts i (set (get_or texts i []) place text)) ≡ with_cell (columns_of slots numbers texts) c place (text_cell text)
+    → columns_of slots numbers (set texts i (set (get_or texts i []) place text)) ≡ with_cell_at (columns_of slots numbers texts) c place (text_cell text)
 text-set slots numbers texts c i place text once at within =
     let now = set (get_or texts i []) place text in
     let texts_now = set texts i now in

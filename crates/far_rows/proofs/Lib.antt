@@ -21,8 +21,13 @@ pub mod Spelled
 pub mod Versions
 pub mod Pinning
 pub mod Places
+pub mod PlacesChanged
+pub mod CellsLong
+pub mod StillHere
 pub mod Overfull
 pub mod PlainLaws
+pub mod WrittenOut
+pub mod OneList
 pub mod PlainSet
 pub mod AbsentNames
 pub mod InUse

@@ -32,20 +32,20 @@ use Rattle.far_rows.specs.Places.{places_in, AreOf, text_parts}
 use Rattle.far_rows.proofs.Places.{length-places, places-column, set-column, group-back}
 
 -- two tests that imply each other are the same
-both-ways : (a b : Bool) → (a ≡ true → b ≡ true) → (b ≡ true → a ≡ true) → a ≡ b
+pub both-ways : (a b : Bool) → (a ≡ true → b ≡ true) → (b ≡ true → a ≡ true) → a ≡ b
 both-ways true b to back = sym (to refl)
 both-ways false true to back = back refl
 both-ways false false to back = refl
 
-or-either : (a b : Bool) → (a || b) ≡ true → (a ≡ true) ⊎ (b ≡ true)
+pub or-either : (a b : Bool) → (a || b) ≡ true → (a ≡ true) ⊎ (b ≡ true)
 or-either true b is = inl refl
 or-either false b is = inr is
 
-or-later : (a b : Bool) → b ≡ true → (a || b) ≡ true
+pub or-later : (a b : Bool) → b ≡ true → (a || b) ≡ true
 or-later true b is = refl
 or-later false b is = is
 
-or-first : (a b : Bool) → a ≡ true → (a || b) ≡ true
+pub or-first : (a b : Bool) → a ≡ true → (a || b) ≡ true
 or-first a b is = ap (λ (c : Bool). c || b) is
 
 -- some column passes a test of its number and its kind

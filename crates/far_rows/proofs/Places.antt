@@ -64,7 +64,7 @@ group-back size g texts =
     ∙ ap (map text_in) (take-map text_cell size (drop (g * size) texts))
     ∙ texts-back (in_group size g texts)
 
-placed-clear : (rows : ℕ → List Cell) (n p : ℕ) (flags : List Bool) → placed rows n (set flags p false) ≡ changed_at removed p (placed rows n flags)
+pub placed-clear : (rows : ℕ → List Cell) (n p : ℕ) (flags : List Bool) → placed rows n (set flags p false) ≡ changed_at removed p (placed rows n flags)
 placed-clear rows n p [] = refl
 placed-clear rows n zero (flag ∷ flags) = refl
 placed-clear rows n (suc p) (flag ∷ flags) = ap (λ (places : List Place). record { cells = rows n; alive = flag } ∷ places) (placed-clear rows (n + 1) p flags)

@@ -1,35 +1,31 @@
 -- Why a row may not be appended, told by the places.
-use Rattle.std.proofs.Common.{◌≡◌, ◌≢◌, ℕ, zero, suc, ◌+◌, ◌-◌, ◌*◌, ◌/◌, ◌%◌, Bool, true, false, not, if◌then◌else◌, List, [], ◌∷◌, ◌++◌, map, length, get_or, replicate, ℤ, Option, None, Some, refl, sym, ap, subst, ◌∙◌, arith}
+use Rattle.std.proofs.Common.{◌≡◌, ◌≢◌, ℕ, zero, suc, ◌+◌, ◌-◌, ◌*◌, ◌/◌, ◌%◌, Bool, true, false, not, List, [], ◌∷◌, ◌++◌, length, get_or, ℤ, Option, None, Some, refl, sym, ap, subst, ◌∙◌, arith}
 use Rattle.std.specs.Prelude.{All, cond, option_map, slice_get}
-use Rattle.std.specs.Option.{option_and_then, option_map_or, option_or}
+use Rattle.std.specs.Option.{option_and_then, option_map_or}
 use Rattle.std.proofs.lemmas.Bool.{eqb-false}
-use Rattle.std.proofs.lemmas.List.{append_assoc}
 use Rattle.std.proofs.lemmas.List.Elements.{All-nil, All-cons, All-head, All-tail}
 use Rattle.std.proofs.lemmas.Nat.{div_below, le-div}
 use Rattle.std.proofs.lemmas.Option.{none-some, same_Some, slice_get-map, slice_get-get_or, slice_get_within, get_or_from_slice_get}
-use Rattle.far_types.specs.declared.edit.Edit.{Edit}
-use Rattle.far_types.specs.declared.edit.Edit.TheVariants as edit
 use Rattle.far_types.specs.declared.limits.Limits.{Limits}
 use Rattle.far_types.specs.declared.refusal.Refusal.{Refusal}
 use Rattle.far_types.specs.declared.refusal.Refusal.TheVariants as refusal
 use Rattle.far_types.specs.FirstOf.{first_of}
-use Rattle.far_log.specs.Room.{spaces_of, fit_in_order}
 use Rattle.far_scopes.specs.Refusing.{absent}
-use Rattle.far_columns.specs.Texts.{Texts, HasGroups, lists_of}
+use Rattle.far_columns.specs.Texts.{Texts, HasGroups}
 use Rattle.far_columns.specs.Changes.{begins_group, last_object}
-use Rattle.far_columns.specs.Together.{all_begin, next_forms}
-use Rattle.far_columns.specs.RefusingTogether.{any_too_long, any_full, absents as texts_absent, some_written_out, push_texts_refusal}
-use Rattle.far_columns.specs.NumbersTogether.{NumberColumns, all_begin as all_numbers_begin, absents as numbers_absent, some_written_out as some_number_written_out, push_numbers_refusal}
+use Rattle.far_columns.specs.Together.{all_begin}
+use Rattle.far_columns.specs.RefusingTogether.{absents as texts_absent}
+use Rattle.far_columns.specs.NumbersTogether.{NumberColumns, all_begin as all_numbers_begin, absents as numbers_absent}
 use Rattle.far_vector.specs.Vector.{Vector, IsShaped, object_at}
 use Rattle.far_vector.specs.Effects.{is_full}
 use Rattle.far_rows.proofs.Versions.{last-there}
 use Rattle.far_rows.specs.declared.slot.Slot.{Slot}
 use Rattle.far_rows.specs.declared.slot.Slot.TheVariants as slot
-use Rattle.far_rows.specs.Slots.{Values, row_of}
+use Rattle.far_rows.specs.Slots.{Values}
 use Rattle.far_rows.specs.Rows.{Rows, AreRows, object_of}
-use Rattle.far_rows.specs.Refusing.{told_at, absents, absents_from, push_refusal}
-use Rattle.far_rows.specs.Places.{places_in, AreOf}
-use Rattle.far_rows.specs.Plain.{too_full, no_room_for, numbers_tests, insert_refusal}
+use Rattle.far_rows.specs.Refusing.{told_at, absents, absents_from, append_tests, push_refusal}
+use Rattle.far_rows.specs.Places.{AreOf}
+use Rattle.far_rows.specs.Plain.{insert_refusal}
 use Rattle.far_rows.proofs.Beginning.{texts-begin, text-begun, are-texts, numbers-begin, number-begun, are-numbers}
 use Rattle.far_rows.proofs.TextsNamed.{true-not}
 use Rattle.far_rows.proofs.Overfull.{insert-full, insert-parts}
@@ -51,7 +47,7 @@ module _ {K : Type 0} (r : Rows K) (g : ℕ) where
   none-away n (t ∷ slots) free (suc k) s at = none-away (n + 1) slots (not-due (told_at r g t).0 (refusal.Absent n g) (first_of (absents_from r g (n + 1) slots)) free).1 k s at
 
 -- the last row group of a column that begins none is the one of the next place
-last-group : (c : Texts) → HasGroups c → begins_group c ≡ false → slice_get c.objects (c.len / c.size) ≡ Some (last_object c)
+pub last-group : (c : Texts) → HasGroups c → begins_group c ≡ false → slice_get c.objects (c.len / c.size) ≡ Some (last_object c)
 last-group c has not = by (length c.objects) refl where
   by : (n : ℕ) → n ≡ length c.objects → slice_get c.objects (c.len / c.size) ≡ Some (last_object c)
   by zero is =
@@ -67,7 +63,7 @@ last-group c has not = by (length c.objects) refl where
 
 module _ {K : Type 0} (content : K → List ℕ) (r : Rows K) (are : AreRows content r) where
   -- where not all begin a row group, none does
-  all-not : all_begin r.texts ≡ false → All (λ c. begins_group c ≡ false) r.texts
+  pub all-not : all_begin r.texts ≡ false → All (λ c. begins_group c ≡ false) r.texts
   all-not is =
       let len = length r.alive in
       let cs = are-texts r.size len r.texts are.grouped are.even_texts in
@@ -75,7 +71,7 @@ module _ {K : Type 0} (content : K → List ℕ) (r : Rows K) (are : AreRows con
       λ k d below. text-begun r.size len are.some apart (get_or r.texts k d) (cs k d below)
 
   -- where no object of the row group of the next place is away, no last object of a column of texts is
-  texts-here : first_of (absents r (length r.alive / r.size)) ≡ None → All (λ c. begins_group c ≡ false) r.texts → All (λ (case : Bool × Refusal). case.0 ≡ false) (texts_absent r.text_objects r.texts)
+  pub texts-here : first_of (absents r (length r.alive / r.size)) ≡ None → All (λ c. begins_group c ≡ false) r.texts → All (λ (case : Bool × Refusal). case.0 ≡ false) (texts_absent r.text_objects r.texts)
   texts-here free not = from r.texts (λ i c at. here i c at) where
     here : (i : ℕ) (c : Texts) → slice_get r.texts i ≡ Some c → (absent r.text_objects (last_object c)).0 ≡ false
     here i c at =
@@ -94,14 +90,14 @@ module _ {K : Type 0} (content : K → List ℕ) (r : Rows K) (are : AreRows con
     from (c ∷ columns) each = All-cons (λ (case : Bool × Refusal). case.0 ≡ false) (absent r.text_objects (last_object c)) (texts_absent r.text_objects columns) (each 0 c refl) (from columns (λ i d at. each (suc i) d at))
 
   -- so with columns of numbers
-  all-numbers-not : all_numbers_begin r.numbers ≡ false → All (λ c. is_full c ≡ false) r.numbers
+  pub all-numbers-not : all_numbers_begin r.numbers ≡ false → All (λ c. is_full c ≡ false) r.numbers
   all-numbers-not is =
       let len = length r.alive in
       let cs = are-numbers r.size len r.numbers are.shaped are.even_numbers in
       let apart : len % r.size ≢ 0 = λ divides. true-not (sym (numbers-begin r.size len r.numbers are.some divides cs) ∙ is) in
       λ k d below. number-begun r.size len are.some apart (get_or r.numbers k d) (cs k d below)
 
-  numbers-here : first_of (absents r (length r.alive / r.size)) ≡ None → All (λ c. is_full c ≡ false) r.numbers → All (λ (case : Bool × Refusal). case.0 ≡ false) (numbers_absent r.number_objects r.numbers)
+  pub numbers-here : first_of (absents r (length r.alive / r.size)) ≡ None → All (λ c. is_full c ≡ false) r.numbers → All (λ (case : Bool × Refusal). case.0 ≡ false) (numbers_absent r.number_objects r.numbers)
   numbers-here free not = from r.numbers (λ i c at. here i c at) where
     here : (i : ℕ) (c : Vector (Option ℤ)) → slice_get r.numbers i ≡ Some c → (absent r.number_objects (object_at c c.len)).0 ≡ false
     here i c at =
@@ -119,51 +115,6 @@ module _ {K : Type 0} (content : K → List ℕ) (r : Rows K) (are : AreRows con
     from [] each = All-nil (λ (case : Bool × Refusal). case.0 ≡ false)
     from (c ∷ columns) each = All-cons (λ (case : Bool × Refusal). case.0 ≡ false) (absent r.number_objects (object_at c c.len)) (numbers_absent r.number_objects columns) (each 0 c refl) (from columns (λ i d at. each (suc i) d at))
 
-  numbers-plain : (limits : Limits) → AreOf limits r → first_of (absents r (length r.alive / r.size)) ≡ None → push_numbers_refusal r.number_objects r.numbers ≡ first_of (numbers_tests content limits r)
-  numbers-plain limits of free = by (all_numbers_begin r.numbers) refl where
-    room : List ℕ → Bool × Refusal
-    room lens = (not (fit_in_order (spaces_of r.number_objects.memory.room) lens), refusal.RegionFull)
-
-    sizes : (columns : NumberColumns) → All (λ c. (c.size ≡ r.size) × (c.len ≡ length r.alive)) columns → map (λ (c : Vector (Option ℤ)). c.size) columns ≡ replicate (length columns) limits.group
-    sizes [] even = refl
-    sizes (c ∷ columns) even =
-        let here = (All-head (λ (d : Vector (Option ℤ)). (d.size ≡ r.size) × (d.len ≡ length r.alive)) c columns even).0 ∙ of.group in
-        let rest = sizes columns (All-tail (λ (d : Vector (Option ℤ)). (d.size ≡ r.size) × (d.len ≡ length r.alive)) c columns even) in
-        λ k. here k ∷ rest k
-
-    by : (b : Bool) → all_numbers_begin r.numbers ≡ b → first_of (if b then room (map (λ (c : Vector (Option ℤ)). c.size) r.numbers) ∷ [] else numbers_absent r.number_objects r.numbers ++ some_number_written_out r.number_objects r.numbers ∷ []) ≡ first_of (if b then room (replicate (length r.numbers) limits.group) ∷ [] else some_number_written_out r.number_objects r.numbers ∷ [])
-    by true is = ap (λ (lens : List ℕ). first_of (room lens ∷ [])) (sizes r.numbers are.even_numbers)
-    by false is = skip (numbers_absent r.number_objects r.numbers) (some_number_written_out r.number_objects r.numbers ∷ []) (numbers-here free (all-numbers-not is))
-
-  module _ (limits : Limits) (of : AreOf limits r) (values : Values) (even : length values.texts ≡ length r.texts) (short : (any_too_long values.texts).0 ≡ false) where
-    abbrev e : Edit
-    e = edit.Insert (row_of r.slots values)
-
-    abbrev later : List (Bool × Refusal)
-    later = if all_begin r.texts then [] else some_written_out r.text_objects (next_forms (lists_of content r.text_objects) (length r.text_objects.entries) r.texts values.texts) ∷ []
-
-    abbrev plain_tests : List (Bool × Refusal)
-    plain_tests = too_full content limits r e ∷ no_room_for content limits r e (length (places_in content r) / limits.group) ∷ later
-
-    texts-plain : first_of (absents r (length r.alive / r.size)) ≡ None → push_texts_refusal content r.text_objects r.texts values.texts ≡ first_of plain_tests
-    texts-plain free =
-        let m = r.text_objects in
-        let lists = lists_of content m in
-        let lens = map (λ (form : ℕ × List ℕ). length form.1) (next_forms lists (length m.entries) r.texts values.texts) in
-        let room : List ℕ → Bool × Refusal = λ ls. (not (fit_in_order (spaces_of m.memory.room) ls), refusal.RegionFull) in
-        let tests : List (Bool × Refusal) = any_full lists r.texts values.texts ∷ room lens ∷ later in
-        let away : List (Bool × Refusal) = if all_begin r.texts then [] else texts_absent m r.texts in
-        let none : All (λ (case : Bool × Refusal). case.0 ≡ false) away = none-of (all_begin r.texts) refl in
-        ap (λ (b : Bool). cond b (Some refusal.TextTooLong) (first_of ((away ++ any_full lists r.texts values.texts ∷ []) ++ room lens ∷ later))) short
-        ∙ ap first_of (append_assoc away (any_full lists r.texts values.texts ∷ []) (room lens ∷ later))
-        ∙ skip away tests none
-        ∙ (λ k. first_of ((insert-full content r are limits of values even k, refusal.ChunkFull) ∷ room (insert-parts content r are limits of values even (length m.entries) k) ∷ later)) where
-          none-of : (b : Bool) → all_begin r.texts ≡ b → All (λ (case : Bool × Refusal). case.0 ≡ false) (if b then [] else texts_absent r.text_objects r.texts)
-          none-of true is = All-nil (λ (case : Bool × Refusal). case.0 ≡ false)
-          none-of false is = texts-here free (all-not is)
-
-    pub push-plain : push_refusal content r values ≡ insert_refusal content limits r values
-    push-plain = by (first_of (absents r (length r.alive / r.size))) refl where
-      by : (due : Option Refusal) → first_of (absents r (length r.alive / r.size)) ≡ due → option_or due (option_or (push_texts_refusal content r.text_objects r.texts values.texts) (push_numbers_refusal r.number_objects r.numbers)) ≡ option_or due (option_or (first_of plain_tests) (first_of (numbers_tests content limits r)))
-      by None is = let texts = texts-plain is in let numbers = numbers-plain limits of is in λ k. option_or (texts k) (numbers k)
-      by (Some f) is = refl
+  -- 11 and 17 of an insert are told by the places
+  pub push-plain : (limits : Limits) → AreOf limits r → (values : Values) → length values.texts ≡ length r.texts → push_refusal content r values ≡ insert_refusal content limits r values
+  push-plain limits of values even = λ k. first_of (append_tests r (insert-full content r are limits of values even k) (insert-parts content r are limits of values even (length r.text_objects.entries) k))

@@ -36,26 +36,35 @@ use Rattle.far_rows.specs.Setting.{cell_of, kind_in, set_refusal, value_refusal}
 use Rattle.far_rows.specs.Moving.{object_in, object_at}
 use Rattle.far_rows.specs.Refusing.{absents}
 use Rattle.far_rows.specs.Places.{places_in, AreOf}
-use Rattle.far_rows.specs.Plain.{too_full, no_room_alone, writes_used, cell_set_refusal}
+use Rattle.far_rows.specs.Plain.{is_too_full, no_room_alone, writes_used, cell_set_refusal}
 use Rattle.far_rows.proofs.Overfull.{found-at, set-long, set-full}
+use Rattle.far_columns.proofs.FirstCases.{first-append}
 use Rattle.far_rows.proofs.PlainLaws.{skip, none-away}
 
 same-length : (text : Option (List ℕ)) → is_too_long (text_cell text) ≡ false → (text_too_long text).0 ≡ false
 same-length None short = refl
 same-length (Some text) short = short
 
-module _ {K : Type 0} (content : K → List ℕ) (r : Rows K) (are : AreRows content r) (limits : Limits) (of : AreOf limits r) (place column : ℕ) (below : place < length r.alive) where
+-- a slot of some kind is there
+pub found-slot : (found : Option Slot) (kind : Kind) → option_map kind_of found ≡ Some kind → (s : Slot) × (found ≡ Some s) × (kind_of s ≡ kind)
+found-slot None kind is = absurd cc
+found-slot (Some s) kind is = (s, refl, cc)
+
+module _ {K : Type 0} (content : K → List ℕ) (r : Rows K) (are : AreRows content r) (limits : Limits) (of : AreOf limits r) (column place : ℕ) (below : place < length r.alive) where
   abbrev g : ℕ
   g = place / r.size
 
   -- what is looked at once nothing is away
+  abbrev later : NewCell → Option Object → List (Bool × Refusal)
+  later value at = (is_too_full content limits r (edit.Set place column (cell_of value)), refusal.ChunkFull) ∷ option_map_or (no_room_alone content limits r (edit.Set place column (cell_of value)) column (place / limits.group)) at (false, refusal.StaleJob) ∷ option_map_or (writes_used content limits r) at (false, refusal.StaleJob) ∷ []
+
   abbrev rest : NewCell → Option Object → Option Refusal
-  rest value at = first_of (too_full content limits r (edit.Set place column (cell_of value)) ∷ option_map_or (no_room_alone content limits r (edit.Set place column (cell_of value)) column (place / limits.group)) at (false, refusal.StaleJob) ∷ option_map_or (writes_used content limits r) at (false, refusal.StaleJob) ∷ [])
+  rest value at = first_of (later value at)
 
   object-is : (s : Slot) (o : ℕ) → slice_get r.slots column ≡ Some s → object_of r s g ≡ Some o → object_at r column g ≡ Some (object_in s o)
   object-is s o lies is = ap (option_and_then (λ (t : Slot). option_map (object_in t) (object_of r t g))) lies ∙ ap (option_map (object_in s)) is
 
-  number-plain : (i : ℕ) (number : Option ℤ) → slice_get r.slots column ≡ Some (slot.Number i) → first_of (absents r g) ≡ None → value_refusal content r place (slot.Number i) (new.Number number) ≡ rest (new.Number number) (object_at r column g)
+  number-plain : (i : ℕ) (number : Option ℤ) → slice_get r.slots column ≡ Some (slot.Number i) → first_of (absents r g) ≡ None → value_refusal content r (slot.Number i) place (new.Number number) ≡ rest (new.Number number) (object_at r column g)
   number-plain i number lies free =
       let inside : i < length r.numbers = subst (IsWithin (length r.numbers) (length r.texts)) (get_or_from_slice_get r.slots column (slot.Number i) (slot.Number i) lies) (are.slots.within column (slot.Number i) (slice_get_within r.slots column (slot.Number i) lies)) in
       let found = found-at r.numbers i inside in
@@ -73,12 +82,12 @@ module _ {K : Type 0} (content : K → List ℕ) (r : Rows K) (are : AreRows con
       let none : All (λ (case : Bool × Refusal). case.0 ≡ false) (past_numbers c place ∷ absent m o ∷ []) = All-cons (λ (case : Bool × Refusal). case.0 ≡ false) (past_numbers c place) (absent m o ∷ []) past (All-cons (λ (case : Bool × Refusal). case.0 ≡ false) (absent m o) [] here (All-nil (λ (case : Bool × Refusal). case.0 ≡ false))) in
       let e : Edit = edit.Set place column (cell_of (new.Number number)) in
       let over = is_over limits column (place / limits.group) (places_after e (places_in content r)) in
-      let full : (too_full content limits r e).0 ≡ false = ap (λ (kind : Option Kind). is_text kind && over) (slice_get-map kind_of r.slots column ∙ ap (option_map kind_of) lies) in
+      let full : is_too_full content limits r e ≡ false = ap (λ (kind : Option Kind). is_text kind && over) (slice_get-map kind_of r.slots column ∙ ap (option_map kind_of) lies) in
       ap (option_and_then (λ (d : Vector (Option ℤ)). first_of (past_numbers d place ∷ absent m (number_at d place) ∷ written_out m (number_at d place) ∷ []))) found.1
       ∙ skip (past_numbers c place ∷ absent m o ∷ []) (written_out m o ∷ []) none
       ∙ (λ k. cond (sym full k) (Some refusal.ChunkFull) (first_of (option_map_or (no_room_alone content limits r e column (place / limits.group)) (sym (object-is (slot.Number i) o lies at) k) (false, refusal.StaleJob) ∷ option_map_or (writes_used content limits r) (sym (object-is (slot.Number i) o lies at) k) (false, refusal.StaleJob) ∷ [])))
 
-  text-plain : (i : ℕ) (text : Option (List ℕ)) → slice_get r.slots column ≡ Some (slot.Text i) → is_too_long (text_cell text) ≡ false → first_of (absents r g) ≡ None → value_refusal content r place (slot.Text i) (new.Text text) ≡ rest (new.Text text) (object_at r column g)
+  text-plain : (i : ℕ) (text : Option (List ℕ)) → slice_get r.slots column ≡ Some (slot.Text i) → is_too_long (text_cell text) ≡ false → first_of (absents r g) ≡ None → value_refusal content r (slot.Text i) place (new.Text text) ≡ rest (new.Text text) (object_at r column g)
   text-plain i text lies short free =
       let inside : i < length r.texts = subst (IsWithin (length r.numbers) (length r.texts)) (get_or_from_slice_get r.slots column (slot.Text i) (slot.Text i) lies) (are.slots.within column (slot.Text i) (slice_get_within r.slots column (slot.Text i) lies)) in
       let found = found-at r.texts i inside in
@@ -103,23 +112,20 @@ module _ {K : Type 0} (content : K → List ℕ) (r : Rows K) (are : AreRows con
       ap (option_and_then (λ (d : Texts). first_of (text_too_long text ∷ past_end d place refusal.OutOfRange ∷ absent m (text_at d place) ∷ chunk_full d (group_with (lists_of content m) d place text) ∷ (not (fits_in m.memory.room (texts_length (group_with (lists_of content m) d place text))), refusal.RegionFull) ∷ written_out m (text_at d place) ∷ []))) found.1
       ∙ skip (text_too_long text ∷ past_end c place refusal.OutOfRange ∷ absent m o ∷ []) (chunk_full c texts ∷ (not (fits_in m.memory.room (texts_length texts)), refusal.RegionFull) ∷ written_out m o ∷ []) none
       ∙ (λ k. cond (full k) (Some refusal.ChunkFull) (first_of ((not (fits_in m.memory.room (long k)), refusal.RegionFull) ∷ written_out m o ∷ [])))
-      ∙ (λ k. first_of (too_full content limits r e ∷ option_map_or (no_room_alone content limits r e column (place / limits.group)) (sym (object-is (slot.Text i) o lies at) k) (false, refusal.StaleJob) ∷ option_map_or (writes_used content limits r) (sym (object-is (slot.Text i) o lies at) k) (false, refusal.StaleJob) ∷ []))
+      ∙ (λ k. first_of ((is_too_full content limits r e, refusal.ChunkFull) ∷ option_map_or (no_room_alone content limits r e column (place / limits.group)) (sym (object-is (slot.Text i) o lies at) k) (false, refusal.StaleJob) ∷ option_map_or (writes_used content limits r) (sym (object-is (slot.Text i) o lies at) k) (false, refusal.StaleJob) ∷ []))
 
-  by-slot : (s : Slot) (value : NewCell) → slice_get r.slots column ≡ Some s → kind_of s ≡ kind_in value → is_too_long (cell_of value) ≡ false → first_of (absents r g) ≡ None → value_refusal content r place s value ≡ rest value (object_at r column g)
+  by-slot : (s : Slot) (value : NewCell) → slice_get r.slots column ≡ Some s → kind_of s ≡ kind_in value → is_too_long (cell_of value) ≡ false → first_of (absents r g) ≡ None → value_refusal content r s place value ≡ rest value (object_at r column g)
   by-slot (slot.Number i) (new.Number number) lies kind short free = number-plain i number lies free
   by-slot (slot.Text i) (new.Text text) lies kind short free = text-plain i text lies short free
   by-slot (slot.Number i) (new.Text text) lies kind short free = absurd cc
   by-slot (slot.Text i) (new.Number number) lies kind short free = absurd cc
 
-  found-slot : (found : Option Slot) (kind : Kind) → option_map kind_of found ≡ Some kind → (s : Slot) × (found ≡ Some s) × (kind_of s ≡ kind)
-  found-slot None kind is = absurd cc
-  found-slot (Some s) kind is = (s, refl, cc)
-
-  pub set-plain : (value : NewCell) → option_map kind_of (slice_get r.slots column) ≡ Some (kind_in value) → is_too_long (cell_of value) ≡ false → set_refusal content r place column value ≡ cell_set_refusal content limits r place column value
+  pub set-plain : (value : NewCell) → option_map kind_of (slice_get r.slots column) ≡ Some (kind_in value) → is_too_long (cell_of value) ≡ false → set_refusal content r column place value ≡ cell_set_refusal content limits r column place value
   set-plain value of_kind short =
       let s = found-slot (slice_get r.slots column) (kind_in value) of_kind in
-      ap (option_or (first_of (absents r g))) (ap (option_and_then (λ (t : Slot). value_refusal content r place t value)) s.1)
-      ∙ by (first_of (absents r g)) refl (value_refusal content r place s.0 value) (rest value (object_at r column g)) (by-slot s.0 value s.1 s.2 short) where
+      ap (option_or (first_of (absents r g))) (ap (option_and_then (λ (t : Slot). value_refusal content r t place value)) s.1)
+      ∙ by (first_of (absents r g)) refl (value_refusal content r s.0 place value) (rest value (object_at r column g)) (by-slot s.0 value s.1 s.2 short)
+      ∙ sym (first-append (absents r g) (later value (object_at r column g))) where
         by : (due : Option Refusal) → first_of (absents r g) ≡ due → (a b : Option Refusal) → (first_of (absents r g) ≡ None → a ≡ b) → option_or due a ≡ option_or due b
         by None is a b same = same is
         by (Some f) is a b same = refl

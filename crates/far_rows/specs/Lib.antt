@@ -3,10 +3,12 @@ pub mod Slots
 pub mod Naming
 pub mod Rows
 pub mod Refusing
+pub mod ByKind
 pub mod Setting
 pub mod Lending
 pub mod Places
 pub mod Opening
 pub mod Moving
+pub mod Effects
 pub mod Plain
 pub mod Jobs

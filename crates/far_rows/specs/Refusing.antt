@@ -1,13 +1,16 @@
 -- Why calls on rows are refused.
-use Rattle.std.specs.Prelude.{ℕ, ◌+◌, ◌/◌, ◌||◌, nat_lt, not, false, Bool, List, [], ◌∷◌, map, length, Option, option_map, slice_get, is_none}
-use Rattle.std.specs.Option.{option_map_or, option_or}
+use Rattle.std.specs.Prelude.{ℕ, ◌+◌, ◌/◌, ◌%◌, ◌==◌, ◌&&◌, ◌||◌, nat_lt, not, false, Bool, List, [], ◌∷◌, ◌++◌, map, length, replicate, Option, option_map, slice_get, is_none}
+use Rattle.std.specs.List.{list_any}
+use Rattle.std.specs.Option.{option_map_or}
 use Rattle.far_types.specs.declared.refusal.Refusal.{Refusal}
 use Rattle.far_types.specs.declared.refusal.Refusal.TheVariants as refusal
 use Rattle.far_types.specs.Bounds.{is_int, is_text}
 use Rattle.far_types.specs.FirstOf.{first_of}
-use Rattle.far_scopes.specs.Refusing.{absent}
-use Rattle.far_columns.specs.NumbersTogether.{push_numbers_refusal}
-use Rattle.far_columns.specs.RefusingTogether.{push_texts_refusal}
+use Rattle.far_log.specs.Room.{spaces_of, fit_in_order}
+use Rattle.far_scopes.specs.Refusing.{absent, written_out}
+use Rattle.far_columns.specs.Texts.{Lists, lists_of}
+use Rattle.far_columns.specs.Together.{next_forms}
+use Rattle.far_columns.specs.RefusingTogether.{any_full}
 use Rattle.far_vector.specs.Pieces.{touched}
 use Rattle.far_rows.specs.declared.slot.Slot.{Slot}
 use Rattle.far_rows.specs.declared.slot.Slot.TheVariants as slot
@@ -59,7 +62,7 @@ module _ {K : Type 0} (r : Rows K) where
     absent_in g = option_map_or (absent_at column g) (slice_get r.slots column) (false, refusal.StaleJob)
 
   abbrev pub cell_refusal : ℕ → ℕ → Option Refusal
-  cell_refusal place column = first_of (no_column column ∷ no_row place ∷ absent_in column (place / r.size) ∷ [])
+  cell_refusal column place = first_of (no_column column ∷ no_row place ∷ absent_in column (place / r.size) ∷ [])
 
   abbrev pub text_refusal : ℕ → ℕ → Option Refusal
   text_refusal column place = first_of (no_column column ∷ of_numbers column ∷ no_row place ∷ absent_in column (place / r.size) ∷ [])
@@ -72,8 +75,36 @@ module _ {K : Type 0} (r : Rows K) where
   abbrev pub texts_refusal : ℕ → ℕ → ℕ → Option Refusal
   texts_refusal column from to = first_of (no_column column ∷ of_numbers column ∷ no_range from to ∷ map (absent_in column) (touched r.size from to))
 
--- why a row of these values may not be appended: the object of some column in the row group of the next place is away;
--- else as the columns of texts are refused, and else as those of numbers
+  -- the next place is the first of a row group
+  abbrev pub begins : Bool
+  begins = length r.alive % r.size == 0
+
+  -- text objects of these lengths, placed in order, find no room
+  abbrev pub no_room_for_texts : List ℕ → Bool × Refusal
+  no_room_for_texts lengths = (not (fit_in_order (spaces_of r.text_objects.memory.room) lengths), refusal.RegionFull)
+
+  -- where a row group begins: its objects of numbers, placed in order, find no room
+  abbrev pub no_room_for_numbers : Bool × Refusal
+  no_room_for_numbers = (begins && not (fit_in_order (spaces_of r.number_objects.memory.room) (replicate (length r.numbers) r.size)), refusal.RegionFull)
+
+  -- the object of a row group of a slot's column is there, and was written as often as objects may be
+  abbrev pub is_written_out : ℕ → Slot → Bool
+  is_written_out g (slot.Number i) = option_map_or (λ o. (written_out r.number_objects o).0) (object_of r (slot.Number i) g) false
+  is_written_out g (slot.Text i) = option_map_or (λ o. (written_out r.text_objects o).0) (object_of r (slot.Text i) g) false
+
+  -- some object of a row group was
+  abbrev pub some_written_out : ℕ → Bool × Refusal
+  some_written_out g = (list_any (is_written_out g) r.slots, refusal.EditsUsedUp)
+
+  -- the tests of an appended row: an object of its row group is away; a text object would be too long; the text objects that
+  -- it writes, which have these lengths, find no room; or its objects of numbers; an object was written too often
+  abbrev pub append_tests : Bool → List ℕ → List (Bool × Refusal)
+  append_tests too_long lengths =
+      let g : ℕ = length r.alive / r.size
+      in absents g ++ (too_long, refusal.ChunkFull) ∷ no_room_for_texts lengths ∷ no_room_for_numbers ∷ some_written_out g ∷ []
+
+-- why a row of these values may not be appended, told by the forms of its columns of texts
 abbrev pub push_refusal : {K : Type 0} → (K → List ℕ) → Rows K → Values → Option Refusal
 push_refusal content r values =
-    option_or (first_of (absents r (length r.alive / r.size))) (option_or (push_texts_refusal content r.text_objects r.texts values.texts) (push_numbers_refusal r.number_objects r.numbers))
+    let lists : Lists = lists_of content r.text_objects
+    in first_of (append_tests r (any_full lists r.texts values.texts).0 (map (λ form. length form.1) (next_forms lists (length r.text_objects.entries) r.texts values.texts)))

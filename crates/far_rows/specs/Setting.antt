@@ -29,22 +29,22 @@ kind_in (new.Number number) = kind.Int
 kind_in (new.Text text) = kind.Text
 
 -- the columns with another cell at a place of one
-abbrev pub with_cell : List (List Cell) → ℕ → ℕ → Cell → List (List Cell)
-with_cell columns c place cell = slice_set columns c (slice_set (slice_index_or columns c []) place cell)
+abbrev pub with_cell_at : List (List Cell) → ℕ → ℕ → Cell → List (List Cell)
+with_cell_at columns c place cell = slice_set columns c (slice_set (slice_index_or columns c []) place cell)
 
-module _ {K : Type 0} (content : K → List ℕ) (r : Rows K) (place : ℕ) where
+module _ {K : Type 0} (content : K → List ℕ) (r : Rows K) where
   -- why a value of a slot's kind cannot be put at a place, where its object is the only one that is looked at
-  abbrev pub value_refusal : Slot → NewCell → Option Refusal
-  value_refusal (slot.Number i) value = option_and_then (λ c. number_refusal r.number_objects c place) (slice_get r.numbers i)
-  value_refusal (slot.Text i) (new.Text text) = option_and_then (λ c. text_refusal content r.text_objects c place text) (slice_get r.texts i)
-  value_refusal (slot.Text i) (new.Number number) = None
+  abbrev pub value_refusal : Slot → ℕ → NewCell → Option Refusal
+  value_refusal (slot.Number i) place value = option_and_then (λ c. number_refusal r.number_objects c place) (slice_get r.numbers i)
+  value_refusal (slot.Text i) place (new.Text text) = option_and_then (λ c. text_refusal content r.text_objects c place text) (slice_get r.texts i)
+  value_refusal (slot.Text i) place (new.Number number) = None
 
   -- a set is refused where the object of some column in the place's row group is away, and as its own column is
-  abbrev pub set_refusal : ℕ → NewCell → Option Refusal
-  set_refusal column value = option_or (first_of (absents r (place / r.size))) (option_and_then (λ s. value_refusal s value) (slice_get r.slots column))
+  abbrev pub set_refusal : ℕ → ℕ → NewCell → Option Refusal
+  set_refusal column place value = option_or (first_of (absents r (place / r.size))) (option_and_then (λ s. value_refusal s place value) (slice_get r.slots column))
 
   -- the rows once a value is put at a place: the object of its row group is written
-  abbrev pub set_in : Slot → NewCell → Rows K
-  set_in (slot.Number i) (new.Number number) = record r { number_objects = option_map_or (λ c. range_written r.number_objects c place (number ∷ [])) (slice_get r.numbers i) r.number_objects }
-  set_in (slot.Text i) (new.Text text) = record r { text_objects = option_map_or (λ c. text_set_in content r.text_objects c place text) (slice_get r.texts i) r.text_objects }
-  set_in s value = r
+  abbrev pub set_in : Slot → ℕ → NewCell → Rows K
+  set_in (slot.Number i) place (new.Number number) = record r { number_objects = option_map_or (λ c. range_written r.number_objects c place (number ∷ [])) (slice_get r.numbers i) r.number_objects }
+  set_in (slot.Text i) place (new.Text text) = record r { text_objects = option_map_or (λ c. text_set_in content r.text_objects c place text) (slice_get r.texts i) r.text_objects }
+  set_in s place value = r

@@ -108,7 +108,7 @@ impl<'a, S: FarStore> Fixture<'a, S> {
 
     /// Why a place has no cell in a column.
     pub fn has_cell(&self, place: usize, column: usize) -> Result<(), Refusal> {
-        self.rows.cell(place, column)?;
+        self.rows.cell(column, place)?;
         Ok(())
     }
 
@@ -121,7 +121,7 @@ impl<'a, S: FarStore> Fixture<'a, S> {
 
     /// The text of a cell.
     pub fn text(&self, place: usize, column: usize) -> Result<Option<&str>, Refusal> {
-        match self.rows.cell(place, column)? {
+        match self.rows.cell(column, place)? {
             CellRef::Text(text) => Ok(Some(text)),
             CellRef::Missing => Ok(None),
             CellRef::Int(_) => Err(Refusal::WrongKind),
@@ -130,7 +130,7 @@ impl<'a, S: FarStore> Fixture<'a, S> {
 
     /// The number of a cell.
     pub fn number(&self, place: usize, column: usize) -> Result<Option<i64>, Refusal> {
-        match self.rows.cell(place, column)? {
+        match self.rows.cell(column, place)? {
             CellRef::Int(number) => Ok(Some(number)),
             CellRef::Missing => Ok(None),
             CellRef::Text(_) => Err(Refusal::WrongKind),

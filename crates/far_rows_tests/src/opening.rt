@@ -57,7 +57,7 @@ fn places<S: FarTickets>(alloc: Global) -> Result<(usize, Option<bool>), Refusal
 /// Why the first place has no cell in the last column, nor in the next.
 fn cells<S: FarTickets>(alloc: Global) -> Result<[Option<Refusal>; 2], Refusal> {
     let rows = opened::<S>(alloc)?;
-    Ok([rows.cell(0, 2).err(), rows.cell(0, 3).err()])
+    Ok([rows.cell(2, 0).err(), rows.cell(3, 0).err()])
 }
 
 /// Whether two row groups are here.

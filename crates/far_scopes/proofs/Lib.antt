@@ -20,6 +20,7 @@ pub mod Pins
 pub mod Listed
 pub mod Written
 pub mod Comings
+pub mod Copies
 pub mod Framing
 pub mod ListsKept
 pub mod Unmade

@@ -1,16 +1,18 @@
 -- Several objects that get other lists together: what is known where that is refused, and where it is not.
-use Rattle.std.proofs.Common.{◌≡◌, Ok, Err, Bool, true, false, inl, inr, List, [], ◌∷◌, map, Option, Some, None, IsSome, refl, sym, subst, ◌∙◌}
+use Rattle.std.proofs.Common.{◌≡◌, ℕ, Ok, Err, Bool, true, false, inl, inr, List, [], ◌∷◌, map, Option, Some, None, IsSome, refl, sym, subst, ◌∙◌}
 use Rattle.std.specs.Prelude.{Result, IfErr, IsErrAnd, slice_index_or, All}
-use Rattle.std.specs.Option.{option_or}
+use Rattle.std.specs.Option.{option_or, option_map_or}
 use Rattle.std.specs.List.{list_any}
 use Rattle.std.proofs.lemmas.Bool.{cases_Bool}
 use Rattle.std.proofs.lemmas.List.Folds.{list_any_at}
 use Rattle.std.proofs.lemmas.List.Elements.{All-cons, All-nil}
 use Rattle.far_types.specs.declared.refusal.Refusal.{Refusal}
+use Rattle.far_types.specs.declared.refusal.Refusal.TheVariants as refusal
+use Rattle.far_scopes.specs.declared.entry.Entry.{Entry}
 use Rattle.far_types.specs.FirstOf.{first_of}
 use Rattle.far_scopes.specs.declared.replacement.Replacement.{Replacement}
 use Rattle.far_scopes.specs.Memory.{place_of}
-use Rattle.far_scopes.specs.Movement.{Movement, is_local}
+use Rattle.far_scopes.specs.Movement.{Movement, entry_of, is_local}
 use Rattle.far_scopes.specs.Refusing.{first_absent, any_written_out, replace_all_refusal}
 use Rattle.far_scopes.specs.Replacing.{no_room_for_all}
 use Rattle.far_scopes.proofs.WordPlaces.{some-true}
@@ -51,3 +53,15 @@ refusal-is m lists checked here is = rw (here, is) (two-first (no_room_for_all m
 pub checked-free : (full checked : Option Refusal) → option_or full checked ≡ None → checked ≡ None
 checked-free None checked free = free
 checked-free (Some r) checked free = cc
+
+-- an object that is away is no want of memory
+name-no-memory : {K : Type 0} (entry : Option (Entry K)) (e : Refusal) → Some (option_map_or (λ (x : Entry K). refusal.Absent x.name.column x.name.group) entry refusal.StaleJob) ≡ Some e → e ≡ refusal.NoMemory → ⊥
+name-no-memory None e told memory = cc
+name-no-memory (Some x) e told memory = cc
+
+pub absent-no-memory : {X K : Type 0} (m : Movement X K) (objects : List ℕ) (e : Refusal) → first_absent m objects ≡ Some e → e ≡ refusal.NoMemory → ⊥
+absent-no-memory m [] e is memory = cc
+absent-no-memory m (o ∷ objects) e is memory = elim (cases_Bool (is_local m o)) [
+  | inl here ↦ absent-no-memory m objects e (sym (rw here refl) ∙ is) memory
+  | inr away ↦ name-no-memory (entry_of m o) e (sym (rw away refl) ∙ is) memory
+]

@@ -1,12 +1,12 @@
 -- Objects that get other lists together.
-use Rattle.std.specs.Prelude.{◌≡◌, ◌≢◌, ℕ, ◌-◌, not, Bool, false, List, [], ◌∷◌, length, take, map, Option, Some, option_map, All, AllPairs, slice_get, slice_set}
+use Rattle.std.specs.Prelude.{◌≡◌, ◌≢◌, ℕ, ◌-◌, not, Bool, true, false, List, [], ◌∷◌, length, take, map, Option, Some, option_map, All, AllPairs, slice_get, slice_set}
 use Rattle.std.specs.Option.{option_map_or}
 use Rattle.far_types.specs.declared.refusal.Refusal.{Refusal}
 use Rattle.far_types.specs.declared.refusal.Refusal.TheVariants as refusal
 use Rattle.far_pointer.specs.declared.pointer.At.{At}
 use Rattle.far_pointer.specs.declared.pointer.Pointer.{Pointer}
 use Rattle.far_pointer.specs.Layout.{with_at}
-use Rattle.far_log.specs.Room.{Room, spaces_of, fit_in_order}
+use Rattle.far_log.specs.Room.{Room, spaces_of, fits_in, fit_in_order}
 use Rattle.far_scopes.specs.declared.replacement.Replacement.{Replacement}
 use Rattle.far_scopes.specs.Memory.{Memory, place_of}
 use Rattle.far_scopes.specs.Placing.{spot, with_new, without_at}
@@ -33,6 +33,11 @@ module _ {X : Type 0} where
   -- the new lists do not find room, placed one after the other
   abbrev pub no_room_for_all : Room X → List (Replacement X) → Bool × Refusal
   no_room_for_all room lists = (not (fit_in_order (spaces_of room) (map (λ r. length r.list.items) lists)), refusal.RegionFull)
+
+  -- the first of the new lists finds room, where there is one
+  abbrev pub first_fits : Room X → List (Replacement X) → Bool
+  first_fits room [] = true
+  first_fits room (r ∷ rs) = fits_in room (length r.list.items)
 
   -- the room with the new lists, placed one after the other
   abbrev pub with_all : Room X → List (Replacement X) → Room X

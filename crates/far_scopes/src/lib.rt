@@ -2,6 +2,7 @@
 //! Objects that move between local memory and a far store.
 
 mod entry;
+pub mod laws;
 mod memory;
 mod objects;
 mod recency;

@@ -3,7 +3,7 @@ ghost use Rattle.std.specs.Prelude.{◌≡◌, ℕ, ◌-◌, ◌<◌, ◌≤◌,
 ghost use Rattle.std.specs.Borrow.{sem};
 ghost use Rattle.far_pointer.specs.Layout.{HasWord};
 ghost use Rattle.far_log.specs.Room.{fits_in, fit_in_order, spaces_of};
-ghost use Rattle.far_scopes.specs.Memory.{at_of as word_at, place_of, list_in, ChangesList};
+ghost use Rattle.far_scopes.specs.Memory.{at_of as word_at, place_of, list_in, ChangesList, IsMemory};
 ghost use Rattle.far_pointer.specs.declared.pointer.Pointer.{Pointer};
 ghost use Rattle.std.specs.Prelude.{not};
 ghost use Rattle.far_scopes.specs.Placing.{added, removed, marked, heated, sent_away, brought, replaced};
@@ -59,6 +59,14 @@ impl<T: Elem> LocalMemory<T> {
         let word = self.words[o];
         word.read();
         word
+    }
+
+    /// For the proof: gives that each local object has a part of the region for itself, and that there is no other part.
+    #[inline(always)]
+    pub fn known_own(&self)
+        ensures { IsMemory self.now.words self.now.room }
+    {
+        let _region = &self.region;
     }
 
     /// The list of an object that is local, which has so many elements.

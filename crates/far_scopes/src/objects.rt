@@ -3,6 +3,7 @@ ghost use Rattle.std.specs.Prelude.{◌≡◌, ℕ, ◌<◌, ◌≤◌, ◌^◌,
 ghost use Rattle.far_pointer.specs.Layout.{HasWord};
 ghost use Rattle.far_codec.specs.Spelling.{IsSpelled};
 ghost use Rattle.std.specs.Option.{option_map_or};
+ghost use Rattle.far_scopes.specs.Memory.{IsMemory};
 ghost use Rattle.far_scopes.specs.Movement.{AreTracked, word_of, version_of, leavings_of, pins_of, ticket_of, has_copy};
 
 mod coldest;
@@ -77,10 +78,15 @@ impl<T: Elem, S: FarTickets> Objects<T, S> {
     }
 
     /// The number that was given to `new`. Takes no memory.
+    ///
+    /// It tells what holds of all objects (`tracked`), and that each local object has a part of the region for itself and
+    /// there is no other part (`own`).
     pub fn number(&self) -> u32
         ensures number { result ≡ self.now.number }
         ensures tracked { AreTracked T.meaning S.content (IsSpelled T.in_range T.has_spelling T.spelling) self.now }
+        ensures own { IsMemory self.now.memory.words self.now.memory.room }
     {
+        self.memory.known_own();
         self.number
     }
 

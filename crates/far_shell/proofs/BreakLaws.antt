@@ -1,18 +1,21 @@
 -- What was printed up to a fault.
-use Rattle.std.proofs.Common.{◌≡◌, ◌==◌, ℕ, false, inl, inr, List, [], ◌∷◌, ◌++◌, Option, Some, None, Result, Ok, Err, IfErr, IsErrAnd, append_assoc, append-nil, ◌∙◌, refl, sym, ap, subst}
-use Rattle.std.specs.Prelude.{codes, IfSome, unwrap_or}
+use Rattle.std.proofs.Common.{◌≡◌, ◌==◌, ◌+◌, ◌<◌, ℕ, false, inl, inr, List, [], ◌∷◌, ◌++◌, length, take, Option, Some, None, Result, Ok, Err, IfErr, IsErrAnd, append_assoc, append-nil, length-append, ◌∙◌, refl, sym, ap, subst, arith}
+use Rattle.std.specs.Prelude.{codes, IfNone, IfSome, IsUtf8, unwrap_or}
 use Rattle.std.specs.List.{list_any}
 use Rattle.std.specs.Io.BufRead.{strip_last}
 use Rattle.std.specs.Io.KnownBytes.{Consumes}
+use Rattle.std.proofs.KnownBytes.{Appends-nil}
 use Rattle.std.specs.declared.io.traits.Read.{Ghosts}
 use Rattle.far_shell.specs.declared.fault.ShellFault.{ShellFault}
 use Rattle.far_shell.specs.declared.fault.ShellFault.TheVariants as fault
 use Rattle.far_shell.specs.declared.input.Input.{Input}
-use Rattle.far_shell.specs.Breaks.{Lists, ListsNext, Breaks, BreaksLater, BreaksOff, CutOff, EndsBy, IsBroken, IsFront, IsRejected, PrintsCut, Rejection, Rejects}
-use Rattle.far_shell.specs.Flow.{IsSpent, IsWhole, Prints, Reads, StartsWith, unread}
+use Rattle.far_types.specs.declared.cell.Kind.{Kind}
+use Rattle.far_shell.specs.Breaks.{Lists, ListsNext, Breaks, BreaksIn, BreaksLater, BreaksOff, CutOff, EndsBy, Fails, HasNoTurn, IsBroken, IsFront, IsRejected, PrintsCut, Rejection, Rejects}
+use Rattle.far_shell.specs.Faults.{IfInput}
+use Rattle.far_shell.specs.Flow.{Counts, Gives, IsSpent, Prints, Reads, StartsWith, Stops, unread}
 use Rattle.far_shell.specs.Progress.{At}
-use Rattle.far_shell.specs.Scripts.{Answers, Blank, IsScript, Opens}
-use Rattle.far_shell.proofs.FlowLaws.{opens-then, prints, prints-then, prints-nothing-then, prints-then-nothing, reads-none, spent-nothing, spent-stays}
+use Rattle.far_shell.specs.Scripts.{Answers, Blank, IsOneLine, IsScript, Opens}
+use Rattle.far_shell.proofs.FlowLaws.{no-first, opens-then, prints, prints-then, prints-nothing-then, prints-then-nothing, reads-none, spent-nothing, spent-stays}
 
 -- a fault that is handed on
 pub handed-on : {T : Type 0} (r : Result T ShellFault) (why : ShellFault) (Q : ShellFault → Type 0) → IsErrAnd r (λ given. given ≡ why) → Q why → IfErr r Q
@@ -22,6 +25,31 @@ handed-on (Err given) why Q h q = subst Q (sym h) q
 pub each-fault : {T : Type 0} (r : Result T ShellFault) (P Q : ShellFault → Type 0) → ((why : ShellFault) → P why → Q why) → IfErr r P → IfErr r Q
 each-fault (Ok x) P Q f h = tt
 each-fault (Err why) P Q f h = f why h
+
+-- what is said where there is none
+pub none-of : (o : Option ℕ) (P : Type 0) → ((x : ℕ) → o ≡ Some x → ⊥) → IfNone o P → P
+none-of None P not h = h
+none-of (Some x) P not h = absurd (not x refl)
+
+-- what is said of a fault of the input
+pub if-input : (why : ShellFault) (P Q : Type 0) → (P → Q) → IfInput why P → IfInput why Q
+if-input fault.BadStart P Q f h = tt
+if-input fault.Input P Q f h = f h
+if-input fault.Output P Q f h = tt
+if-input fault.Memory P Q f h = tt
+
+pub not-input : (why : ShellFault) (P : Type 0) → (why ≡ fault.Input → ⊥) → IfInput why P
+not-input fault.BadStart P other = tt
+not-input fault.Input P other = absurd (other refl)
+not-input fault.Output P other = tt
+not-input fault.Memory P other = tt
+
+-- a first line is rejected by no such fault
+rejected-input : (why : ShellFault) (line text : List ℕ) (P : Type 0) → Rejection why line text → IfInput why P
+rejected-input fault.BadStart line text P h = tt
+rejected-input fault.Input line text P h = absurd h
+rejected-input fault.Output line text P h = absurd h
+rejected-input fault.Memory line text P h = tt
 
 -- nothing was printed
 pub cut-none : (why : ShellFault) (answer : List ℕ → Type 0) → (why ≡ fault.BadStart → ⊥) → CutOff why answer []
@@ -47,11 +75,11 @@ cut-more fault.Input a b text f h = h
 cut-more fault.Output a b text f h = front-more a b text f h
 cut-more fault.Memory a b text f h = front-more a b text f h
 
-not-bad : (why : ShellFault) (answer : List ℕ → Type 0) (text : List ℕ) → CutOff why answer text → why ≡ fault.BadStart → ⊥
-not-bad fault.BadStart answer text h e = h
-not-bad fault.Input answer text h e = cc e
-not-bad fault.Output answer text h e = cc e
-not-bad fault.Memory answer text h e = cc e
+not-bad : (why : ShellFault) (at : At) {bytes text : List ℕ} → BreaksOff at why bytes text → why ≡ fault.BadStart → ⊥
+not-bad fault.BadStart at b e = b.cut
+not-bad fault.Input at b e = cc e
+not-bad fault.Output at b e = cc e
+not-bad fault.Memory at b e = cc e
 
 pub prints-cut-none : (why : ShellFault) (answer : List ℕ → Type 0) (u v : Option (List ℕ)) (held left : List ℕ) → (why ≡ fault.BadStart → ⊥) → Prints u held [] v left → PrintsCut why answer u held v left
 prints-cut-none why answer u v held left other p = ([], p, cut-none why answer other)
@@ -76,6 +104,25 @@ starts-later (Some xs) (Some ys) came a first b bytes rest p e h =
 starts-apart : (known : Option (List ℕ)) (a bytes more rest : List ℕ) → IfSome known (λ coming. a ++ coming ≡ (bytes ++ more) ++ rest) → IfSome known (λ coming. a ++ coming ≡ bytes ++ (more ++ rest))
 starts-apart None a bytes more rest h = tt
 starts-apart (Some xs) a bytes more rest h = h ∙ append_assoc bytes more rest
+
+starts-here : (known : Option (List ℕ)) (a : List ℕ) → IfSome known (λ coming. a ++ coming ≡ a ++ unwrap_or known [])
+starts-here None a = tt
+starts-here (Some xs) a = refl
+
+counted-then : (x m o came u um f a fa : ℕ) → x + a ≡ m + um → m + came ≡ o → u + came ≡ f + um → fa ≡ f + a → x + fa ≡ o + u
+counted-then x m o came u um f a fa p q r s = omega (arith, p, q, r, s)
+
+both-lengths : (xs ys zs ws : List ℕ) → xs ++ ys ≡ zs ++ ws → length xs + length ys ≡ length zs + length ws
+both-lengths xs ys zs ws e = sym (length-append xs ys) ∙ ap (λ (t : List ℕ). length t) e ∙ length-append zs ws
+
+take-all : (xs ys : List ℕ) → take (length xs) (xs ++ ys) ≡ xs
+take-all [] [] = refl
+take-all [] (y ∷ ys) = refl
+take-all (x ∷ xs) ys = ap (λ (t : List ℕ). x ∷ t) (take-all xs ys)
+
+-- the first bytes, as many as there are
+pub take-front : (xs ys : List ℕ) (n : ℕ) → length xs ≡ n → take n (xs ++ ys) ≡ xs
+take-front xs ys n e = subst (λ (k : ℕ). take k (xs ++ ys) ≡ xs) e (take-all xs ys)
 
 module _ {R : Type 0} (read : Ghosts R) where
   -- what still comes of a script
@@ -104,82 +151,164 @@ module _ {R : Type 0} (read : Ghosts R) where
     λ spent. sym (append_assoc bytes more rest) ∙ h.1 spent,
   )
 
-  -- a script breaks off between two lines
-  pub breaks-between : (first after : Input R read) (a b : Option (List ℕ)) (h k : List ℕ) (old at : At) (bytes text : List ℕ) (why : ShellFault) → (why ≡ fault.BadStart → ⊥)
-      → Reads read first bytes after → Prints a h text b k → Answers old bytes text at
-      → (all : List ℕ) × (rest : List ℕ) × (said : List ℕ) × StartsWith read first all rest × Prints a h said b k × BreaksOff old why all said
-  breaks-between first after a b h k old at bytes text why other p q r = (
+  -- all that is held came, and nothing more
+  pub stops-here : (old new : Input R read) (P : List ℕ → Type 0) → new.source.bytes ≡ old.source.bytes → P (unread read old) → Stops read P old new
+  stops-here old new P same h = (
+    unread read old,
+    unwrap_or (read.remaining old.source.reader) [],
+    (starts-here (read.remaining old.source.reader) (unread read old), λ spent. spent-rest old spent),
+    ap (λ (n : ℕ). n + length (unread read old)) same,
+    h,
+  )
+
+  counts-then : (old mid new : Input R read) (first bytes : List ℕ) → Reads read old first mid → Counts read mid bytes new → Counts read old (first ++ bytes) new
+  counts-then old mid new first bytes p q =
+      counted-then new.source.bytes mid.source.bytes old.source.bytes (length p.came) (length (unread read old)) (length (unread read mid)) (length first) (length bytes) (length (first ++ bytes)) q p.counted
+      (both-lengths (unread read old) p.came first (unread read mid) p.taken) (length-append first bytes)
+
+  pub gives-then : (old mid new : Input R read) (first bytes rest : List ℕ) (why : ShellFault) → Reads read old first mid → Gives read why mid new bytes rest → Gives read why old new (first ++ bytes) rest
+  gives-then old mid new first bytes rest why p g =
+      (starts-then old mid first bytes rest p g.0, if-input why (Counts read mid bytes new) (Counts read old (first ++ bytes) new) (λ c. counts-then old mid new first bytes p c) g.1)
+
+  -- bytes were taken before those that are told
+  pub stops-then : (old mid new : Input R read) (first : List ℕ) (P Q : List ℕ → Type 0) → Reads read old first mid → ((bytes : List ℕ) → P bytes → Q (first ++ bytes)) → Stops read P mid new → Stops read Q old new
+  stops-then old mid new first P Q p f s = (first ++ s.0, s.1, starts-then old mid first s.0 s.1 p s.2, counts-then old mid new first s.0 p s.3, f s.0 s.4)
+
+  pub stops-more : (old new : Input R read) (P Q : List ℕ → Type 0) → ((bytes : List ℕ) → P bytes → Q bytes) → Stops read P old new → Stops read Q old new
+  stops-more old new P Q f s = (s.0, s.1, s.2, s.3, f s.0 s.4)
+
+  -- nothing was taken
+  pub stops-still : (old mid new : Input R read) (P : List ℕ → Type 0) → Reads read old [] mid → new.source.bytes ≡ mid.source.bytes → P (unread read mid) → Stops read P old new
+  stops-still old mid new P p same h = stops-then old mid new [] P P p (λ bytes q. q) (stops-here mid new P same h)
+
+  -- a whole line came, and is at fault with what came behind it
+  stops-line : (before mid new : Input R read) (raw line : List ℕ) (fails : List ℕ → List ℕ → Type 0) → IsOneLine raw → line ≡ strip_last 13 raw → Reads read before (raw ++ 10 ∷ []) mid
+      → Stops read (λ behind. fails line behind) mid new → Stops read (HasNoTurn fails) before new
+  stops-line before mid new raw line fails one stripped p s =
+      stops-then before mid new (raw ++ 10 ∷ []) (λ behind. fails line behind) (HasNoTurn fails) p
+      (λ behind h. inr (raw, behind, one, append_assoc raw (10 ∷ []) behind, subst (λ (z : List ℕ). fails z behind) stripped h)) s
+
+  -- the last one came
+  stops-last : (before mid new : Input R read) (line : List ℕ) (fails : List ℕ → List ℕ → Type 0) (P : List ℕ → Type 0) → IsOneLine line → Reads read before line mid → IsSpent read mid
+      → Stops read P mid new → Stops read (HasNoTurn fails) before new
+  stops-last before mid new line fails P one p spent s =
+      let none : s.0 ≡ [] = no-first s.0 s.1 (s.2.1 spent) in
+      stops-then before mid new line (λ behind. behind ≡ []) (HasNoTurn fails) p
+      (λ behind h. inl (subst (λ (z : List ℕ). IsOneLine z) (sym (ap (λ (z : List ℕ). line ++ z) h ∙ append-nil line)) one)) (s.0, s.1, s.2, s.3, none)
+
+  -- how the lines of a script break off
+  abbrev pub Ending : Input R read → Input R read → Option (List ℕ) → Option (List ℕ) → List ℕ → List ℕ → At → ShellFault → Type 0
+  Ending first new a b h k old why = (all : List ℕ) × (rest : List ℕ) × (said : List ℕ) × Gives read why first new all rest × Prints a h said b k × BreaksOff old why all said
+
+  between : (first after new : Input R read) (a b : Option (List ℕ)) (h k : List ℕ) (old at : At) (bytes text : List ℕ) (why : ShellFault)
+      → IfInput why (Counts read first bytes new) → BreaksIn why at [] [] → Reads read first bytes after → Prints a h text b k → Answers old bytes text at → Ending first new a b h k old why
+  between first after new a b h k old at bytes text why counts cut p q r = (
     bytes,
     coming after,
     text,
-    starts first after bytes p,
+    (starts first after bytes p, counts),
     q,
-    record { before = bytes; printed = text; mid = at; answered = r; next = []; one = refl; front = []; cut = cut-none why (ListsNext at []) other; whole = sym (append-nil bytes); said = sym (append-nil text) },
+    record { before = bytes; printed = text; mid = at; answered = r; next = []; front = []; cut = cut; whole = sym (append-nil bytes); said = sym (append-nil text) },
   )
 
-  -- within the answer to a line
-  pub breaks-line : (first before mid : Input R read) (a b c d : Option (List ℕ)) (h k l m : List ℕ) (old at : At) (line raw bytes text : List ℕ) (why : ShellFault)
-      → Reads read first bytes before → Prints a h text b k → Answers old bytes text at
-      → list_any (λ x. x == 10) raw ≡ false → line ≡ strip_last 13 raw → Reads read before (raw ++ 10 ∷ []) mid → Prints b k [] c l
-      → PrintsCut why (λ said. Lists at line said) c l d m
-      → (all : List ℕ) × (rest : List ℕ) × (said : List ℕ) × StartsWith read first all rest × Prints a h said d m × BreaksOff old why all said
-  breaks-line first before mid a b c d h k l m old at line raw bytes text why p q r one stripped s t u = (
+  -- no whole turn came behind
+  stopped : (first after new : Input R read) (a b : Option (List ℕ)) (h k : List ℕ) (old at : At) (bytes text : List ℕ)
+      → Reads read first bytes after → Prints a h text b k → Answers old bytes text at → Stops read (HasNoTurn (Fails at.state.table.schema)) after new → Ending first new a b h k old fault.Input
+  stopped first after new a b h k old at bytes text p q r s = (
+    bytes ++ s.0,
+    s.1,
+    text,
+    (starts-then first after bytes s.0 s.1 p s.2, counts-then first after new bytes s.0 p s.3),
+    q,
+    record { before = bytes; printed = text; mid = at; answered = r; next = s.0; front = []; cut = (refl, s.4); whole = refl; said = sym (append-nil text) },
+  )
+
+  -- a script breaks off between two lines
+  pub breaks-between : (first after new : Input R read) (a b : Option (List ℕ)) (h k : List ℕ) (old at : At) (bytes text : List ℕ) (why : ShellFault) → (why ≡ fault.BadStart → ⊥)
+      → Reads read first bytes after → Prints a h text b k → Answers old bytes text at → IfInput why (Stops read IsOneLine after new) → Ending first new a b h k old why
+  breaks-between first after new a b h k old at bytes text fault.BadStart other p q r s = absurd (other refl)
+  breaks-between first after new a b h k old at bytes text fault.Input other p q r s = stopped first after new a b h k old at bytes text p q r (s.0, s.1, s.2, s.3, inl s.4)
+  breaks-between first after new a b h k old at bytes text fault.Output other p q r s = between first after new a b h k old at bytes text fault.Output tt (refl, inl refl) p q r
+  breaks-between first after new a b h k old at bytes text fault.Memory other p q r s = between first after new a b h k old at bytes text fault.Memory tt (refl, inl refl) p q r
+
+  -- within a line
+  within-line : (first before mid new : Input R read) (a b c d : Option (List ℕ)) (h k l m : List ℕ) (old at : At) (raw bytes text front : List ℕ) (why : ShellFault)
+      → IfInput why (Counts read first (bytes ++ raw) new) → BreaksIn why at raw front
+      → Reads read first bytes before → Prints a h text b k → Answers old bytes text at → Reads read before (raw ++ 10 ∷ []) mid → Prints b k [] c l → Prints c l front d m → Ending first new a d h m old why
+  within-line first before mid new a b c d h k l m old at raw bytes text front why counts cut p q r s t u = (
     bytes ++ raw,
     10 ∷ coming mid,
-    text ++ u.0,
-    starts-split first (bytes ++ raw) (10 ∷ []) (coming mid)
-        (subst (λ (z : List ℕ). StartsWith read first z (coming mid)) (sym (append_assoc bytes raw (10 ∷ []))) (starts-then first before bytes (raw ++ 10 ∷ []) (coming mid) p (starts before mid (raw ++ 10 ∷ []) s))),
-    prints-then a b d h text k u.0 m q (prints-nothing-then b c d k l u.0 m t u.1),
-    record {
-      before = bytes;
-      printed = text;
-      mid = at;
-      answered = r;
-      next = raw;
-      one = one;
-      front = u.0;
-      whole = refl;
-      said = refl;
-      cut = cut-more why (λ said. Lists at line said) (ListsNext at raw) u.0 (λ said n. inr (subst (λ (z : List ℕ). Lists at z said) stripped n)) u.2;
-    },
+    text ++ front,
+    (
+      starts-split first (bytes ++ raw) (10 ∷ []) (coming mid)
+          (subst (λ (z : List ℕ). StartsWith read first z (coming mid)) (sym (append_assoc bytes raw (10 ∷ []))) (starts-then first before bytes (raw ++ 10 ∷ []) (coming mid) p (starts before mid (raw ++ 10 ∷ []) s))),
+      counts,
+    ),
+    prints-then a b d h text k front m q (prints-nothing-then b c d k l front m t u),
+    record { before = bytes; printed = text; mid = at; answered = r; next = raw; front = front; cut = cut; whole = refl; said = refl },
   )
 
-  -- within the answer to the last line
-  pub breaks-last : (first before mid : Input R read) (a b c d : Option (List ℕ)) (h k l m : List ℕ) (old at : At) (line bytes text : List ℕ) (why : ShellFault)
-      → Reads read first bytes before → Prints a h text b k → Answers old bytes text at
-      → list_any (λ x. x == 10) line ≡ false → Reads read before line mid → Prints b k [] c l
-      → PrintsCut why (λ said. Lists at line said) c l d m
-      → (all : List ℕ) × (rest : List ℕ) × (said : List ℕ) × StartsWith read first all rest × Prints a h said d m × BreaksOff old why all said
-  breaks-last first before mid a b c d h k l m old at line bytes text why p q r one s t u = (
+  -- within the last line
+  within-last : (first before mid new : Input R read) (a b c d : Option (List ℕ)) (h k l m : List ℕ) (old at : At) (line bytes text front : List ℕ) (why : ShellFault)
+      → IfInput why (Counts read first (bytes ++ line) new) → BreaksIn why at line front
+      → Reads read first bytes before → Prints a h text b k → Answers old bytes text at → Reads read before line mid → Prints b k [] c l → Prints c l front d m → Ending first new a d h m old why
+  within-last first before mid new a b c d h k l m old at line bytes text front why counts cut p q r s t u = (
     bytes ++ line,
     coming mid,
-    text ++ u.0,
-    starts-then first before bytes line (coming mid) p (starts before mid line s),
-    prints-then a b d h text k u.0 m q (prints-nothing-then b c d k l u.0 m t u.1),
-    record {
-      before = bytes;
-      printed = text;
-      mid = at;
-      answered = r;
-      next = line;
-      one = one;
-      front = u.0;
-      whole = refl;
-      said = refl;
-      cut = cut-more why (λ said. Lists at line said) (ListsNext at line) u.0 (λ said n. inl n) u.2;
-    },
+    text ++ front,
+    (starts-then first before bytes line (coming mid) p (starts before mid line s), counts),
+    prints-then a b d h text k front m q (prints-nothing-then b c d k l front m t u),
+    record { before = bytes; printed = text; mid = at; answered = r; next = line; front = front; cut = cut; whole = refl; said = refl },
   )
+
+  nothing-printed : (a b c d : Option (List ℕ)) (h k l m text front : List ℕ) → Prints a h text b k → Prints b k [] c l → Prints c l front d m → front ≡ [] → Prints a h text d m
+  nothing-printed a b c d h k l m text front q t u none =
+      prints-then-nothing a b d h text k m q (prints-then-nothing b c d k [] l m t (subst (λ (z : List ℕ). Prints c l z d m) none u))
+
+  -- within the answer to a line
+  pub breaks-line : (first before mid new : Input R read) (a b c d : Option (List ℕ)) (h k l m : List ℕ) (old at : At) (line raw bytes text : List ℕ) (why : ShellFault)
+      → Reads read first bytes before → Prints a h text b k → Answers old bytes text at
+      → list_any (λ x. x == 10) raw ≡ false → line ≡ strip_last 13 raw → Reads read before (raw ++ 10 ∷ []) mid → Prints b k [] c l
+      → PrintsCut why (λ said. Lists at line said) c l d m → IfInput why (Stops read (λ behind. Fails at.state.table.schema line behind) mid new)
+      → Ending first new a d h m old why
+  breaks-line first before mid new a b c d h k l m old at line raw bytes text fault.BadStart p q r one stripped s t u v = absurd u.2
+  breaks-line first before mid new a b c d h k l m old at line raw bytes text fault.Input p q r one stripped s t u v =
+      stopped first before new a d h m old at bytes text p (nothing-printed a b c d h k l m text u.0 q t u.1 u.2) r (stops-line before mid new raw line (Fails at.state.table.schema) one stripped s v)
+  breaks-line first before mid new a b c d h k l m old at line raw bytes text fault.Output p q r one stripped s t u v =
+      within-line first before mid new a b c d h k l m old at raw bytes text u.0 fault.Output tt
+      (one, front-more (λ said. Lists at line said) (ListsNext at raw) u.0 (λ said n. inr (subst (λ (z : List ℕ). Lists at z said) stripped n)) u.2) p q r s t u.1
+  breaks-line first before mid new a b c d h k l m old at line raw bytes text fault.Memory p q r one stripped s t u v =
+      within-line first before mid new a b c d h k l m old at raw bytes text u.0 fault.Memory tt
+      (one, front-more (λ said. Lists at line said) (ListsNext at raw) u.0 (λ said n. inr (subst (λ (z : List ℕ). Lists at z said) stripped n)) u.2) p q r s t u.1
+
+  -- within the answer to the last line
+  pub breaks-last : (first before mid new : Input R read) (a b c d : Option (List ℕ)) (h k l m : List ℕ) (old at : At) (line bytes text : List ℕ) (why : ShellFault)
+      → Reads read first bytes before → Prints a h text b k → Answers old bytes text at
+      → list_any (λ x. x == 10) line ≡ false → Reads read before line mid → IsSpent read mid → Prints b k [] c l
+      → PrintsCut why (λ said. Lists at line said) c l d m → IfInput why (Stops read (λ behind. Fails at.state.table.schema line behind) mid new)
+      → Ending first new a d h m old why
+  breaks-last first before mid new a b c d h k l m old at line bytes text fault.BadStart p q r one s spent t u v = absurd u.2
+  breaks-last first before mid new a b c d h k l m old at line bytes text fault.Input p q r one s spent t u v =
+      stopped first before new a d h m old at bytes text p (nothing-printed a b c d h k l m text u.0 q t u.1 u.2) r
+      (stops-last before mid new line (Fails at.state.table.schema) (λ behind. Fails at.state.table.schema line behind) one s spent v)
+  breaks-last first before mid new a b c d h k l m old at line bytes text fault.Output p q r one s spent t u v =
+      within-last first before mid new a b c d h k l m old at line bytes text u.0 fault.Output tt (one, front-more (λ said. Lists at line said) (ListsNext at line) u.0 (λ said n. inl n) u.2) p q r s t u.1
+  breaks-last first before mid new a b c d h k l m old at line bytes text fault.Memory p q r one s spent t u v =
+      within-last first before mid new a b c d h k l m old at line bytes text u.0 fault.Memory tt (one, front-more (λ said. Lists at line said) (ListsNext at line) u.0 (λ said n. inl n) u.2) p q r s t u.1
+
+  -- a line that came is no text
+  pub no-text-line : (before mid : Input R read) (raw line : List ℕ) → list_any (λ x. x == 10) raw ≡ false → line ≡ strip_last 13 raw → Reads read before (raw ++ 10 ∷ []) mid → (IsUtf8 line → ⊥)
+      → Stops read (HasNoTurn (λ line behind. ¬ (IsUtf8 line))) before mid
+  no-text-line before mid raw line one stripped p h = stops-line before mid mid raw line (λ line behind. ¬ (IsUtf8 line)) one stripped p (stops-here mid mid (λ behind. ¬ (IsUtf8 line)) refl h)
+
+  pub no-text-last : (before mid : Input R read) (line : List ℕ) → list_any (λ x. x == 10) line ≡ false → Reads read before line mid → IsSpent read mid → (IsUtf8 line → ⊥)
+      → Stops read (HasNoTurn (λ line behind. ¬ (IsUtf8 line))) before mid
+  no-text-last before mid line one p spent h = stops-last before mid mid line (λ line behind. ¬ (IsUtf8 line)) (λ behind. ¬ (IsUtf8 line)) one p spent (stops-here mid mid (λ behind. ¬ (IsUtf8 line)) refl h)
 
 -- a script of which nothing is printed
 pub starts-none : (known : Option (List ℕ)) → IfSome known (λ script. script ≡ [] ++ unwrap_or known [])
 starts-none None = tt
 starts-none (Some xs) = refl
-
-pub broken-none : (why : ShellFault) (bytes rest : List ℕ) → (why ≡ fault.BadStart → ⊥) → IsBroken why bytes rest []
-broken-none fault.BadStart bytes rest other = absurd (other refl)
-broken-none fault.Input bytes rest other = inl refl
-broken-none fault.Output bytes rest other = inl refl
-broken-none fault.Memory bytes rest other = inl refl
 
 broken-first : (why : ShellFault) (line text bytes rest : List ℕ) → Rejection why line text → (IsRejected line text → Rejects bytes (rest ≡ []) text) → IsBroken why bytes rest text
 broken-first fault.BadStart line text bytes rest h f = f h
@@ -200,22 +329,41 @@ ends-by fault.Output bytes rest text lost h none = inr (fault.Output, h)
 ends-by fault.Memory bytes rest text lost h none = (h, none)
 
 module _ {R : Type 0} (read : Ghosts R) where
+  -- how the first command of a script breaks off
+  abbrev pub Starting : Input R read → Input R read → Option (List ℕ) → Option (List ℕ) → List ℕ → List ℕ → ShellFault → Type 0
+  Starting first new a b h k why = (bytes : List ℕ) × (rest : List ℕ) × (text : List ℕ) × Gives read why first new bytes rest × Prints a h text b k × IsBroken why bytes rest text
+
   -- no command was read yet
-  pub breaks-first : (first : Input R read) (a b : Option (List ℕ)) (h k : List ℕ) (why : ShellFault) → (why ≡ fault.BadStart → ⊥) → Prints a h [] b k
-      → (bytes : List ℕ) × (rest : List ℕ) × (text : List ℕ) × StartsWith read first bytes rest × Prints a h text b k × IsBroken why bytes rest text
-  breaks-first first a b h k why other p = ([], coming read first, [], starts read first first [] (reads-none read first first refl), p, broken-none why [] (coming read first) other)
+  pub breaks-first : (first before new : Input R read) (a b : Option (List ℕ)) (h k blank : List ℕ) (blanks : List (List ℕ)) (why : ShellFault) → (why ≡ fault.BadStart → ⊥)
+      → Reads read first blank before → Blank blank blanks → Prints a h [] b k → IfInput why (Stops read (HasNoTurn (λ line behind. ¬ (IsUtf8 line))) before new) → Starting first new a b h k why
+  breaks-first first before new a b h k blank blanks fault.BadStart other p empty q s = absurd (other refl)
+  breaks-first first before new a b h k blank blanks fault.Input other p empty q s = (
+    blank ++ s.0,
+    s.1,
+    [],
+    (starts-then read first before blank s.0 s.1 p s.2, counts-then read first before new blank s.0 p s.3),
+    q,
+    inl (record { blanks = blanks; blank = blank; empty = empty; next = s.0; none = s.4; whole = refl }, refl),
+  )
+  breaks-first first before new a b h k blank blanks fault.Output other p empty q s = ([], coming read first, [], (starts read first first [] (reads-none read first first refl), tt), q, inl refl)
+  breaks-first first before new a b h k blank blanks fault.Memory other p empty q s = ([], coming read first, [], (starts read first first [] (reads-none read first first refl), tt), q, inl refl)
+
+  pub no-line : (why : ShellFault) (before new : Input R read) → IfInput why (Stops read IsOneLine before new) → IfInput why (Stops read (HasNoTurn (λ line behind. ¬ (IsUtf8 line))) before new)
+  no-line why before new h =
+      if-input why (Stops read IsOneLine before new) (Stops read (HasNoTurn (λ line behind. ¬ (IsUtf8 line))) before new)
+      (λ s. stops-more read before new IsOneLine (HasNoTurn (λ line behind. ¬ (IsUtf8 line))) (λ bytes one. inl one) s) h
 
   -- the first command, a whole line, opens no table
   pub rejects-line : (old before mid : Input R read) (u v w : Option (List ℕ)) (held k l left bytes raw line given text : List ℕ) (blanks : List (List ℕ)) (why : ShellFault)
       → Reads read old bytes before → Prints u held [] v k → Blank bytes blanks
       → list_any (λ x. x == 10) raw ≡ false → line ≡ strip_last 13 raw → Reads read before (raw ++ 10 ∷ []) mid → Prints v k [] w l
       → given ≡ line → left ≡ l ++ text → Rejection why given text
-      → (first : List ℕ) × (rest : List ℕ) × (said : List ℕ) × StartsWith read old first rest × Prints u held said w left × IsBroken why first rest said
+      → Starting old mid u w held left why
   rejects-line old before mid u v w held k l left bytes raw line given text blanks why p q b one stripped s t same e h = (
     bytes ++ (raw ++ 10 ∷ []),
     coming read mid,
     text,
-    starts-then read old before bytes (raw ++ 10 ∷ []) (coming read mid) p (starts read before mid (raw ++ 10 ∷ []) s),
+    (starts-then read old before bytes (raw ++ 10 ∷ []) (coming read mid) p (starts read before mid (raw ++ 10 ∷ []) s), rejected-input why given text (Counts read old (bytes ++ (raw ++ 10 ∷ [])) mid) h),
     prints-nothing-then u v w held k text left q (prints-nothing-then v w w k l text left t (prints w l text left e)),
     broken-first why given text (bytes ++ (raw ++ 10 ∷ [])) (coming read mid) h (λ rejected. record {
       blanks = blanks;
@@ -234,12 +382,12 @@ module _ {R : Type 0} (read : Ghosts R) where
       → Reads read old bytes before → Prints u held [] v k → Blank bytes blanks
       → list_any (λ x. x == 10) line ≡ false → Reads read before line mid → Prints v k [] w l → IsSpent read mid
       → given ≡ line → left ≡ l ++ text → Rejection why given text
-      → (first : List ℕ) × (rest : List ℕ) × (said : List ℕ) × StartsWith read old first rest × Prints u held said w left × IsBroken why first rest said
+      → Starting old mid u w held left why
   rejects-last old before mid u v w held k l left bytes line given text blanks why p q b one s t spent same e h = (
     bytes ++ line,
     coming read mid,
     text,
-    starts-then read old before bytes line (coming read mid) p (starts read before mid line s),
+    (starts-then read old before bytes line (coming read mid) p (starts read before mid line s), rejected-input why given text (Counts read old (bytes ++ line) mid) h),
     prints-nothing-then u v w held k text left q (prints-nothing-then v w w k l text left t (prints w l text left e)),
     broken-first why given text (bytes ++ line) (coming read mid) h (λ rejected. record {
       blanks = blanks;
@@ -256,53 +404,69 @@ module _ {R : Type 0} (read : Ghosts R) where
   -- or there is none
   pub rejects-none : (old before mid : Input R read) (u v w : Option (List ℕ)) (held k l bytes line : List ℕ) (blanks : List (List ℕ))
       → Reads read old bytes before → Prints u held [] v k → Blank bytes blanks → line ≡ [] → Reads read before line mid → Prints v k [] w l → IsSpent read mid
-      → (first : List ℕ) × (rest : List ℕ) × (said : List ℕ) × StartsWith read old first rest × Prints u held said w l × IsBroken fault.BadStart first rest said
+      → Starting old mid u w held l fault.BadStart
   rejects-none old before mid u v w held k l bytes line blanks p q b none s t spent = (
     bytes,
     coming read mid,
     [],
-    subst (λ (z : List ℕ). StartsWith read old z (coming read mid)) (ap (λ (z : List ℕ). bytes ++ z) none ∙ append-nil bytes) (starts-then read old before bytes line (coming read mid) p (starts read before mid line s)),
+    (
+      subst (λ (z : List ℕ). StartsWith read old z (coming read mid)) (ap (λ (z : List ℕ). bytes ++ z) none ∙ append-nil bytes) (starts-then read old before bytes line (coming read mid) p (starts read before mid line s)),
+      tt,
+    ),
     prints-nothing-then u v w held k [] l q t,
     record { blanks = blanks; blank = bytes; empty = b; line = []; one = refl; first = []; whole = sym (append-nil bytes); rejected = inr (inr (refl, spent-rest read mid spent, refl)) },
   )
 
   -- behind the first command
-  pub breaks-later : (old mid : Input R read) (reader : R) (u v w : Option (List ℕ)) (held k left first bytes rest text : List ℕ) (at : At) (why : ShellFault)
-      → old.source.reader ≡ reader → unread read old ≡ [] → held ≡ []
-      → Reads read old first mid → Prints u held (codes "ok\n") v k → Opens first (IsSpent read mid) at
-      → StartsWith read mid bytes rest → Prints v k text w left → BreaksOff at why bytes text
-      → (all : List ℕ) × (behind : List ℕ) × (said : List ℕ) × IfSome (read.remaining reader) (λ script. script ≡ all ++ behind) × Prints u [] said w left × IsBroken why all behind said
-  breaks-later old mid reader u v w held k left first bytes rest text at why is none empty p q o s t b = (
+  pub breaks-later : (old mid new : Input R read) (u v w : Option (List ℕ)) (held k left first bytes rest text : List ℕ) (at : At) (why : ShellFault)
+      → held ≡ [] → Reads read old first mid → Prints u held (codes "ok\n") v k → Opens first (IsSpent read mid) at
+      → Gives read why mid new bytes rest → Prints v k text w left → BreaksOff at why bytes text
+      → Starting old new u w [] left why
+  breaks-later old mid new u v w held k left first bytes rest text at why empty p q o g t b = (
     first ++ bytes,
     rest,
     codes "ok\n" ++ text,
-    subst (λ (r : R). IfSome (read.remaining r) (λ script. script ≡ (first ++ bytes) ++ rest)) is
-        (subst (λ (z : List ℕ). IfSome (read.remaining old.source.reader) (λ script. z ++ script ≡ (first ++ bytes) ++ rest)) none (starts-then read old mid first bytes rest p s).0),
+    gives-then read old mid new first bytes rest why p g,
     subst (λ (z : List ℕ). Prints u z (codes "ok\n" ++ text) w left) empty (prints-then u v w held (codes "ok\n") k text left q t),
-    broken-later why (first ++ bytes) rest (codes "ok\n" ++ text) (not-bad why (ListsNext b.mid b.next) b.front b.cut)
-        (record { first = first; at = at; more = bytes; tail = text; opens = opens-then first (IsSpent read mid) (bytes ++ rest ≡ []) at s.1 o; breaks = b; whole = refl; said = refl }),
+    broken-later why (first ++ bytes) rest (codes "ok\n" ++ text) (not-bad why at b)
+        (record { first = first; at = at; more = bytes; tail = text; opens = opens-then first (IsSpent read mid) (bytes ++ rest ≡ []) at g.0.1 o; breaks = b; whole = refl; said = refl }),
   )
 
 -- a script is broken off, and what was printed is written
-pub breaks-written : (known u v w : Option (List ℕ)) (why : ShellFault) (bytes rest text left : List ℕ) → IfSome known (λ script. script ≡ bytes ++ rest) → Prints u [] text v left → IsBroken why bytes rest text
-    → Prints v left [] w [] → Breaks known u w why
-breaks-written known u v w why bytes rest text left begins p b q =
+pub breaks-written : (splits : List ℕ → List ℕ → Type 0) (u v w : Option (List ℕ)) (why : ShellFault) (bytes rest text left : List ℕ) → splits bytes rest → Prints u [] text v left → IsBroken why bytes rest text
+    → Prints v left [] w [] → Breaks splits u w why
+breaks-written splits u v w why bytes rest text left begins p b q =
     let all = prints-then-nothing u v w [] text left [] p q in
     record { bytes = bytes; rest = rest; begins = begins; text = text; sent = all.0; lost = []; written = all.1; said = all.2; ends = ends-by why bytes rest text [] b refl }
 
 -- a script is broken off, and then a write fails
-pub breaks-unwritten : (known u v w : Option (List ℕ)) (why : ShellFault) (bytes rest text left lost : List ℕ) → IfSome known (λ script. script ≡ bytes ++ rest) → Prints u [] text v left → IsBroken why bytes rest text
-    → Prints v left [] w lost → Breaks known u w fault.Output
-breaks-unwritten known u v w why bytes rest text left lost begins p b q =
+pub breaks-unwritten : (splits : List ℕ → List ℕ → Type 0) (u v w : Option (List ℕ)) (why : ShellFault) (bytes rest text left lost : List ℕ) → splits bytes rest → Prints u [] text v left → IsBroken why bytes rest text
+    → Prints v left [] w lost → Breaks splits u w fault.Output
+breaks-unwritten splits u v w why bytes rest text left lost begins p b q =
     let all = prints-then-nothing u v w [] text left lost p q in
     record { bytes = bytes; rest = rest; begins = begins; text = text; sent = all.0; lost = lost; written = all.1; said = all.2; ends = inr (why, b) }
 
-whole-begins : (known : Option (List ℕ)) (script : List ℕ) → IfSome known (λ bytes. script ≡ bytes) → IfSome known (λ bytes. bytes ≡ script ++ [])
-whole-begins None script h = tt
-whole-begins (Some xs) script h = sym h ∙ sym (append-nil script)
-
 -- a whole script is answered, and then a write fails
-pub whole-unwritten : (known u v w : Option (List ℕ)) (script text left lost : List ℕ) → IsWhole known script → Prints u [] text v left → IsScript script text → Prints v left [] w lost → Breaks known u w fault.Output
-whole-unwritten known u v w script text left lost whole p s q =
+pub whole-unwritten : (splits : List ℕ → List ℕ → Type 0) (u v w : Option (List ℕ)) (script rest text left lost : List ℕ) → splits script rest → Prints u [] text v left → IsScript script text → Prints v left [] w lost
+    → Breaks splits u w fault.Output
+whole-unwritten splits u v w script rest text left lost begins p s q =
     let all = prints-then-nothing u v w [] text left lost p q in
-    record { bytes = script; rest = []; begins = whole-begins known script whole.0; text = text; sent = all.0; lost = lost; written = all.1; said = all.2; ends = inl s }
+    record { bytes = script; rest = rest; begins = begins; text = text; sent = all.0; lost = lost; written = all.1; said = all.2; ends = inl s }
+
+-- the same of another split
+pub breaks-as : (splits others : List ℕ → List ℕ → Type 0) (u v : Option (List ℕ)) (why : ShellFault) → ((bytes rest : List ℕ) → splits bytes rest → others bytes rest) → Breaks splits u v why → Breaks others u v why
+breaks-as splits others u v why f b =
+    record { bytes = b.bytes; rest = b.rest; begins = f b.bytes b.rest b.begins; text = b.text; sent = b.sent; lost = b.lost; written = b.written; said = b.said; ends = b.ends }
+
+module _ {R : Type 0} (read : Ghosts R) where
+  -- a split of a script of which nothing was read
+  pub gives-known : (input new : Input R read) (reader : R) (why : ShellFault) (bytes rest : List ℕ) → input.source.reader ≡ reader → unread read input ≡ [] → Gives read why input new bytes rest
+      → IfSome (read.remaining reader) (λ script. script ≡ bytes ++ rest)
+  gives-known input new reader why bytes rest is none g =
+      subst (λ (r : R). IfSome (read.remaining r) (λ script. script ≡ bytes ++ rest)) is
+      (subst (λ (z : List ℕ). IfSome (read.remaining input.source.reader) (λ script. z ++ script ≡ bytes ++ rest)) none g.0.0)
+
+-- nothing was read
+pub breaks-none : (known u : Option (List ℕ)) → Breaks (λ bytes rest. IfSome known (λ script. script ≡ bytes ++ rest)) u u fault.Memory
+breaks-none known u =
+    record { bytes = []; rest = unwrap_or known []; begins = starts-none known; text = []; sent = []; lost = []; written = Appends-nil u; said = refl; ends = (inl refl, refl) }

@@ -116,6 +116,10 @@ range-length xs from n low h =
     rw k (length-take-le n (drop from xs) (omega (arith, h, dropped xs from low)))
 
 module _ {R : Type 0} (read : Ghosts R) where
+  -- nothing was taken, and the end of a line was looked for
+  pub reads-looked : (old mid new : Input R read) → Reads read old [] mid → new.source ≡ mid.source → new.held ≡ mid.held → new.start ≡ mid.start → Reads read old [] new
+  reads-looked old mid new p source held start = reads-then read old mid new [] [] p (reads read mid new [] source (rw (held, start) refl))
+
   -- the bytes up to a place are taken
   pub reads-range : (old mid new : Input R read) (from to : ℕ) → Reads read old [] mid → new.source ≡ mid.source → new.held ≡ mid.held → new.start ≡ to → from ≡ mid.start → from ≤ to
       → Reads read old (slice_range new.held from to) new
@@ -136,7 +140,7 @@ module _ {R : Type 0} (read : Ghosts R) where
       (rw (held, start, first) (drop_split mid.held mid.start to low2 ∙ ap (λ (t : List ℕ). slice_range mid.held mid.start to ++ t) next
       ∙ sym (append_assoc (slice_range mid.held mid.start to) (10 ∷ []) (drop (to + 1) mid.held)))))
 
-no-first : (xs ys : List ℕ) → xs ++ ys ≡ [] → xs ≡ []
+pub no-first : (xs ys : List ℕ) → xs ++ ys ≡ [] → xs ≡ []
 no-first [] ys h = refl
 no-first (x ∷ xs) ys h = cc h
 
@@ -193,13 +197,20 @@ range-some xs from to low within none =
     let l = length-take-le (to - from) (drop from xs) (omega (arith, low, within, dropped xs from (omega (arith, low, within)))) in
     omega (arith, l, none, low)
 
+one-more : (rows : List ℕ) → length (10 ∷ rows) ≡ length rows + 1
+one-more rows = omega arith
+
+-- a turn takes a byte at least
+pub turn-more : (n : ℕ) (bytes line rows : List ℕ) → n ≤ length bytes → n + 1 ≤ length (bytes ++ (line ++ 10 ∷ rows))
+turn-more n bytes line rows h = omega (arith, h, length-append bytes (line ++ 10 ∷ rows), length-append line (10 ∷ rows), one-more rows)
+
 module _ {R : Type 0} (read : Ghosts R) where
   -- a line, and what belongs to it, is one turn more
   pub goes-on : (first before mid after : Input R read) (a b c d : Option (List ℕ)) (h k l m : List ℕ) (old at new : At) (line raw rows more bytes text : List ℕ) (end : List ℕ) (e : Option (List ℕ))
       → Reads read first bytes before → Prints a h text b k → Answers old bytes text at
       → list_any (λ x. x == 10) raw ≡ false → line ≡ strip_last 13 raw → Reads read before (raw ++ 10 ∷ []) mid → Prints b k [] c l
       → Reads read mid rows after → Prints c l more d m → AnswersLine at line rows more new → Prints d m [] e end
-      → (all : List ℕ) × (said : List ℕ) × Reads read first all after × Prints a h said e end × Answers old all said new
+      → (all : List ℕ) × (said : List ℕ) × Reads read first all after × Prints a h said e end × Answers old all said new × (length bytes + 1 ≤ length all)
   goes-on first before mid after a b c d h k l m old at new line raw rows more bytes text end e p q r one stripped s t u v w x =
       let turn : Turn = record { line = raw; rows = rows; text = more } in (
         bytes ++ bytes_of turn,
@@ -207,6 +218,7 @@ module _ {R : Type 0} (read : Ghosts R) where
         subst (λ (z : List ℕ). Reads read first (bytes ++ z) after) (append_assoc raw (10 ∷ []) rows) (reads-then read first before after bytes ((raw ++ 10 ∷ []) ++ rows) p (reads-then read before mid after (raw ++ 10 ∷ []) rows s u)),
         prints-then-nothing a d e h (text ++ more) m end (prints-then a b d h text k more m q (prints-nothing-then b c d k l more m t v)) x,
         answers-more old at new bytes text turn r (one, subst (λ (z : List ℕ). AnswersLine at z rows more new) stripped w),
+        turn-more (length bytes) bytes raw rows (omega arith),
       )
 
   -- the last line
@@ -248,6 +260,25 @@ opens-then bytes P Q at f o = record {
   opens = either (λ x. x) (λ y. (y.0, y.1, f y.2)) o.opens;
 }
 
+few : (n left held came before after start all : ℕ) → held + came ≡ n + left → after + came ≡ before → start + held ≡ all → all + before ≤ 16777216 + start → n ≤ 16777216
+few n left held came before after start all p q r s = omega (arith, p, q, r, s)
+
+pub front-within : (start plain all : ℕ) → start + plain ≤ all → start ≤ all
+front-within start plain all h = omega (arith, h)
+
+opened-number : (bytes blank line : List ℕ) (P : Type 0) (at : At)
+    → ((bytes ≡ blank ++ line ++ 10 ∷ []) × IsOpenedBy (without_return line) at) ⊎ ((bytes ≡ blank ++ line) × IsOpenedBy line at × P) → at.number ≡ 1
+opened-number bytes blank line P at (inl h) = ap (λ (a : At). a.number) h.1.4
+opened-number bytes blank line P at (inr h) = ap (λ (a : At). a.number) h.1.4
+
+-- the number of the last command
+pub first-number : (bytes : List ℕ) (P : Type 0) (at : At) → Opens bytes P at → at.number ≡ 1
+first-number bytes P at o = opened-number bytes o.blank o.line P at o.opens
+
+pub next-number : (old new : At) (line rows text : List ℕ) → AnswersLine old line rows text new → new.number ≤ old.number + 1
+next-number old new [] rows text h = let same = ap (λ (at : At). at.number) h.2 in omega (arith, same)
+next-number old new (c ∷ cs) rows text h = let next = h.1 in omega (arith, next)
+
 module _ {R : Type 0} (read : Ghosts R) where
   -- nothing is read where nothing comes any more
   pub spent-nothing : (old new : Input R read) (bytes : List ℕ) → IsSpent read old → Reads read old bytes new → bytes ≡ []
@@ -259,18 +290,24 @@ module _ {R : Type 0} (read : Ghosts R) where
   spent-stays old new bytes spent p =
       (no-rest bytes (unread read new) (sym p.taken ∙ ap (λ (t : List ℕ). unread read old ++ t) (p.none spent.1) ∙ append-nil (unread read old) ∙ spent.0), p.ended spent.1)
 
-  pub script-whole : (old mid new : Input R read) (reader : R) (first rest text : List ℕ) (u v w : Option (List ℕ)) (held k left : List ℕ) (at : At)
-      → old.source.reader ≡ reader → old.source.bytes ≡ 16777216 → unread read old ≡ [] → held ≡ []
+  pub script-whole : (old mid new : Input R read) (first rest text : List ℕ) (u v w : Option (List ℕ)) (held k left : List ℕ) (at : At) → held ≡ []
       → Reads read old first mid → Prints u held (codes "ok\n") v k → Opens first (IsSpent read mid) at
       → Reads read mid rest new → Prints v k text w left → Ends at rest text → IsSpent read new
-      → (script : List ℕ) × (said : List ℕ) × IsWhole (read.remaining reader) script × Prints u [] said w left × IsScript script said
-  script-whole old mid new reader first rest text u v w held k left at is bound none empty r1 p1 o r2 p2 e spent = (
+      → (script : List ℕ) × (said : List ℕ) × Reads read old script new × Prints u [] said w left × IsScript script said × IsSpent read new
+  script-whole old mid new first rest text u v w held k left at empty r1 p1 o r2 p2 e spent = (
     first ++ rest,
     codes "ok\n" ++ text,
-    whole-read read old new reader (first ++ rest) (reads-then read old mid new first rest r1 r2) is bound none spent,
+    reads-then read old mid new first rest r1 r2,
     subst (λ (t : List ℕ). Prints u t (codes "ok\n" ++ text) w left) empty (prints-then u v w held (codes "ok\n") k text left p1 p2),
     record { first = first; rest = rest; tail = text; at = at; opens = opens-then first (IsSpent read mid) (rest ≡ []) at (λ s. spent-nothing mid new rest s r2) o; ends = e; whole = refl; said = refl },
+    spent,
   )
+
+  -- no more bytes are taken than a script may have
+  pub few-bytes : (old new : Input R read) (bytes : List ℕ) → Reads read old bytes new → length bytes ≤ 16777216
+  few-bytes old new bytes p =
+      few (length bytes) (length (unread read new)) (length (unread read old)) (length p.came) old.source.bytes new.source.bytes old.start (length old.held)
+      (sym (length-append (unread read old) p.came) ∙ ap (λ (t : List ℕ). length t) p.taken ∙ length-append bytes (unread read new)) p.counted (dropped old.held old.start (front-within old.start old.plain (length old.held) old.known)) old.most
 
 module _ {R : Type 0} (read : Ghosts R) where
   -- the first command, a whole line

@@ -1,10 +1,12 @@
 -- What was printed of a script that a fault ends early.
-use Rattle.std.specs.Prelude.{◌≡◌, ◌⊎◌, ℕ, List, [], ◌∷◌, ◌++◌, Option, None, Some, IfSome, codes}
+use Rattle.std.specs.Prelude.{◌≡◌, ◌⊎◌, ◌<◌, ℕ, List, [], ◌∷◌, ◌++◌, length, take, Option, None, Some, IsUtf8, codes}
 use Rattle.std.specs.Io.KnownBytes.{Appends}
+use Rattle.far_types.specs.declared.cell.Kind.{Kind}
 use Rattle.far_types.specs.declared.refusal.Refusal.TheVariants as refusal
 use Rattle.far_types.specs.Bounds.{IsSchema, AreLimits}
 use Rattle.far_shell.specs.declared.fault.ShellFault.{ShellFault}
 use Rattle.far_shell.specs.declared.fault.ShellFault.TheVariants as fault
+use Rattle.far_shell.specs.declared.command.Command.{Command}
 use Rattle.far_shell.specs.declared.command.Command.TheVariants as command
 use Rattle.far_shell.specs.Commands.{command_of}
 use Rattle.far_shell.specs.Flow.{Prints}
@@ -37,17 +39,36 @@ Lists at line text = (command_of at.state.table.schema line ≡ Some command.Dum
 abbrev pub ListsNext : At → List ℕ → List ℕ → Type 0
 ListsNext at bytes text = Lists at bytes text ⊎ Lists at (without_return bytes) text
 
--- behind the first command a script breaks off: whole lines are answered, and where the next line asks for a dump, a front
--- of it may be printed
+-- a load whose bytes did not all come, or are no text
+abbrev pub FailsBy : Option Command → List ℕ → Type 0
+FailsBy asked behind = (count : ℕ) × (asked ≡ Some (command.Load count)) × ((length behind < count) ⊎ ¬ (IsUtf8 (take count behind)))
+
+-- a line that cannot be answered with the bytes behind it: it is no text, or such a load
+abbrev pub Fails : List Kind → List ℕ → List ℕ → Type 0
+Fails kinds line behind = ¬ (IsUtf8 line) ⊎ FailsBy (command_of kinds line) behind
+
+-- bytes that begin with no line that can be answered: none has its end, or the first is at fault
+abbrev pub HasNoTurn : (List ℕ → List ℕ → Type 0) → List ℕ → Type 0
+HasNoTurn fails bytes = IsOneLine bytes
+    ⊎ ((line : List ℕ) × (behind : List ℕ) × IsOneLine line × (bytes ≡ line ++ 10 ∷ behind) × fails (without_return line) behind)
+
+-- what follows the lines that were answered, and what is printed for it. Of an input at fault it is all that came: no whole
+-- turn. Else it is a line, and where it asks for a dump, a front of it may be printed
+abbrev pub BreaksIn : ShellFault → At → List ℕ → List ℕ → Type 0
+BreaksIn fault.BadStart at next front = ⊥
+BreaksIn fault.Input at next front = (front ≡ []) × HasNoTurn (Fails at.state.table.schema) next
+BreaksIn fault.Output at next front = IsOneLine next × IsFront (ListsNext at next) front
+BreaksIn fault.Memory at next front = IsOneLine next × IsFront (ListsNext at next) front
+
+-- behind the first command a script breaks off: whole lines are answered, and then no more
 pub record BreaksOff (old : At) (why : ShellFault) (bytes text : List ℕ) : Type 0 where
   pub before : List ℕ
   pub printed : List ℕ
   pub mid : At
   pub answered : Answers old before printed mid
   pub next : List ℕ
-  pub one : IsOneLine next
   pub front : List ℕ
-  pub cut : CutOff why (ListsNext mid next) front
+  pub cut : BreaksIn why mid next front
   pub whole : bytes ≡ before ++ next
   pub said : text ≡ printed ++ front
 
@@ -90,10 +111,19 @@ pub record BreaksLater (why : ShellFault) (bytes rest text : List ℕ) : Type 0 
   pub whole : bytes ≡ first ++ more
   pub said : text ≡ codes "ok\n" ++ tail
 
+-- no first command came: behind empty lines none has its end, or the first is no text
+pub record HasNoStart (bytes : List ℕ) : Type 0 where
+  pub blanks : List (List ℕ)
+  pub blank : List ℕ
+  pub empty : Blank blank blanks
+  pub next : List ℕ
+  pub none : HasNoTurn (λ line behind. ¬ (IsUtf8 line)) next
+  pub whole : bytes ≡ blank ++ next
+
 -- what these first bytes of a script, with the rest behind them, are answered up to a fault
 abbrev pub IsBroken : ShellFault → List ℕ → List ℕ → List ℕ → Type 0
 IsBroken fault.BadStart bytes rest text = Rejects bytes (rest ≡ []) text
-IsBroken fault.Input bytes rest text = (text ≡ []) ⊎ BreaksLater fault.Input bytes rest text
+IsBroken fault.Input bytes rest text = (HasNoStart bytes × (text ≡ [])) ⊎ BreaksLater fault.Input bytes rest text
 IsBroken fault.Output bytes rest text = (text ≡ []) ⊎ BreaksLater fault.Output bytes rest text
 IsBroken fault.Memory bytes rest text = (text ≡ []) ⊎ BreaksLater fault.Memory bytes rest text
 
@@ -104,11 +134,12 @@ EndsBy fault.Input bytes rest text lost = IsBroken fault.Input bytes rest text �
 EndsBy fault.Memory bytes rest text lost = IsBroken fault.Memory bytes rest text × (lost ≡ [])
 EndsBy fault.Output bytes rest text lost = IsScript bytes text ⊎ ((why : ShellFault) × IsBroken why bytes rest text)
 
--- a script ends early: of what its first bytes are answered a front was written
-pub record Breaks (known old new : Option (List ℕ)) (why : ShellFault) : Type 0 where
+-- a script ends early: of what its first bytes are answered a front was written. How it is split is told by the first
+-- argument
+pub record Breaks (splits : List ℕ → List ℕ → Type 0) (old new : Option (List ℕ)) (why : ShellFault) : Type 0 where
   pub bytes : List ℕ
   pub rest : List ℕ
-  pub begins : IfSome known (λ script. script ≡ bytes ++ rest)
+  pub begins : splits bytes rest
   pub text : List ℕ
   pub sent : List ℕ
   pub lost : List ℕ

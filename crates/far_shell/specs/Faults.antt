@@ -1,5 +1,5 @@
--- The exit statuses of the program.
-use Rattle.std.specs.Prelude.{ℕ}
+-- The faults, and the exit statuses of the program.
+use Rattle.std.specs.Prelude.{ℕ, ⊤}
 use Rattle.far_shell.specs.declared.fault.ShellFault.{ShellFault}
 use Rattle.far_shell.specs.declared.fault.ShellFault.TheVariants.{BadStart, Input, Output, Memory}
 
@@ -9,3 +9,10 @@ status_of BadStart = 2
 status_of Input = 3
 status_of Output = 3
 status_of Memory = 4
+
+-- what holds where the fault is the input's
+abbrev pub IfInput : ShellFault → Type 0 → Type 0
+IfInput BadStart holds = ⊤
+IfInput Input holds = holds
+IfInput Output holds = ⊤
+IfInput Memory holds = ⊤

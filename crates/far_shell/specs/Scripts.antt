@@ -2,6 +2,7 @@
 use Rattle.std.specs.Prelude.{◌≡◌, ◌⊎◌, ℕ, ◌+◌, Bool, false, ◌==◌, List, [], ◌∷◌, ◌++◌, Some, codes, IsUtf8}
 use Rattle.std.specs.List.{list_any, flat_map}
 use Rattle.std.specs.Io.BufRead.{strip_last}
+use Rattle.far_types.specs.Bounds.{IsSchema, AreLimits}
 use Rattle.far_frame.specs.Steps.{empty_state}
 use Rattle.far_shell.specs.Openings.{Opened, opening_of}
 use Rattle.far_shell.specs.Commands.{command_of}
@@ -66,9 +67,9 @@ pub record Ends (old : At) (script text : List ℕ) : Type 0 where
   pub whole : script ≡ bytes ++ last
   pub said : text ≡ printed ++ tail
 
--- a line opens an empty table of its columns and limits
+-- a line opens an empty table of its columns and limits, which are what a table may have
 abbrev pub IsOpenedBy : List ℕ → At → Type 0
-IsOpenedBy line at = (opened : Opened) × (opening_of line ≡ Some opened) × (at ≡ record { state = empty_state opened.0 opened.1; number = 1 })
+IsOpenedBy line at = (opened : Opened) × (opening_of line ≡ Some opened) × IsSchema opened.0 × AreLimits opened.1 × (at ≡ record { state = empty_state opened.0 opened.1; number = 1 })
 
 -- lines without a byte
 abbrev pub Blank : List ℕ → List (List ℕ) → Type 0

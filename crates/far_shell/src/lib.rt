@@ -22,4 +22,5 @@ mod watch;
 mod words;
 
 pub use fault::ShellFault;
-pub use script::run_script;
+pub use input::Input;
+pub use script::{run_input, run_script};

@@ -1,6 +1,6 @@
 // The rows of a table as text.
-ghost use Rattle.std.specs.Prelude.{◌≡◌, map, drop, length, ◌++◌, OnOk, IfErr};
-ghost use Rattle.far_frame.specs.Columns.{lent_cell};
+ghost use Rattle.std.specs.Prelude.{◌≡◌, ◌≢◌, map, drop, length, ◌++◌, OnOk, IfErr};
+ghost use Rattle.far_types.specs.Lent.{lent_cell};
 ghost use Rattle.csv.specs.Writing.{default_writer, fields_text};
 ghost use Rattle.far_types.specs.Table.{rows_of};
 ghost use Rattle.far_shell.specs.Breaks.{PrintsCut};
@@ -11,8 +11,8 @@ use super::fault::ShellFault;
 use super::output::Output;
 use super::page::Page;
 use super::print::numbered;
-use far_frame::{CellRef, Frame};
-use far_types::Refusal;
+use far_frame::Frame;
+use far_types::{CellRef, Refusal};
 use itoa::Buffer;
 use std::io::Write;
 
@@ -102,6 +102,7 @@ fn live_rows(frame: &Frame) -> u64
 pub fn dump<W: Write>(frame: &Frame, output: &mut Output, writer: &mut W) -> Result<(), ShellFault>
     ensures ok { OnOk result (Prints (W.contents writer.old) output.old.page (dump_text frame.now.table) (W.contents writer.new) output.new.page) }
     ensures err { IfErr result (λ fault. PrintsCut fault (λ said. said ≡ dump_text frame.now.table) (W.contents writer.old) output.old.page (W.contents writer.new) output.new.page) }
+    ensures fault { IfErr result (λ fault. fault ≢ ShellFault.Input) }
 {
     output.reply.truncate(0);
     numbered(&mut output.reply, "rows", live_rows(frame))?;

@@ -1,8 +1,8 @@
 // Scripts, read as they are answered.
-ghost use Rattle.std.specs.Prelude.{◌≡◌, ℕ, List, [], ◌++◌, codes, IfOk, IfErr, IfSome, OnOk};
+ghost use Rattle.std.specs.Prelude.{◌≡◌, ℕ, List, [], ◌++◌, ◌≤◌, codes, IfOk, IfErr, IfSome, OnOk};
 ghost use Rattle.std.specs.Io.KnownBytes.{Appends};
 ghost use Rattle.far_shell.specs.Breaks.{Breaks, BreaksOff, IsBroken, Rejection};
-ghost use Rattle.far_shell.specs.Flow.{IsSpent, IsWhole, Prints, Reads, StartsWith};
+ghost use Rattle.far_shell.specs.Flow.{Gives, IsSpent, IsWhole, Prints, Reads};
 ghost use Rattle.far_shell.specs.Scripts.{Ends, IsOpenedBy, IsScript, Opens};
 
 use super::bounded::MAX_BYTES;
@@ -19,6 +19,9 @@ use far_types::{Refusal, Schema};
 use std::alloc::Global;
 use std::io::{Read, Write};
 
+/// More lines than a script can have: each takes a byte.
+const MAX_LINES: u32 = MAX_BYTES + 1;
+
 /// Answers the lines that follow the first command, up to the end of the script.
 fn serve_lines<R: Read + Drop, W: Write>(
     alloc: Global,
@@ -27,10 +30,12 @@ fn serve_lines<R: Read + Drop, W: Write>(
     output: &mut Output,
     writer: &mut W,
 ) -> Result<(), ShellFault>
+    requires first { progress.old.number ≡ 1 }
     ensures ok { OnOk result ((bytes : List ℕ) × (text : List ℕ) × Reads R.Read input.old bytes input.new × Prints (W.contents writer.old) output.old.page text (W.contents writer.new) output.new.page × Ends progress.old bytes text × IsSpent R.Read input.new) }
-    ensures err { IfErr result (λ fault. (bytes : List ℕ) × (rest : List ℕ) × (text : List ℕ) × StartsWith R.Read input.old bytes rest × Prints (W.contents writer.old) output.old.page text (W.contents writer.new) output.new.page × BreaksOff progress.old fault bytes text) }
+    ensures err { IfErr result (λ fault. (bytes : List ℕ) × (rest : List ℕ) × (text : List ℕ) × Gives R.Read fault input.old input.new bytes rest × Prints (W.contents writer.old) output.old.page text (W.contents writer.new) output.new.page × BreaksOff progress.old fault bytes text) }
+    ensures asked { input.new.source.reads ≤ input.old.source.reads }
 {
-    for _ in 0..=MAX_BYTES {
+    for turn in 0..MAX_LINES {
         match input.line(output, writer)? {
             Line::Whole(line) => answer_line(alloc, progress, line, input, output, writer)?,
             Line::Last(line) => {
@@ -85,9 +90,10 @@ fn open<R: Read + Drop, W: Write>(
     writer: &mut W,
 ) -> Result<Progress, ShellFault>
     ensures ok { IfOk result (λ progress. (bytes : List ℕ) × Reads R.Read input.old bytes input.new × Prints (W.contents writer.old) output.old.page (codes "ok\n") (W.contents writer.new) output.new.page × Opens bytes (IsSpent R.Read input.new) progress) }
-    ensures err { IfErr result (λ fault. (bytes : List ℕ) × (rest : List ℕ) × (text : List ℕ) × StartsWith R.Read input.old bytes rest × Prints (W.contents writer.old) output.old.page text (W.contents writer.new) output.new.page × IsBroken fault bytes rest text) }
+    ensures err { IfErr result (λ fault. (bytes : List ℕ) × (rest : List ℕ) × (text : List ℕ) × Gives R.Read fault input.old input.new bytes rest × Prints (W.contents writer.old) output.old.page text (W.contents writer.new) output.new.page × IsBroken fault bytes rest text) }
+    ensures asked { input.new.source.reads ≤ input.old.source.reads }
 {
-    for _ in 0..=MAX_BYTES {
+    for turn in 0..MAX_LINES {
         match input.line(output, writer)? {
             Line::Whole(line) => {
                 if !line.is_empty() {
@@ -110,18 +116,46 @@ fn open<R: Read + Drop, W: Write>(
 /// Opens the table of a script, and answers its commands.
 fn serve<R: Read + Drop, W: Write>(
     alloc: Global,
-    reader: R,
+    input: &mut Input<R>,
     output: &mut Output,
     writer: &mut W,
 ) -> Result<(), ShellFault>
     requires { output.old.page ≡ [] }
-    ensures ok { OnOk result ((script : List ℕ) × (text : List ℕ) × IsWhole (R.remaining reader) script × Prints (W.contents writer.old) [] text (W.contents writer.new) output.new.page × IsScript script text) }
-    ensures err { IfErr result (λ fault. (bytes : List ℕ) × (rest : List ℕ) × (text : List ℕ) × IfSome (R.remaining reader) (λ script. script ≡ bytes ++ rest) × Prints (W.contents writer.old) [] text (W.contents writer.new) output.new.page × IsBroken fault bytes rest text) }
+    ensures ok { OnOk result ((script : List ℕ) × (text : List ℕ) × Reads R.Read input.old script input.new × Prints (W.contents writer.old) [] text (W.contents writer.new) output.new.page × IsScript script text × IsSpent R.Read input.new) }
+    ensures err { IfErr result (λ fault. (bytes : List ℕ) × (rest : List ℕ) × (text : List ℕ) × Gives R.Read fault input.old input.new bytes rest × Prints (W.contents writer.old) [] text (W.contents writer.new) output.new.page × IsBroken fault bytes rest text) }
+    ensures asked { input.new.source.reads ≤ input.old.source.reads }
 {
-    let mut input = Input::new(alloc, reader)?;
-    let mut progress = open(alloc, &mut input, output, writer)?;
-    serve_lines(alloc, &mut progress, &mut input, output, writer)?;
+    let mut progress = open(alloc, input, output, writer)?;
+    serve_lines(alloc, &mut progress, input, output, writer)?;
     Ok(())
+}
+
+/// Runs a script that is lent: reads its commands and writes the replies, each before the reader is asked for more than was
+/// read.
+///
+/// The faults are those of `run_script`. What is left of the reads and bytes afterwards says how many were made: also of a
+/// reader whose bytes nobody knows, as standard input. At the fault `Input` all whole lines that came are answered.
+pub fn run_input<T: AllocGlobal, R: Read + Drop, W: Write>(
+    rt: &T,
+    input: &mut Input<R>,
+    writer: &mut W,
+) -> Result<(), ShellFault>
+    ensures ok { OnOk result ((script : List ℕ) × (text : List ℕ) × Reads R.Read input.old script input.new × IsSpent R.Read input.new × Appends (W.contents writer.old) (W.contents writer.new) text × IsScript script text) }
+    ensures err { IfErr result (λ fault. Breaks (Gives R.Read fault input.old input.new) (W.contents writer.old) (W.contents writer.new) fault) }
+    ensures asked { input.new.source.reads ≤ input.old.source.reads }
+{
+    let mut output = Output::new(rt.alloc());
+    let outcome = serve(rt.alloc(), input, &mut output, writer);
+    match outcome {
+        Ok(()) => {
+            output.flush(writer)?;
+            Ok(())
+        }
+        Err(fault) => {
+            output.flush(writer)?;
+            Err(fault)
+        }
+    }
 }
 
 /// Runs a script: reads its commands and writes the replies, each before the reader is asked for more than was read.
@@ -136,18 +170,9 @@ pub fn run_script<T: AllocGlobal, R: Read + Drop, W: Write>(
     writer: &mut W,
 ) -> Result<(), ShellFault>
     ensures ok { OnOk result ((script : List ℕ) × (text : List ℕ) × IsWhole (R.remaining reader) script × Appends (W.contents writer.old) (W.contents writer.new) text × IsScript script text) }
-    ensures err { IfErr result (λ fault. Breaks (R.remaining reader) (W.contents writer.old) (W.contents writer.new) fault) }
+    ensures err { IfErr result (λ fault. Breaks (λ bytes rest. IfSome (R.remaining reader) (λ script. script ≡ bytes ++ rest)) (W.contents writer.old) (W.contents writer.new) fault) }
 {
-    let mut output = Output::new(rt.alloc());
-    let outcome = serve(rt.alloc(), reader, &mut output, writer);
-    match outcome {
-        Ok(()) => {
-            output.flush(writer)?;
-            Ok(())
-        }
-        Err(fault) => {
-            output.flush(writer)?;
-            Err(fault)
-        }
-    }
+    let mut input = Input::new(rt.alloc(), reader)?;
+    run_input(rt, &mut input, writer)?;
+    Ok(())
 }

@@ -1,10 +1,11 @@
 // Lines as commands, and their answers.
-ghost use Rattle.std.specs.Prelude.{◌≡◌, ℕ, List, [], ◌++◌, IfErr, OnOk, IsUtf8, Some};
+ghost use Rattle.std.specs.Prelude.{◌≡◌, ℕ, List, [], ◌++◌, ◌≤◌, ◌<◌, IfErr, OnOk, IsUtf8, Some};
 ghost use Rattle.far_frame.specs.declared.step.Reply.{Reply};
 ghost use Rattle.far_frame.specs.Steps.{IsStep};
-ghost use Rattle.far_shell.specs.Breaks.{Lists, PrintsCut};
+ghost use Rattle.far_shell.specs.Breaks.{Fails, FailsBy, Lists, PrintsCut};
 ghost use Rattle.far_shell.specs.Commands.{command_of};
-ghost use Rattle.far_shell.specs.Flow.{Prints, Reads, Holds, spanned};
+ghost use Rattle.far_shell.specs.Faults.{IfInput};
+ghost use Rattle.far_shell.specs.Flow.{Prints, Reads, Stops, Holds, spanned};
 ghost use Rattle.far_shell.specs.Printing.{numbered_text};
 ghost use Rattle.far_shell.specs.Listings.{dump_text};
 ghost use Rattle.far_shell.specs.Replies.{Serves, ServesLine, Takes, reply_text};
@@ -59,6 +60,8 @@ fn answer_command<R: Read + Drop, W: Write>(
 ) -> Result<(), ShellFault>
     ensures ok { OnOk result ((rows : List ℕ) × (text : List ℕ) × Reads R.Read input.old rows input.new × Prints (W.contents writer.old) output.old.page text (W.contents writer.new) output.new.page × Serves world.old command rows text world.new) }
     ensures err { IfErr result (λ fault. PrintsCut fault (λ said. (command ≡ Command.Dump) × (said ≡ dump_text world.old.table)) (W.contents writer.old) output.old.page (W.contents writer.new) output.new.page) }
+    ensures stopped { IfErr result (λ fault. IfInput fault (Stops R.Read (λ behind. FailsBy (Some command) behind) input.old input.new)) }
+    ensures asked { input.new.source.reads ≤ input.old.source.reads }
 {
     match command {
         Command::Step(step) => {
@@ -93,6 +96,8 @@ fn answer_words<R: Read + Drop, W: Write>(
     ensures text { OnOk result (IsUtf8 (spanned R.Read input.old line)) }
     ensures ok { OnOk result ((rows : List ℕ) × (text : List ℕ) × Reads R.Read input.old rows input.new × Prints (W.contents writer.old) output.old.page text (W.contents writer.new) output.new.page × ServesLine number world.old (command_of world.old.table.schema (spanned R.Read input.old line)) rows text world.new) }
     ensures err { IfErr result (λ fault. PrintsCut fault (λ said. (command_of world.old.table.schema (spanned R.Read input.old line) ≡ Some Command.Dump) × (said ≡ dump_text world.old.table)) (W.contents writer.old) output.old.page (W.contents writer.new) output.new.page) }
+    ensures stopped { IfErr result (λ fault. IfInput fault (Stops R.Read (λ behind. Fails world.old.table.schema (spanned R.Read input.old line) behind) input.old input.new)) }
+    ensures asked { input.new.source.reads ≤ input.old.source.reads }
 {
     match parse(alloc, world.frame().schema().as_slice(), input.text(line)?)? {
         Some(command) => answer_command(alloc, world, command, input, output, writer),
@@ -114,22 +119,22 @@ pub fn answer_line<R: Read + Drop, W: Write>(
     output: &mut Output,
     writer: &mut W,
 ) -> Result<(), ShellFault>
-    requires { Holds R.Read input.old line }
+    requires held { Holds R.Read input.old line }
+    requires few { progress.old.number < 4294967295 }
     ensures ok { OnOk result ((rows : List ℕ) × (text : List ℕ) × Reads R.Read input.old rows input.new × Prints (W.contents writer.old) output.old.page text (W.contents writer.new) output.new.page × AnswersLine progress.old (spanned R.Read input.old line) rows text progress.new) }
     ensures err { IfErr result (λ fault. PrintsCut fault (λ said. Lists progress.old (spanned R.Read input.old line) said) (W.contents writer.old) output.old.page (W.contents writer.new) output.new.page) }
+    ensures stopped { IfErr result (λ fault. IfInput fault (Stops R.Read (λ behind. Fails progress.old.state.table.schema (spanned R.Read input.old line) behind) input.old input.new)) }
+    ensures asked { input.new.source.reads ≤ input.old.source.reads }
 {
     if line.is_empty() {
         return Ok(());
     }
-    let Some(number) = progress.number.checked_add(1) else {
-        return Err(ShellFault::Input);
-    };
-    progress.number = number;
+    progress.number += 1;
     answer_words(
         alloc,
         &mut progress.world,
         line,
-        number,
+        progress.number,
         input,
         output,
         writer,

@@ -1,7 +1,7 @@
 // What keeps bytes for a far store.
 ghost use Rattle.std.specs.Prelude.{◌≡◌, ℕ, List, [], IfOk, OnOk};
 
-use std::alloc::{AllocError, Global};
+use std::alloc::{AllocError, AllocFailed, Global};
 
 /// Why an engine did not serve a call.
 #[derive(Drop, Debug)]
@@ -14,6 +14,12 @@ pub enum Failure<E> {
 
 impl<E> From<AllocError> for Failure<E> {
     fn from(_: AllocError) -> Failure<E> {
+        Failure::NoMemory
+    }
+}
+
+impl<T: Drop, E> From<AllocFailed<T>> for Failure<E> {
+    fn from(_: AllocFailed<T>) -> Failure<E> {
         Failure::NoMemory
     }
 }

@@ -2,8 +2,10 @@
 ghost use Rattle.std.specs.Prelude.{◌≡◌, ◌+◌, ◌<◌, ◌^◌, IfOk};
 ghost use Rattle.far_store.specs.Faults.{faults_in};
 
+use crate::engine::logged;
 use crate::generic::{
-    FULL, answer_of_put, carry_over, gets_all, puts_all, reads, reads_alike, round_trip,
+    FULL, answer_of_put, answer_of_put_of, carry_over, gets_all, puts_all, reads, reads_alike,
+    round_trip,
 };
 use crate::shelf_store::ShelfStore;
 use far_store::{AgentStore, FarRead, FarStore, FarTickets, Meter};
@@ -60,6 +62,20 @@ fn draws_in_order<S: FarStore>(store: S, alloc: Global, count: u64) -> Result<bo
 fn numbers_are_drawn_from_0_up_to_the_capacity(rt: HostRuntime) -> Result<(), Fail> {
     let store = AgentStore::new(&rt, rt.alloc(), 100)?;
     assert!(rt; draws_in_order(store, rt.alloc(), 100)?);
+    Ok(())
+}
+
+// Whether so many puts of these bytes find the store full.
+fn stays_full<S: FarStore>(store: &S, alloc: Global, count: u32, bytes: &[u8]) -> bool {
+    (0..count).all(|_| answer_of_put_of(store, alloc, bytes) == FULL)
+}
+
+#[test]
+fn a_full_store_takes_no_memory_for_what_it_refuses(rt: HostRuntime) -> Result<(), Fail> {
+    let content = vec![in rt.alloc(); 0x61; 1 << 20]?;
+    let store = AgentStore::new(&rt, rt.alloc(), 0)?;
+    // A store that kept them would have 1,000 GiB then.
+    assert!(rt; stays_full(&store, rt.alloc(), 1_000_000, &content));
     Ok(())
 }
 
@@ -172,6 +188,9 @@ fn generic_callers_are_served_by_each_store(rt: HostRuntime) -> Result<(), Fail>
     let shelf = ShelfStore::new(rt.alloc(), 2)?;
     let agent = AgentStore::new(&rt, rt.alloc(), 8)?;
     assert!(rt; serve_callers(agent, shelf, rt.alloc())?);
+    let shelf = ShelfStore::new(rt.alloc(), 8)?;
+    assert!(rt; serve_callers(shelf, logged(&rt, 64, 2)?, rt.alloc())?);
+    assert!(rt; serve_callers(logged(&rt, 64, 8)?, logged(&rt, 3, 2)?, rt.alloc())?);
     Ok(())
 }
 
@@ -194,6 +213,8 @@ fn fills_by_four<R: Threads + Wait + Sync, S: FarStore>(
 #[test]
 fn four_threads_read_back_their_own(rt: HostRuntime) -> Result<(), Fail> {
     let store = AgentStore::new(&rt, rt.alloc(), 40_000)?;
+    assert!(rt; fills_by_four(&rt, store, rt.alloc())?);
+    let store = logged(&rt, 320_000, 40_000)?;
     assert!(rt; fills_by_four(&rt, store, rt.alloc())?);
     Ok(())
 }

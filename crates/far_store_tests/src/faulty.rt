@@ -1,6 +1,8 @@
 // When a planned fault comes: no clause can say it, since no clause knows what an atomic holds.
+use crate::engine::logged;
 use crate::generic::{
-    Answer, FAULT, NO_MEMORY, SERVED, Why, answer_of_get, answer_of_put, serves, why_not_put,
+    FAULT, Gets, NO_MEMORY, SERVED, Why, answer_of_put, answers_gets, answers_gets_of_one, serves,
+    why_not_put,
 };
 use crate::scarce_store::ScarceStore;
 use far_store::{AgentStore, FarRead, FarStore, FaultyStore, Meter};
@@ -37,33 +39,28 @@ fn the_planned_put_fails_once_and_its_repeat_is_served(rt: HostRuntime) -> Resul
             "failing {failing}"
         );
     }
+    let store = FaultyStore::new(logged(&rt, 8, 8)?, 2, 0);
+    assert!(rt; fails_in_put(store, rt.alloc(), 2));
     Ok(())
 }
 
-// What gets of the content `[1, 2]` are answered, one after another, and what each leaves in the buffer.
-type Gets<'a> = &'a [(Answer, &'a [u8])];
-
-// Whether the gets of a ticket are as wanted.
-fn answers_gets<S: FarRead>(store: &S, alloc: Global, ticket: &S::Ticket, wanted: Gets<'_>) -> bool
-    requires { S.is_of ticket.now (S.name store.now) }
-{
-    let mut buffer = Vec::new(alloc);
-    let mut all = true;
-    for (answer, left) in wanted {
-        all &= answer_of_get(store, alloc, ticket, &mut buffer) == *answer;
-        all &= buffer.as_slice() == *left;
-    }
-    all
+// Whether puts draw these numbers, one after another, and meet a fault where there is none.
+fn draws<S: FarStore>(store: S, alloc: Global, numbers: &[Option<u64>]) -> bool {
+    numbers.iter().all(|wanted| {
+        match store.put(alloc, &mut Meter::new(), &[1]) {
+            Ok(ticket) => *wanted == Some(store.number(&ticket)),
+            Err(refusal) => wanted.is_none() && refusal == Refusal::FarFault,
+        }
+    })
 }
 
-// Whether the gets of what a first put gave a ticket for are as wanted.
-fn answers_gets_of_one<S: FarStore>(
-    store: S,
-    alloc: Global,
-    wanted: Gets<'_>,
-) -> Result<bool, Refusal> {
-    let ticket = store.put(alloc, &mut Meter::new(), &[1, 2])?;
-    Ok(answers_gets(&store, alloc, &ticket, wanted))
+#[test]
+fn the_planned_put_does_not_reach_the_store_under_it(rt: HostRuntime) -> Result<(), Fail> {
+    const NUMBERS: &[Option<u64>] = &[Some(0), Some(1), None, Some(2), Some(3)];
+    assert!(rt; draws(faulty(&rt, 8, 3, 0)?, rt.alloc(), NUMBERS));
+    let store = FaultyStore::new(logged(&rt, 8, 8)?, 3, 0);
+    assert!(rt; draws(store, rt.alloc(), NUMBERS));
+    Ok(())
 }
 
 #[test]

@@ -1,4 +1,5 @@
 // What a gate does to a put, which no clause can say.
+use crate::engine::logged;
 use crate::generic::{Answer, FAULT, SERVED, answer_of_put, serves};
 use far_store::{AgentStore, FarStore, GateStore};
 use std::alloc::{AllocError, Global};
@@ -35,6 +36,8 @@ fn serves_the_released<R: Threads, S: FarStore>(
 #[test]
 fn a_held_put_goes_on_when_it_is_released(rt: HostRuntime) -> Result<(), Fail> {
     let store = GateStore::new(AgentStore::new(&rt, rt.alloc(), 8)?);
+    assert!(rt; serves_the_released(&rt, store, rt.alloc()));
+    let store = GateStore::new(logged(&rt, 8, 8)?);
     assert!(rt; serves_the_released(&rt, store, rt.alloc()));
     Ok(())
 }

@@ -19,9 +19,21 @@ pub const NO_MEMORY: Answer = (Some(Refusal::NoMemory), 0);
 
 // How one put is answered.
 pub fn answer_of_put<S: FarStore>(store: &S, alloc: Global) -> Answer {
+    answer_of_put_of(store, alloc, &[1])
+}
+
+// How the put of these bytes is answered.
+pub fn answer_of_put_of<S: FarStore>(store: &S, alloc: Global, bytes: &[u8]) -> Answer {
     let mut meter = Meter::new();
-    let answer = store.put(alloc, &mut meter, &[1]).err();
+    let answer = store.put(alloc, &mut meter, bytes).err();
     (answer, meter.faults())
+}
+
+// Whether puts are answered so, one after another.
+pub fn answers_puts<S: FarStore>(store: &S, alloc: Global, wanted: &[Answer]) -> bool {
+    wanted
+        .iter()
+        .all(|answer| answer_of_put(store, alloc) == *answer)
 }
 
 // Why a put was not accepted, in the three ways that there are.
@@ -55,6 +67,37 @@ pub fn answer_of_get<S: FarRead>(
     let mut meter = Meter::new();
     let answer = store.get(alloc, &mut meter, ticket, buffer).err();
     (answer, meter.faults())
+}
+
+// What gets of the content `[1, 2]` are answered, one after another, and what each leaves in the buffer.
+pub type Gets<'a> = &'a [(Answer, &'a [u8])];
+
+// Whether the gets of a ticket are as wanted.
+pub fn answers_gets<S: FarRead>(
+    store: &S,
+    alloc: Global,
+    ticket: &S::Ticket,
+    wanted: Gets<'_>,
+) -> bool
+    requires { S.is_of ticket.now (S.name store.now) }
+{
+    let mut buffer = Vec::new(alloc);
+    let mut all = true;
+    for (answer, left) in wanted {
+        all &= answer_of_get(store, alloc, ticket, &mut buffer) == *answer;
+        all &= buffer.as_slice() == *left;
+    }
+    all
+}
+
+// Whether the gets of what a first put gave a ticket for are as wanted.
+pub fn answers_gets_of_one<S: FarStore>(
+    store: S,
+    alloc: Global,
+    wanted: Gets<'_>,
+) -> Result<bool, Refusal> {
+    let ticket = store.put(alloc, &mut Meter::new(), &[1, 2])?;
+    Ok(answers_gets(&store, alloc, &ticket, wanted))
 }
 
 // Whether a get reads these bytes and meets no fault.

@@ -5,11 +5,15 @@
 #[cfg(test)]
 mod agent;
 #[cfg(test)]
+mod engine;
+#[cfg(test)]
 mod faulty;
 #[cfg(test)]
 mod gate;
 #[cfg(test)]
 mod generic;
+#[cfg(test)]
+mod planned_engine;
 #[cfg(test)]
 mod scarce_store;
 #[cfg(test)]

@@ -1,4 +1,4 @@
-// The example of docs/FAR_STORE.md: a store of one's own, in memory.
+// A store without an engine, as docs/FAR_STORE.md describes: a fixed number of places in memory.
 ghost use Rattle.std.specs.Prelude.{ℕ, List, ◌≡◌, ◌<◌, ⊤, map, length, slice_index, vec_len, IfOk};
 
 use boxcar::slot::{OnceSlot, SlotRule, Written};

@@ -83,14 +83,16 @@ impl<'a> LentRow<'a> {
         self.width += 1;
     }
 
-    /// Puts a cell in the place of that of a column. Where there is no such column nothing changes.
+    /// The row with another cell in a column. Where there is no such column it stays as it is.
     #[inline(always)]
-    pub fn set(&mut self, column: usize, cell: CellRef<'a>)
-        ensures { self.new ≡ slice_set self.old column (lent_cell cell.entry) }
+    pub fn with(self, column: usize, cell: CellRef<'a>) -> LentRow<'a>
+        ensures { result ≡ slice_set self.entry column (lent_cell cell.entry) }
     {
-        if column < self.width {
-            self.cells[column] = cell;
+        let mut row = self;
+        if column < row.width {
+            row.cells[column] = cell;
         }
+        row
     }
 }
 

@@ -10,6 +10,8 @@ mod clones;
 #[cfg(test)]
 mod filters;
 #[cfg(test)]
+mod lent;
+#[cfg(test)]
 mod limits;
 #[cfg(test)]
 mod refusals;

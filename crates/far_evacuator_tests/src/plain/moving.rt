@@ -45,8 +45,8 @@ impl<T: Copy + Drop + PartialEq> Plains<T> {
         let Some(job) = &mut self.evac else {
             return Err(Refusal::StaleJob);
         };
-        if job.list.is_some() {
-            job.ticket = Some(self.store.put()?);
+        if let Some(list) = &job.list {
+            job.ticket = Some(self.store.put(list.len())?);
         }
         self.carried = self.evac.take();
         Ok(())

@@ -35,7 +35,7 @@ impl<T: Copy + Drop + PartialEq> Plains<T> {
                 None
             } else {
                 self.store.get()?;
-                Some(store.put()?)
+                Some(store.put(object.list.len())?)
             };
             tickets.push(ticket)?;
         }

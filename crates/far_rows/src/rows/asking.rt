@@ -3,6 +3,7 @@ ghost use Rattle.std.specs.Prelude.{◌≡◌, length};
 ghost use Rattle.far_scopes.specs.Refusing.{refusal_in};
 ghost use Rattle.far_types.specs.declared.limits.Limits.{Limits};
 ghost use Rattle.far_rows.specs.Refusing.{push_refusal};
+ghost use Rattle.far_rows.specs.ByKind.{kinds_refusal};
 ghost use Rattle.far_rows.specs.Places.{AreOf};
 ghost use Rattle.far_rows.specs.Plain.{insert_refusal};
 
@@ -32,11 +33,11 @@ impl<S: FarTickets> Rows<S> {
         self.may_push_values(row)
     }
 
-    // Whether a row may be appended, as its columns tell it.
+    // Whether a row may be appended, asked of one kind of columns after the other.
     fn may_push_values(&self, row: &NewRow) -> Result<(), Refusal>
         requires numbers { length row.now.numbers ≡ length self.now.numbers }
         requires texts { length row.now.texts ≡ length self.now.texts }
-        ensures { refusal_in result ≡ push_refusal S.content self.now row.now }
+        ensures { refusal_in result ≡ kinds_refusal S.content self.now row.now }
     {
         // It tells that a table has at most 16 columns.
         let len = self.len();

@@ -10,7 +10,10 @@ ghost use Rattle.far_columns.specs.Together.{AreColumns, AreReplaced, all_begin 
 ghost use Rattle.far_columns.specs.RefusingTogether.{push_texts_refusal};
 ghost use Rattle.far_rows.specs.Slots.{row_of, with_row};
 ghost use Rattle.far_rows.specs.Rows.{cells_of, TextsMoved};
+ghost use Rattle.far_rows.specs.Places.{places_in};
 ghost use Rattle.far_rows.specs.Refusing.{push_refusal};
+ghost use Rattle.far_rows.specs.ByKind.{kinds_refusal};
+ghost use Rattle.far_rows.specs.Effects.{IsPushed, KeepsObjects};
 
 use super::Rows;
 use crate::new_row::NewRow;
@@ -106,6 +109,25 @@ impl<S: FarTickets> Rows<S> {
         requires numbers { length row.now.numbers ≡ length self.old.numbers }
         requires texts { length row.now.texts ≡ length self.old.texts }
         requires free { push_refusal S.content self.old row.now ≡ None }
+        requires few { length self.old.alive < 2 ^ 24 }
+        ensures pushed { OnOk result (IsPushed S.content self.old row.now self.new) }
+        ensures places { OnOk result (places_in S.content self.new ≡ places_in S.content self.old ++ record { cells = row_of self.old.slots row.now; alive = true } ∷ []) }
+        ensures kept { KeepsObjects S.is_of self.old self.new }
+        ensures memory { IfErr result (λ e. e ≡ Refusal.NoMemory) }
+        ensures err { OnErr result (self.new ≡ self.old) }
+    {
+        // They tell what rows are, and that no text is too long.
+        let _len = self.len();
+        let _texts = row.texts();
+        self.push_row(alloc, row)?;
+        Ok(())
+    }
+
+    // Appends a row that is asked of one kind of columns after the other.
+    fn push_row(&mut self, alloc: Global, row: &NewRow) -> Result<(), Refusal>
+        requires numbers { length row.now.numbers ≡ length self.old.numbers }
+        requires texts { length row.now.texts ≡ length self.old.texts }
+        requires free { kinds_refusal S.content self.old row.now ≡ None }
         requires few { length self.old.alive < 2 ^ 24 }
         ensures cells { OnOk result (cells_of S.content self.new ≡ with_row (cells_of S.content self.old) (row_of self.old.slots row.now)) }
         ensures alive { OnOk result (self.new.alive ≡ self.old.alive ++ true ∷ []) }

@@ -54,9 +54,9 @@ impl<S: FarTickets> Rows<S> {
     ///
     /// Refused with `NoColumn` (4) exactly where there is no such column, else with `NoRow` (8) exactly past the places, else
     /// with `Absent` (16) exactly where the object of the cell is away.
-    pub fn cell(&self, place: usize, column: usize) -> Result<CellRef<'_>, Refusal>
+    pub fn cell(&self, column: usize, place: usize) -> Result<CellRef<'_>, Refusal>
         ensures cell { IfOk result (λ cell. option_map (λ cells. slice_index_or cells place Missing) (slice_get (cells_of S.content self.now) column) ≡ Some (lent_cell cell)) }
-        ensures refused { refusal_in result ≡ cell_refusal self.now place column }
+        ensures refused { refusal_in result ≡ cell_refusal self.now column place }
     {
         let Some(slot) = self.slots.get(column) else {
             return Err(Refusal::NoColumn);

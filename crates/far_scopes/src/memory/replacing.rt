@@ -1,10 +1,10 @@
 // Several objects that get other lists together.
-ghost use Rattle.std.specs.Prelude.{◌≡◌, ◌≢◌, ◌⊎◌, ◌<◌, ◌-◌, ℕ, [], ◌∷◌, length, All, Some, None, IsSome, OnOk, OnErr, IfErr};
+ghost use Rattle.std.specs.Prelude.{◌≡◌, ◌≢◌, ◌⊎◌, ◌<◌, ◌-◌, ℕ, [], ◌∷◌, true, length, All, Some, None, IsSome, OnOk, OnErr, IfErr};
 ghost use Rattle.std.specs.Option.{option_or};
 ghost use Rattle.far_types.specs.FirstOf.{first_of};
 ghost use Rattle.far_scopes.specs.Memory.{place_of, list_in};
 ghost use Rattle.far_scopes.specs.Refusing.{refusal_in};
-ghost use Rattle.far_scopes.specs.Replacing.{AreListedOnce, ChangesLists, no_room_for_all, replaced_all, taken_over};
+ghost use Rattle.far_scopes.specs.Replacing.{AreListedOnce, ChangesLists, no_room_for_all, first_fits, replaced_all, taken_over};
 
 use super::{LocalMemory, at_of};
 use crate::replacement::Replacement;
@@ -28,6 +28,7 @@ impl<T: Elem> LocalMemory<T> {
         ensures lists { OnOk result (ChangesLists (list_in self.old) (list_in self.new) lists.now) }
         ensures free { OnOk result (option_or (first_of (no_room_for_all self.old.room lists.now ∷ [])) (refusal_in checked) ≡ None) }
         ensures refused { IfErr result (λ e. (option_or (first_of (no_room_for_all self.old.room lists.now ∷ [])) (refusal_in checked) ≡ Some e) ⊎ (e ≡ Refusal.NoMemory)) }
+        ensures memory { IfErr result (λ e. e ≡ Refusal.NoMemory → first_fits self.old.room lists.now ≡ true) }
         ensures err { OnErr result (self.new ≡ self.old) }
     {
         let Some((first, rest)) = lists.split_first() else {

@@ -1,9 +1,9 @@
 // Objects that get another list.
-ghost use Rattle.std.specs.Prelude.{◌≡◌, ℕ, ◌<◌, ◌⊎◌, List, [], ◌∷◌, length, map, All, Some, None, OnOk, OnErr, IfErr};
+ghost use Rattle.std.specs.Prelude.{◌≡◌, ℕ, ◌<◌, ◌⊎◌, List, [], ◌∷◌, true, length, map, All, Some, None, OnOk, OnErr, IfErr};
 ghost use Rattle.far_types.specs.FirstOf.{first_of};
 ghost use Rattle.far_scopes.specs.Memory.{ChangesList};
 ghost use Rattle.far_scopes.specs.Movement.{list_of, AreClean, AreHere, ChangesObject};
-ghost use Rattle.far_scopes.specs.Replacing.{AreListedOnce, ChangesLists, AreCleanBeside};
+ghost use Rattle.far_scopes.specs.Replacing.{AreListedOnce, ChangesLists, AreCleanBeside, first_fits};
 ghost use Rattle.far_scopes.specs.Refusing.{refusal_in, replace_refusal, write_refusal, first_absent, any_written_out, replace_all_refusal};
 ghost use Rattle.far_scopes.specs.Effects.{replaced, with_lens, written_all, replaced_all};
 
@@ -68,7 +68,8 @@ impl<T: Elem, S: FarTickets> Objects<T, S> {
     /// Refused with `Absent` (16) exactly where a listed object is away, naming the first such; else with `RegionFull`
     /// (17) where the new parts, placed one after the other, do not find room beside all that is there; else with
     /// `EditsUsedUp` (24) where some listed object was written as often as objects may be; and with `NoMemory` (1) where a
-    /// growth was refused, which may come before it is seen that 17 or 24 applies. Then nothing is changed.
+    /// growth was refused, which may come before it is seen that 17 or 24 applies, but only where the first new part finds
+    /// room. Then nothing is changed.
     pub fn replace_all(&mut self, lists: &[Replacement<T>]) -> Result<(), Refusal>
         requires some { All (λ r. 0 < length r.list.items) lists.now }
         requires within { All (λ r. r.object < length self.old.entries) lists.now }
@@ -80,6 +81,7 @@ impl<T: Elem, S: FarTickets> Objects<T, S> {
         ensures store { (name : List ℕ) → AreHere S.is_of name self.old → AreHere S.is_of name self.new }
         ensures free { OnOk result (replace_all_refusal self.old lists.now ≡ None) }
         ensures refused { IfErr result (λ e. (replace_all_refusal self.old lists.now ≡ Some e) ⊎ ((first_absent self.old (map (λ r. r.object) lists.now) ≡ None) × (e ≡ Refusal.NoMemory))) }
+        ensures memory { IfErr result (λ e. e ≡ Refusal.NoMemory → first_fits self.old.memory.room lists.now ≡ true) }
         ensures err { OnErr result (self.new ≡ self.old) }
     {
         self.all_here(lists)?;

@@ -1,4 +1,5 @@
 use Rattle.std.proofs.Common.{◌/◌, ap, sym, ◌∙◌, subst, Some}
+use Rattle.far_frame.specs.Changes.{alive_with}
 use Rattle.far_frame.specs.Coming.{added, EachFits}
 use Rattle.far_frame.specs.Until.{zip_all}
 use Rattle.far_frame.proofs.ComingLaws.{each-fits, came-may_back, came-undone}
@@ -7,14 +8,14 @@ use Rattle.far_frame.proofs.coming.come_in.Goals as goal
 pub add_all-requires-clause-fits : goal.add_all-requires-clause-fits
 add_all-requires-clause-fits c =
     subst (EachFits (c.args.place / c.args.size) c.args.slots.now) (sym (c.as_slice.ensures.value ∙ c.in_ok-comes.ensures.ok))
-    (each-fits c.args.size c.args.place (Some c.args.at.now) c.args.slots.now c.requires.folds c.requires.room)
+    (each-fits c.args.size c.args.place (Some (alive_with c.args.row.now)) c.args.slots.now c.requires.folds c.requires.room)
 
 pub returns-clause-may_back : goal.returns-clause-may_back
 returns-clause-may_back c =
-    came-may_back c.args.size c.args.place (Some c.args.at.now) c.args.slots.now c.add_all.new.slots c.in_ok-comes.comes.items c.in_ok-comes.ensures.ok
+    came-may_back c.args.size c.args.place (Some (alive_with c.args.row.now)) c.args.slots.now c.add_all.new.slots c.in_ok-comes.comes.items c.in_ok-comes.ensures.ok
     (c.in_ok-add_all.ensures.ok ∙ ap (zip_all (added (c.args.place / c.args.size)) c.args.slots.now) c.as_slice.ensures.value) c.requires.folds c.requires.room
 
 pub returns-clause-back : goal.returns-clause-back
 returns-clause-back c =
-    came-undone c.args.size c.args.place (Some c.args.at.now) c.args.slots.now c.add_all.new.slots c.in_ok-comes.comes.items c.in_ok-comes.ensures.ok
+    came-undone c.args.size c.args.place (Some (alive_with c.args.row.now)) c.args.slots.now c.add_all.new.slots c.in_ok-comes.comes.items c.in_ok-comes.ensures.ok
     (c.in_ok-add_all.ensures.ok ∙ ap (zip_all (added (c.args.place / c.args.size)) c.args.slots.now) c.as_slice.ensures.value) c.requires.folds c.requires.room

@@ -1,6 +1,7 @@
 use Rattle.std.proofs.Common.{sym, ap, ◌∙◌, subst, arith, map, true, Some, ◌/◌}
 use Rattle.far_types.specs.Table.{Place}
 use Rattle.far_frame.specs.Kept.{Keeps, registered_in}
+use Rattle.far_frame.specs.Changes.{alive_with}
 use Rattle.far_frame.specs.Coming.{come_of, added, back}
 use Rattle.far_frame.specs.Until.{zip_all}
 use Rattle.far_frame.proofs.EditLaws.{rows-fit, each-folds, after_insert, all-added_registered}
@@ -22,7 +23,7 @@ returns-in-Ok-clause-kept c =
     let p : Place = record { cells = c.args.row; alive = true } in
     after_insert c.args.size c.len-place.result ps c.push.new.self.places p c.make_rooms.new.slots c.come_in.new.slots c.len-place.ensures.len c.in-Ok.ensures.places c.requires.size
     (c.make_rooms.ensures.kept c.args.size ps c.requires.kept) c.make_rooms.ensures.room
-    (c.in_ok-comes.ensures.ok ∙ ap (λ q. zip_all (added (c.len-place.result / c.args.size)) c.make_rooms.new.slots (map (come_of c.args.size c.len-place.result (Some q)) c.make_rooms.new.slots)) c.inserted.ensures)
+    (c.in_ok-comes.ensures.ok ∙ ap (λ q. zip_all (added (c.len-place.result / c.args.size)) c.make_rooms.new.slots (map (come_of c.args.size c.len-place.result (Some (alive_with q))) c.make_rooms.new.slots)) c.of_row.ensures)
 
 pub returns-in-Ok-clause-registered : goal.returns-in-Ok-clause-registered
 returns-in-Ok-clause-registered c =

@@ -1,5 +1,5 @@
 use Rattle.std.proofs.Common.{◌∙◌, sym, ap, option_map}
-use Rattle.far_frame.specs.Columns.{lent_cell}
+use Rattle.far_types.specs.Lent.{lent_cell}
 use Rattle.far_shell.proofs.RowLaws.{cell-at, field-more, fields-end}
 use Rattle.far_shell.proofs.listing.more_fields.Goals as goal
 

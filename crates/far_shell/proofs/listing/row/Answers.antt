@@ -1,5 +1,5 @@
 use Rattle.std.proofs.Common.{◌∙◌, sym, ap, option_map, is_none}
-use Rattle.far_frame.specs.Columns.{lent_cell}
+use Rattle.far_types.specs.Lent.{lent_cell}
 use Rattle.far_shell.proofs.RowLaws.{cell-at, row-none, row-some, none-mapped, none-told}
 use Rattle.far_shell.proofs.listing.row.Goals.{in-None+in_ok-text-in-None, in-Some+in_ok-cell-in-Some+in_ok-more_fields-in-Some}
 use Rattle.far_shell.proofs.listing.row.Goals as goal

@@ -1,5 +1,5 @@
 use Rattle.std.proofs.lemmas.List.{map-set}
-use Rattle.far_frame.specs.Columns.{int_cell, text_cell}
+use Rattle.far_types.specs.Lent.{int_cell, text_cell}
 use Rattle.far_frame.proofs.column.Column.set.Goals as goal
 
 pub returns-in-Ints-clause-cells : goal.returns-in-Ints-clause-cells

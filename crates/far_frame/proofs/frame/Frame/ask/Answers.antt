@@ -3,7 +3,8 @@ use Rattle.std.proofs.lemmas.Result.{IfErr-weaker, IfOk-weaker}
 use Rattle.far_types.specs.Table.{answer_now}
 use Rattle.far_frame.specs.Kept.{KeepsSlot}
 use Rattle.far_frame.specs.Aggregates.{joined, aggregate_at, ask_refusal}
-use Rattle.far_frame.specs.Steps.{answer_reply, MayRefuse}
+use Rattle.far_types.specs.MayRefuse.{MayRefuse}
+use Rattle.far_frame.specs.Steps.{answer_reply}
 use Rattle.far_frame.specs.declared.step.Reply.TheVariants as reply
 use Rattle.far_frame.proofs.AskLaws.{seen, at_number, all-joined, ask-built}
 use Rattle.far_frame.proofs.frame.Frame.ask.Goals as goal

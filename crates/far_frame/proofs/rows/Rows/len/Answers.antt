@@ -13,4 +13,4 @@ pub returns-clause-rows : goal.returns-clause-rows
 returns-clause-rows c =
     let columns = c.self.inside.columns.items in
     let flags = c.self.inside.alive.items in
-    subst AreRows c.self.view_is (places-rows (IsRow (map kind_in columns)) (map cells_in columns) flags (λ p. row-is_row columns (length flags) p c.self.invariant))
+    subst AreRows c.self.view_is (places-rows (IsRow (map kind_in columns)) (map cells_in columns) flags (λ p. row-is_row columns (length flags) p c.self.invariant.0))

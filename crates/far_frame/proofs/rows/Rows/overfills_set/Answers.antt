@@ -19,7 +19,7 @@ overfills-requires-clause-place c =
     let lookup = c.in-Some.ensures.lookup in
     let within : c.args.column < length columns = omega (arith, lookup.3.0, ap length c.deref.ensures.value) in
     let is : column ≡ get_or columns c.args.column column = lookup.1 ∙ ap (λ (cs : List Column). get_or cs c.args.column column) c.deref.ensures.value in
-    omega (arith, count-places columns alive c.args.self.now c.self.view_is, ap length (cells-at columns c.args.column column within is), count-cells columns (length alive) c.args.column within c.self.invariant)
+    omega (arith, count-places columns alive c.args.self.now c.self.view_is, ap length (cells-at columns c.args.column column within is), count-cells columns (length alive) c.args.column within c.self.invariant.0)
 
 pub returns-in-Some : goal.returns-in-Some
 returns-in-Some c =
@@ -32,7 +32,7 @@ returns-in-Some c =
     let is : column ≡ get_or columns c.args.column column = lookup.1 ∙ ap (λ (cs : List Column). get_or cs c.args.column column) c.deref.ensures.value in
     let place : c.args.place < length alive = omega (arith, count-places columns alive c.args.self.now c.self.view_is) in
     c.overfills.ensures
-    ∙ sym (overfills-set columns alive limits c.args.place c.args.column c.args.cell.now column within is place c.self.invariant)
+    ∙ sym (overfills-set columns alive limits c.args.place c.args.column c.args.cell.now column within is place c.self.invariant.0)
     ∙ ap (λ (rows : TableRows). overfills rows.kinds limits (Set c.args.place c.args.column c.args.cell.now) rows.places) c.self.view_is
 
 pub returns-in-None : goal.returns-in-None

@@ -24,13 +24,15 @@ invariant_of-self-2 c =
     let columns = map cells_in c.self.inside.columns.items in
     let alive = c.self.inside.alive.items in
     let more : length alive + 1 ≡ length c.push.new.self.items = sym (ap length (flags c) ∙ length_push alive true) in
-    let full : All (IsFull (length c.push.new.self.items)) (pushed columns c.args.row) = full-push columns c.args.row (length alive) (length c.push.new.self.items) more (width c) c.into_cells.ensures.fit c.self.invariant in
-    subst (λ (cs : List (List Cell)). All (IsFull (length c.push.new.self.items)) cs) (sym (cells c)) full
+    let full : All (IsFull (length c.push.new.self.items)) (pushed columns c.args.row) = full-push columns c.args.row (length alive) (length c.push.new.self.items) more (width c) c.into_cells.ensures.fit c.self.invariant.0 in (
+      subst (λ (cs : List (List Cell)). All (IsFull (length c.push.new.self.items)) cs) (sym (cells c)) full,
+      omega (arith, c.self.invariant.1, length-map c.self.inside.columns.items kind_in, length-map c.push_all.new.columns.items kind_in, ap length c.push_all.ensures.kinds, ap length c.reserve_all.ensures.kinds),
+    )
 
 pub returns-clause-places : goal.returns-clause-places
 returns-clause-places c =
     let columns = map cells_in c.self.inside.columns.items in
     let alive = c.self.inside.alive.items in
     (λ i. places_of (cells c i) (flags c i))
-    ∙ places-push columns c.args.row alive true (as-long columns (length alive) c.self.invariant) (width c)
+    ∙ places-push columns c.args.row alive true (as-long columns (length alive) c.self.invariant.0) (width c)
     ∙ ap (λ (rows : TableRows). rows.places ++ record { cells = c.args.row; alive = true } ∷ []) c.self.view_is

@@ -1,6 +1,6 @@
 use Rattle.std.proofs.Common.{◌<◌, List, [], length, map, get_or, set, ap, subst, sym, ◌∙◌, arith, slice_get}
 use Rattle.std.specs.List.{All}
-use Rattle.std.proofs.lemmas.List.{length-map}
+use Rattle.std.proofs.lemmas.List.{length-map, length-set}
 use Rattle.far_types.specs.declared.cell.Cell.{Cell}
 use Rattle.far_types.specs.Cells.{is_of_kind}
 use Rattle.far_types.specs.Edits.{changed_at, with_cell, is_of_other_kind}
@@ -21,7 +21,7 @@ set-requires-clause-within c =
       arith,
       count-places columns alive c.args.self.now c.self.view_is,
       ap length (cells-at columns c.args.column c.index_mut.result.now column c.index_mut.ensures.value),
-      count-cells columns (length alive) c.args.column column c.self.invariant,
+      count-cells columns (length alive) c.args.column column c.self.invariant.0,
     )
 
 pub set-requires-clause-of_kind : goal.set-requires-clause-of_kind
@@ -39,9 +39,11 @@ invariant_of-self c =
     let columns = c.self.inside.columns.items in
     let alive = c.self.inside.alive.items in
     let within : c.args.column < length columns = omega (arith, count-columns columns alive c.args.self.now c.self.view_is) in
-    let written = cells-written columns c.args.column c.args.place c.index_mut.result.now c.set.new.self c.args.cell within c.index_mut.ensures.value c.set.ensures.cells in
-    subst (λ (cs : List (List Cell)). All (IsFull (length alive)) cs) (sym written)
-    (full-set (map cells_in columns) (length alive) c.args.column c.args.place c.args.cell (omega (arith, length-map columns cells_in)) c.set.ensures.fits c.self.invariant)
+    let written = cells-written columns c.args.column c.args.place c.index_mut.result.now c.set.new.self c.args.cell within c.index_mut.ensures.value c.set.ensures.cells in (
+      subst (λ (cs : List (List Cell)). All (IsFull (length alive)) cs) (sym written)
+          (full-set (map cells_in columns) (length alive) c.args.column c.args.place c.args.cell (omega (arith, length-map columns cells_in)) c.set.ensures.fits c.self.invariant.0),
+      omega (arith, c.self.invariant.1, length-set columns c.args.column c.set.new.self),
+    )
 
 pub returns-clause-kinds : goal.returns-clause-kinds
 returns-clause-kinds c =
@@ -53,7 +55,7 @@ returns-clause-places c =
     let columns = c.self.inside.columns.items in
     let alive = c.self.inside.alive.items in
     let within : c.args.column < length columns = omega (arith, count-columns columns alive c.args.self.now c.self.view_is) in
-    let place : c.args.place < length (get_or (map cells_in columns) c.args.column []) = omega (arith, count-places columns alive c.args.self.now c.self.view_is, count-cells columns (length alive) c.args.column within c.self.invariant) in
+    let place : c.args.place < length (get_or (map cells_in columns) c.args.column []) = omega (arith, count-places columns alive c.args.self.now c.self.view_is, count-cells columns (length alive) c.args.column within c.self.invariant.0) in
     ap (λ (cs : List (List Cell)). places_of cs alive) (cells-written columns c.args.column c.args.place c.index_mut.result.now c.set.new.self c.args.cell within c.index_mut.ensures.value c.set.ensures.cells)
     ∙ places-set (map cells_in columns) alive c.args.column c.args.place c.args.cell place
     ∙ ap (λ (rows : TableRows). changed_at (with_cell c.args.column c.args.cell) c.args.place rows.places) c.self.view_is

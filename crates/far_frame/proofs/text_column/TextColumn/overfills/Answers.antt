@@ -2,7 +2,8 @@ use Rattle.std.proofs.Common.{◌/◌, nat_lt, map, sym, ap, ◌∙◌}
 use Rattle.far_types.specs.Cells.{text_in}
 use Rattle.far_types.specs.FormLengths.{texts_length}
 use Rattle.far_types.specs.Table.{in_group}
-use Rattle.far_frame.specs.Columns.{put, text_cell}
+use Rattle.far_types.specs.Lent.{text_cell}
+use Rattle.far_frame.specs.Columns.{put}
 use Rattle.far_frame.specs.Fills.{Texts, put_text}
 use Rattle.far_frame.proofs.FillLaws.{put-texts}
 use Rattle.far_frame.proofs.text_column.TextColumn.overfills.Goals as goal

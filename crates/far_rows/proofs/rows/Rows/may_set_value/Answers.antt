@@ -20,7 +20,7 @@ pub returns-in_err-here : goal.returns-in_err-here
 returns-in_err-here g c =
     let r = c.args.self.now in
     let p = err_from_is_err_and c.from_residual.result c.from_residual.ensures.1 in
-    let later = option_and_then (λ s. value_refusal g.S.FarTickets.content r c.args.place s c.args.value.now) (slice_get r.slots c.args.column) in
+    let later = option_and_then (λ s. value_refusal g.S.FarTickets.content r s c.args.place c.args.value.now) (slice_get r.slots c.args.column) in
     let due : Some c.in_err-here.field-0.0 ≡ first_of (absents r (c.args.place / r.size)) = c.in_err-here.ensures ∙ ap (λ rows. first_of (absents r (c.args.place / rows.size))) c.self.view_is in
     rw (p.1, p.2) (ap (λ o. option_or o later) due)
 
@@ -41,8 +41,8 @@ returns-in-Number-Number g c =
     c.may_set.ensures
     ∙ ap (λ rows. number_refusal rows.number_objects v c.args.place) c.self.view_is
     ∙ sym (ap (option_and_then refused) column)
-    ∙ sym (ap (option_and_then (λ t. value_refusal content r c.args.place t c.args.value.now)) at)
-    ∙ sym (ap (λ o. option_or o (option_and_then (λ t. value_refusal content r c.args.place t c.args.value.now) (slice_get r.slots c.args.column))) here)
+    ∙ sym (ap (option_and_then (λ t. value_refusal content r t c.args.place c.args.value.now)) at)
+    ∙ sym (ap (λ o. option_or o (option_and_then (λ t. value_refusal content r t c.args.place c.args.value.now) (slice_get r.slots c.args.column))) here)
 
 pub may_set-requires-in-Text-Text-after_bounds : goal.may_set-requires-in-Text-Text-after_bounds
 may_set-requires-in-Text-Text-after_bounds g c κs bounds =
@@ -72,6 +72,6 @@ returns-in-Text-Text g c =
     c.may_set-in-Text-Text.ensures
     ∙ ap (λ rows. text_refusal content rows.text_objects v c.args.place c.in-Text-Text.text) c.self.view_is
     ∙ sym (ap (option_and_then refused) column)
-    ∙ ap (value_refusal content r c.args.place s) (sym c.in-Text-Text.is-1)
-    ∙ sym (ap (option_and_then (λ t. value_refusal content r c.args.place t c.args.value.now)) at)
-    ∙ sym (ap (λ o. option_or o (option_and_then (λ t. value_refusal content r c.args.place t c.args.value.now) (slice_get r.slots c.args.column))) here)
+    ∙ ap (value_refusal content r s c.args.place) (sym c.in-Text-Text.is-1)
+    ∙ sym (ap (option_and_then (λ t. value_refusal content r t c.args.place c.args.value.now)) at)
+    ∙ sym (ap (λ o. option_or o (option_and_then (λ t. value_refusal content r t c.args.place c.args.value.now) (slice_get r.slots c.args.column))) here)

@@ -87,7 +87,7 @@ returns-clause-moved g c =
       text_objects = c.self.inside.text_objects;
       alive = c.self.inside.alive;
     })
-    ∙ ap (λ r. set_in g.S.FarTickets.content r place (slot.Number c.args.i) (new.Number c.args.number)) c.self.view_is
+    ∙ ap (λ r. set_in g.S.FarTickets.content r (slot.Number c.args.i) place (new.Number c.args.number)) c.self.view_is
 
 pub returns-clause-numbers : goal.returns-clause-numbers
 returns-clause-numbers g c =

@@ -82,7 +82,7 @@ returns-clause-moved g c =
       text_objects = written j;
       alive = c.self.inside.alive;
     })
-    ∙ ap (λ r. set_in content r c.args.place (slot.Text c.args.i) (new.Text c.args.text.now)) c.self.view_is)
+    ∙ ap (λ r. set_in content r (slot.Text c.args.i) c.args.place (new.Text c.args.text.now)) c.self.view_is)
 
 pub returns-clause-texts : goal.returns-clause-texts
 returns-clause-texts g c =

@@ -1,20 +1,26 @@
-use Rattle.std.proofs.Common.{◌≡◌, ◌⊎◌, inl, inr, [], ◌∷◌, length, map, None, Some, sym, ap, subst, ◌∙◌}
+use Rattle.std.proofs.Common.{◌≡◌, ◌⊎◌, inl, inr, [], ◌∷◌, length, map, true, None, Some, sym, ap, subst, ◌∙◌}
 use Rattle.std.proofs.lemmas.List.{with_items_is}
 use Rattle.std.specs.Option.{option_or}
 use Rattle.far_types.specs.declared.refusal.Refusal.TheVariants.{NoMemory}
 use Rattle.far_types.specs.FirstOf.{first_of}
 use Rattle.far_scopes.specs.Movement.{AreClean, AreHere}
 use Rattle.far_scopes.specs.Refusing.{refusal_in, first_absent, any_written_out, replace_all_refusal}
-use Rattle.far_scopes.specs.Replacing.{no_room_for_all}
+use Rattle.far_scopes.specs.Replacing.{no_room_for_all, first_fits}
 use Rattle.far_scopes.specs.Effects.{with_lens}
 use Rattle.far_scopes.proofs.Framing.{here-replaced_all}
 use Rattle.far_scopes.proofs.Relisted.{length-lens}
-use Rattle.far_scopes.proofs.RefusedAll.{all-placed, refusal-is, checked-free, err-handed}
+use Rattle.far_scopes.proofs.RefusedAll.{all-placed, refusal-is, checked-free, err-handed, absent-no-memory}
 use Rattle.far_scopes.proofs.ReplacedAll.{tracked-mid, lists-new, clean-mid, free-mid}
 use Rattle.far_scopes.proofs.objects.Objects.replace_all.Goals as goal
 
 pub replace_all-requires-clause-local : goal.replace_all-requires-clause-local
 replace_all-requires-clause-local g c κs within = rw (← c.self.view_is) at (all-placed c.args.self.now c.args.lists.now (sym c.in_ok-all_here.ensures))
+
+pub returns-in_err-all_here-clause-memory : goal.returns-in_err-all_here-clause-memory
+returns-in_err-all_here-clause-memory g c =
+    err-handed c.from_residual.result c.in_err-all_here.field-0.0 (λ e. e ≡ NoMemory → first_fits c.args.self.now.memory.room c.args.lists.now ≡ true)
+    (λ memory. absurd (absent-no-memory c.args.self.now (map (λ r. r.object) c.args.lists.now) c.in_err-all_here.field-0.0 (sym c.in_err-all_here.ensures) memory))
+    c.from_residual.ensures.1
 
 pub returns-in_err-replace_all-clause-clean : goal.returns-in_err-replace_all-clause-clean
 returns-in_err-replace_all-clause-clean g c = rw (← c.self.view_is, c.in_err-replace_all.ensures.err) (λ clean. clean)

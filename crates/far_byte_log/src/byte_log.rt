@@ -1,0 +1,164 @@
+// A log of bytes.
+ghost use Rattle.std.specs.Prelude.{◌≡◌, ◌≤◌, ◌+◌, ◌<◌, ℕ, ⊤, Some, map, length, slice_get, IfOk, IfSome};
+
+use boxcar::slot::{OnceSlot, SlotRule, Written};
+use boxcar::tag::Tag;
+use far_store::{Engine, Failure};
+use std::alloc::{AllocError, Global};
+use std::marker::Model;
+use std::sync::atomic::{AtomicUsize, Ordering};
+
+/// A log of bytes in memory, in which each write lies behind the one before. Contracts see the names of its slots, one
+/// for each byte that it can hold.
+///
+/// A write takes its slots in one atomic step and then fills them, so threads share the log with no lock. A write that does
+/// not fit fails with [`LogFull`] and takes none. Reading never fails but for want of memory.
+#[derive(Drop)]
+pub struct ByteLog {
+    slots: Vec<OnceSlot<u8, AnyByte>>,
+    used: AtomicUsize,
+}
+
+impl Model for ByteLog {
+    ghost use Rattle.std.specs.Prelude.{ℕ, List, map};
+    ghost use base.Stored.{coded_ℕ, coded_list};
+
+    ghost Value = { List ℕ };
+
+    ghost coded = { coded_list coded_ℕ };
+
+    ghost view = { λ log. map (λ slot. slot.id) log.slots.items };
+}
+
+/// Where a write lies in a log, and what shows each of its bytes. What shows them has no bytes at run time.
+#[derive(Drop)]
+pub struct Extent {
+    offset: usize,
+    written: Vec<Written<u8>>,
+}
+
+/// The log has no room for so many bytes.
+#[derive(Drop, Debug)]
+pub struct LogFull;
+
+// A slot takes any byte.
+pub struct AnyByte;
+
+impl SlotRule<u8> for AnyByte {
+    ghost holds = { λ _ _. ⊤ };
+}
+
+impl ByteLog {
+    /// An empty log for so many bytes. Refused for want of memory alone.
+    pub fn new(alloc: Global, size: usize) -> Result<ByteLog, AllocError>
+        ensures { IfOk result (λ log. length log ≡ size) }
+    {
+        let mut slots = Vec::new(alloc);
+        slots.resize_with(size, || OnceSlot::new(&Tag::empty()))?;
+        Ok(ByteLog {
+            slots,
+            used: AtomicUsize::new(0),
+        })
+    }
+
+    /// How many bytes the log can hold. Takes no memory.
+    pub fn size(&self) -> usize
+        ensures { result ≡ length self.now }
+    {
+        self.slots.len()
+    }
+
+    /// How many bytes are in use, those of a write that is under way among them. Takes no memory.
+    pub fn used(&self) -> usize {
+        self.used.load(Ordering::SeqCst)
+    }
+
+    // Takes so many slots, if they are left, and gives the place of the first.
+    fn take(&self, count: usize) -> Option<usize>
+        ensures { IfSome result (λ offset. offset + count ≤ length self.now) }
+    {
+        let size = self.size();
+        let offset = self
+            .used
+            .fetch_update(Ordering::SeqCst, Ordering::SeqCst, |used| {
+                end_of(used, count, size)
+            })
+            .ok()?;
+        end_of(offset, count, size)?;
+        Some(offset)
+    }
+
+    fn write_at(&self, at: usize, byte: u8) -> Result<Written<u8>, Failure<LogFull>>
+        requires { at < length self.now }
+        ensures here { IfOk result (λ token. slice_get self.now at ≡ Some token.of) }
+        ensures byte { IfOk result (λ token. token.value ≡ byte) }
+    {
+        match self.slots[at].set_written(byte) {
+            Ok(token) => Ok(token),
+            // No slot is taken twice, so this never comes.
+            Err(_) => Err(Failure::Engine(LogFull)),
+        }
+    }
+
+    fn byte_at(&self, at: usize, token: &Written<u8>) -> u8
+        requires { slice_get self.now at ≡ Some token.now.of }
+        ensures { result ≡ token.now.value }
+    {
+        *self.slots[at].value(token)
+    }
+}
+
+// Where so many slots from an offset on end, if that is within the log.
+fn end_of(offset: usize, count: usize, size: usize) -> Option<usize>
+    ensures { IfSome result (λ end. (end ≡ offset + count) × (end ≤ size)) }
+{
+    offset.checked_add(count).filter(|end| *end <= size)
+}
+
+// The n-th of a list of any type. What the compiler knows to have no bytes, as a token, it does not index.
+fn nth<T>(list: &Vec<T>, n: usize) -> &T
+    requires { n < length list.now.items }
+    ensures { slice_get list.now.items n ≡ Some result.now }
+{
+    &list[n]
+}
+
+impl Engine for ByteLog {
+    type Key = Extent;
+
+    type Error = LogFull;
+
+    ghost written = { λ key. map (λ token. token.value) key.written.items };
+
+    ghost name = { λ log. log };
+
+    ghost is_of = { λ key name. (i : ℕ) → IfSome (slice_get key.written.items i) (λ token. slice_get name (key.offset + i) ≡ Some token.of) };
+
+    fn write(&self, alloc: Global, bytes: &[u8]) -> Result<Extent, Failure<LogFull>> {
+        let mut written = Vec::with_capacity(alloc, bytes.len())?;
+        let Some(offset) = self.take(bytes.len()) else {
+            return Err(Failure::Engine(LogFull));
+        };
+        // For the proof: the place of a slot is a `usize`.
+        let _size = self.size();
+        for (i, byte) in bytes.iter().enumerate() {
+            written.push(self.write_at(offset + i, *byte)?)?;
+        }
+        Ok(Extent { offset, written })
+    }
+
+    fn read(
+        &self,
+        _alloc: Global,
+        key: &Extent,
+        buffer: &mut Vec<u8>,
+    ) -> Result<(), Failure<LogFull>> {
+        // For the proof: the place of a slot is a `usize`.
+        let _size = self.size();
+        for i in 0..key.written.len() {
+            let token = nth(&key.written, i);
+            buffer.push(self.byte_at(key.offset + i, token))?;
+        }
+        Ok(())
+    }
+}

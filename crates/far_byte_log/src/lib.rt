@@ -1,0 +1,8 @@
+#![tactic(auto)]
+//! An engine for a far store, as an example of one: a log of bytes in memory.
+//!
+//! [`ByteLog`] is to [`far_store::EngineStore`] what a file or a server would be. docs/FAR_STORE.md goes through it.
+
+mod byte_log;
+
+pub use byte_log::{ByteLog, Extent, LogFull};

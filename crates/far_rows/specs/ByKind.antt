@@ -1,0 +1,16 @@
+-- internal: why a row may not be appended, asked of one kind of columns after the other.
+use Rattle.std.specs.Prelude.{ℕ, ◌/◌, List, length, Option}
+use Rattle.std.specs.Option.{option_or}
+use Rattle.far_types.specs.declared.refusal.Refusal.{Refusal}
+use Rattle.far_types.specs.FirstOf.{first_of}
+use Rattle.far_columns.specs.NumbersTogether.{push_numbers_refusal}
+use Rattle.far_columns.specs.RefusingTogether.{push_texts_refusal}
+use Rattle.far_rows.specs.Slots.{Values}
+use Rattle.far_rows.specs.Rows.{Rows}
+use Rattle.far_rows.specs.Refusing.{absents}
+
+-- the object of some column in the row group of the next place is away; else as the columns of texts are refused, and else
+-- as those of numbers
+abbrev pub kinds_refusal : {K : Type 0} → (K → List ℕ) → Rows K → Values → Option Refusal
+kinds_refusal content r values =
+    option_or (first_of (absents r (length r.alive / r.size))) (option_or (push_texts_refusal content r.text_objects r.texts values.texts) (push_numbers_refusal r.number_objects r.numbers))

@@ -1,0 +1,15 @@
+// What is known of objects together.
+ghost use Rattle.std.specs.Prelude.{◌≡◌, ℕ, List, false, Some, IsSomeAnd};
+ghost use Rattle.far_codec.specs.Spelling.{IsSpelled};
+ghost use Rattle.far_scopes.specs.Memory.{list_in};
+ghost use Rattle.far_scopes.specs.Movement.{Movement, AreTracked, AreClean, dirty, ticket_of};
+
+use far_codec::Elem;
+use far_store::FarTickets;
+
+/// A local object that is clean has a ticket whose content is the far form of the object's list.
+///
+/// `Objects::number` tells that objects are tracked, and every call that changes them that they stay clean (`clean`).
+pub fn clean_objects_have_copies<T: Elem, S: FarTickets>()
+    ensures { (m : Movement T S.Ticket) → (o : ℕ) → (list : List T) → AreTracked T.meaning S.content (IsSpelled T.in_range T.has_spelling T.spelling) m → AreClean T.meaning S.content m → dirty m o ≡ false → list_in m.memory o ≡ Some list → IsSomeAnd (ticket_of m o) (λ ticket. IsSpelled T.in_range T.has_spelling T.spelling list (S.content ticket)) }
+{}
