@@ -4,9 +4,9 @@ ghost use Rattle.far_types.specs.declared.cell.Kind.TheVariants.{Int, Text as Te
 ghost use Rattle.far_types.specs.Cells.{is_of_kind};
 ghost use Rattle.far_types.specs.Edits.{kinds_fit};
 
-use far_frame::{CellRef, Rows};
+use far_frame::Rows;
 use far_types::{
-    Cell, Filter, Fold, Key, Kind, Limits, Op, Refusal, Row, Schema, Spec, Test, Text,
+    Cell, CellRef, Filter, Fold, Key, Kind, Limits, Op, Refusal, Row, Schema, Spec, Test, Text,
 };
 use std::alloc::Global;
 use std::test::Fail;
