@@ -10,6 +10,7 @@ ghost use Rattle.far_rows.specs.Opening.{empty_rows};
 
 mod asking;
 mod compacting;
+mod grouping;
 mod jobs;
 mod lending;
 mod moving;

@@ -6,6 +6,8 @@ mod filling;
 #[cfg(test)]
 mod fixture;
 #[cfg(test)]
+mod grouping;
+#[cfg(test)]
 mod moving;
 #[cfg(test)]
 mod opening;
