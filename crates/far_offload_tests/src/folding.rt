@@ -18,16 +18,16 @@ fn by_column(alloc: Global, fold: Fold, key: u32, test: Test) -> Result<Spec, Re
 }
 
 /// The answer of a partial aggregate.
-fn lines(alloc: Global, done: &PartialDone) -> Result<Answer, Refusal> {
+pub fn lines(alloc: Global, done: &PartialDone) -> Result<Answer, Refusal> {
     match done {
         PartialDone::Totals(live) => live.answer(alloc),
         PartialDone::Extrema(seen) => seen.answer(alloc),
     }
 }
 
-static NUMBERS: [Option<i64>; 6] = [Some(3), Some(4), None, Some(5), Some(7), Some(9)];
+pub static NUMBERS: [Option<i64>; 6] = [Some(3), Some(4), None, Some(5), Some(7), Some(9)];
 
-static WORDS: [Option<&str>; 6] = [
+pub static WORDS: [Option<&str>; 6] = [
     Some("ab"),
     Some("b"),
     Some("ab"),
@@ -36,7 +36,7 @@ static WORDS: [Option<&str>; 6] = [
     Some("ac"),
 ];
 
-static ALIVE: [bool; 6] = [true, true, true, true, false, true];
+pub static ALIVE: [bool; 6] = [true, true, true, true, false, true];
 
 /// The answer of an aggregate over the six rows.
 fn six_rows<S: FarStore>(alloc: Global, store: &S, spec: Spec) -> Result<Answer, Refusal> {
@@ -64,7 +64,7 @@ fn text(alloc: Global, bytes: &str) -> Result<Text, Refusal> {
     Ok(Text::new(String::from_str(alloc, bytes)?))
 }
 
-fn word(alloc: Global, bytes: &str) -> Result<Option<Key>, Refusal> {
+pub fn word(alloc: Global, bytes: &str) -> Result<Option<Key>, Refusal> {
     Ok(Some(Key::Text(text(alloc, bytes)?)))
 }
 
@@ -72,18 +72,23 @@ fn number(value: i64) -> Option<Key> {
     Some(Key::Int(value))
 }
 
-fn is_total_of_ab_and_ac(alloc: Global, answer: &Answer) -> Result<bool, Refusal> {
+pub fn is_total_of_ab_and_ac(alloc: Global, answer: &Answer) -> Result<bool, Refusal> {
     let lines = [(word(alloc, "ab")?, 1, 3), (word(alloc, "ac")?, 1, 9)];
     Ok(are_totals(answer, &lines))
 }
 
-/// Whether the rows whose text begins with `a` have their totals by text.
-fn are_folded_under_texts<S: FarStore>(alloc: Global, store: &S) -> Result<bool, Refusal> {
+/// The aggregate of column 0 by text, over the rows whose text begins with `a`.
+pub fn under_texts_with_a(alloc: Global, fold: Fold) -> Result<Spec, Refusal> {
     let begins = Test::TextBegins {
         column: 1,
         text: text(alloc, "a")?,
     };
-    let spec = by_column(alloc, Fold::Totals, 1, begins)?;
+    by_column(alloc, fold, 1, begins)
+}
+
+/// Whether the rows whose text begins with `a` have their totals by text.
+fn are_folded_under_texts<S: FarStore>(alloc: Global, store: &S) -> Result<bool, Refusal> {
+    let spec = under_texts_with_a(alloc, Fold::Totals)?;
     is_total_of_ab_and_ac(alloc, &six_rows(alloc, store, spec)?)
 }
 

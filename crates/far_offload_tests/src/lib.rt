@@ -4,6 +4,8 @@
 #[cfg(test)]
 mod folding;
 #[cfg(test)]
+mod hand;
+#[cfg(test)]
 mod plain;
 #[cfg(test)]
 mod rows;

@@ -2,8 +2,8 @@
 ghost use Rattle.std.specs.Prelude.{◌<◌, ◌^◌, length};
 
 use crate::rows::{carried, put_ints, put_texts};
-use far_offload::PartialDone;
-use far_store::{AgentStore, FarStore, FaultyStore};
+use far_offload::{OffloadJob, PartialDone};
+use far_store::{AgentStore, FarStore, FaultyStore, Meter};
 use far_types::{Filter, Fold, Refusal, Spec};
 use std::alloc::Global;
 use std::test::Fail;
@@ -82,5 +82,26 @@ fn faulty(rt: &HostRuntime) -> Result<FaultyStore<AgentStore<&HostRuntime>>, Ref
 fn a_job_that_met_a_fault_comes_back_and_is_carried_again(rt: HostRuntime) -> Result<(), Fail> {
     let store = faulty(&rt)?;
     assert_eq!(rt; is_carried_again(rt.alloc(), &store), Ok(true));
+    Ok(())
+}
+
+/// Whether a job that is kept gives the sum, and has what it was made with.
+fn is_kept<S: FarStore>(alloc: Global, store: &S) -> Result<bool, Refusal> {
+    let mut tickets = Vec::new(alloc);
+    tickets.push((
+        0,
+        put_ints(alloc, store, &[Some(1), Some(2), Some(3), Some(4)])?,
+    ))?;
+    let alive = Vec::from_array(alloc, [true, false, true, true])?;
+    let job = OffloadJob::new(plain_totals(alloc), tickets, alive);
+    let done = job.partial(alloc, store, &mut Meter::new())?;
+    let kept = job.tickets().len() == 1 && job.alive() == [true, false, true, true].as_slice();
+    Ok(count_and_sum(&done) == Some((3, 8)) && job.spec().value == 0 && kept)
+}
+
+#[test]
+fn a_job_that_is_kept_gives_its_partial(rt: HostRuntime) -> Result<(), Fail> {
+    let store = AgentStore::new(&rt, rt.alloc(), 8)?;
+    assert_eq!(rt; is_kept(rt.alloc(), &store), Ok(true));
     Ok(())
 }

@@ -40,7 +40,7 @@ fn with_next(alloc: Global, form: &[u8], word: Option<&str>) -> Result<Vec<u8>, 
 }
 
 /// The far form of texts, each of which may be missing.
-fn form_of(alloc: Global, words: &[Option<&str>]) -> Result<Vec<u8>, Refusal>
+pub fn form_of(alloc: Global, words: &[Option<&str>]) -> Result<Vec<u8>, Refusal>
     ensures { IfOk result (λ form. IsTextsForm form.items) }
 {
     let Some(mut form) = <u8 as Elem>::unspell(alloc, &[1, 1, 0, 0, 0, 0])? else {
