@@ -69,14 +69,23 @@ impl<'a, T: Element, S: FarStore> Desk<'a, T, S> {
         number: u32,
         limits: Limits,
     ) -> Result<Desk<'a, T, S>, Refusal> {
-        Ok(Desk {
+        let objects = no_objects(alloc, number, limits)?;
+        Ok(Desk::over(store, objects))
+    }
+
+    // Objects with their store, and no job.
+    fn over(store: &'a S, objects: Objects<T, S>) -> Desk<'a, T, S>
+        requires here { AreHere S.is_of (S.name store.now) objects }
+        requires clean { AreClean T.meaning S.content objects }
+    {
+        Desk {
             store,
-            objects: no_objects(alloc, number, limits)?,
+            objects,
             evac: None,
             carried: None,
             fetch: None,
             fetched: None,
-        })
+        }
     }
 
     /// No object once more, under another number; the jobs stay.

@@ -24,16 +24,17 @@ impl<'a, T: Element, S: FarStore> Desk<'a, T, S> {
         let renewal = renewal(alloc, &self.objects, self.store, store)?;
         // Renewing takes the objects, so others stand for them meanwhile.
         let none = no_objects(alloc, 0, NO_ROOM)?;
-        let objects = mem::replace(&mut self.objects, none);
-        *self = Desk {
-            store,
-            objects: objects.renew(renewal),
-            evac: None,
-            carried: None,
-            fetch: None,
-            fetched: None,
-        };
+        self.go_over(store, renewal, none);
         Ok(())
+    }
+
+    // The objects go over to a store that has these contents for them; the others stand for them meanwhile.
+    fn go_over(&mut self, store: &'a S, renewal: Renewal<S>, none: Objects<T, S>)
+        requires renews { Renews S.content S.content self.old renewal }
+        requires there { AreTicketsHere S.is_of (S.name store.now) renewal }
+    {
+        let objects = mem::replace(&mut self.objects, none);
+        *self = Desk::over(store, objects.renew(renewal));
     }
 }
 
