@@ -4,8 +4,8 @@
 //! A content is a list of bytes. [`FarStore::put`] gives a ticket for it, and [`FarRead::get`] gives the ticket's
 //! content back, as often as one likes; [`FarTickets`] tells one ticket from another without asking the store. The table
 //! above knows no more of a store than these three traits say, so it runs over any store: [`AgentStore`] in this
-//! process, [`FaultyStore`] and [`GateStore`] to try what happens when
-//! a call fails or takes long, or one of your own (docs/FAR_STORE.md).
+//! process, [`EngineStore`] over an [`Engine`] of your own (docs/FAR_STORE.md), [`FaultyStore`] and [`GateStore`] to try
+//! what happens when a call fails or takes long.
 //!
 //! Stores are shared by threads, and nothing is ever removed from one.
 
