@@ -3,3 +3,7 @@
 
 #[cfg(test)]
 mod ends;
+#[cfg(test)]
+mod lent;
+#[cfg(test)]
+mod random;

@@ -1,0 +1,93 @@
+//! Scripts of random bytes, and scripts of commands of which one byte is changed: each ends as a script can.
+use far_random::Draws;
+use far_shell::{ShellFault, run_script};
+
+/// How many scripts are drawn.
+const SCRIPTS: u32 = 20_000;
+
+/// What a script of commands begins with.
+const OPENING: &[u8] = b"schema 4 int,text\n";
+
+/// Lines that its commands are drawn from.
+const LINES: [&[u8]; 16] = [
+    b"insert 5,a\n",
+    b"insert -9223372036854775808,\"b\"\"c\"\n",
+    b"insert \\N,\\N\n",
+    b"set 0 7,d\n",
+    b"remove 1\n",
+    b"watch totals 0\n",
+    b"watch totals 0 by 1 if 0 < 9\n",
+    b"watch extrema 0 by 1 if 1 ^= a\n",
+    b"unwatch 0\n",
+    b"scan 0 0\n",
+    b"ask 0\n",
+    b"ask 1\n",
+    b"load 8\n1,a\n2,b\n",
+    b"load 0\n",
+    b"dump\n",
+    b"\r\n",
+];
+
+fn add_bytes(draws: &mut Draws, script: &mut Vec<u8>) -> Result<(), ShellFault> {
+    for _ in 0..draws.below(64) {
+        let byte = u8::try_from(draws.below(256)).unwrap_or(0);
+        script.push(byte)?;
+    }
+    Ok(())
+}
+
+fn add_lines(draws: &mut Draws, script: &mut Vec<u8>) -> Result<(), ShellFault> {
+    script.extend_from_slice(OPENING)?;
+    for _ in 0..draws.below(12) {
+        if let Some(line) = LINES.get(draws.below(16) as usize) {
+            script.extend_from_slice(line)?;
+        }
+    }
+    Ok(())
+}
+
+fn change_byte(draws: &mut Draws, script: &mut Vec<u8>) {
+    let at = draws.index_or_end(script.len());
+    if let Some(byte) = script.get_mut(at) {
+        *byte = u8::try_from(draws.below(256)).unwrap_or(0);
+    }
+}
+
+/// The next script: of random bytes, or of commands of which one byte is changed.
+fn draw_script(draws: &mut Draws, script: &mut Vec<u8>) -> Result<(), ShellFault> {
+    script.clear();
+    if draws.below(2) == 0 {
+        return add_bytes(draws, script);
+    }
+    add_lines(draws, script)?;
+    change_byte(draws, script);
+    Ok(())
+}
+
+/// Whether a script ends as one can whose replies are all written while memory is left.
+fn ends(rt: &HostRuntime, script: &[u8]) -> bool {
+    let mut given = Vec::new(rt.alloc());
+    match run_script(rt, script, &mut given) {
+        Ok(()) | Err(ShellFault::BadStart | ShellFault::Input) => true,
+        Err(ShellFault::Output | ShellFault::Memory) => false,
+    }
+}
+
+/// Whether all scripts that are drawn end so.
+fn all_end(rt: &HostRuntime) -> Result<bool, ShellFault> {
+    let mut draws = Draws::new(20_000);
+    let mut script = Vec::new(rt.alloc());
+    for _ in 0..SCRIPTS {
+        draw_script(&mut draws, &mut script)?;
+        if !ends(rt, script.as_slice()) {
+            return Ok(false);
+        }
+    }
+    Ok(true)
+}
+
+#[test]
+fn random_scripts_end_as_scripts_can(rt: HostRuntime) {
+    let outcome = all_end(&rt);
+    assert!(rt; outcome == Ok(true));
+}
