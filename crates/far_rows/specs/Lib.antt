@@ -10,3 +10,4 @@ pub mod Opening
 pub mod Moving
 pub mod Plain
 pub mod Jobs
+pub mod Renewal
