@@ -20,6 +20,7 @@ pub mod TextsOwned
 pub mod Spelled
 pub mod Versions
 pub mod Pinning
+pub mod Begun
 pub mod Places
 pub mod PlacesChanged
 pub mod CellsLong
@@ -32,6 +33,7 @@ pub mod PlainSet
 pub mod AbsentNames
 pub mod InUse
 pub mod Moved
+pub mod Renewed
 pub mod Reading
 pub mod LentNumbers
 pub mod LentTexts

@@ -15,7 +15,7 @@ use Rattle.far_rows.specs.Rows.{Rows, AreRows, cells_of, all_numbers, all_texts}
 use Rattle.far_rows.proofs.Names.{as-many}
 
 module _ {A B : Type 0} where
-  same-map : (f g : A → B) → ((x : A) → f x ≡ g x) → (xs : List A) → map f xs ≡ map g xs
+  pub same-map : (f g : A → B) → ((x : A) → f x ≡ g x) → (xs : List A) → map f xs ≡ map g xs
   same-map f g same [] = refl
   same-map f g same (x ∷ xs) = let here = same x in let there = same-map f g same xs in λ k. here k ∷ there k
 

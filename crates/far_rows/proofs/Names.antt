@@ -28,7 +28,7 @@ names-with {K} entries o change keeps = elim (cases_option (slice_get entries o)
 ]
 
 -- there are as many objects as names
-pub as-many : {X K : Type 0} (old new : Movement X K) → names_of new ≡ names_of old → length new.entries ≡ length old.entries
+pub as-many : {X K L : Type 0} (old : Movement X K) (new : Movement X L) → names_of new ≡ names_of old → length new.entries ≡ length old.entries
 as-many old new same = sym (length-map new.entries (λ e. e.name)) ∙ ap length same ∙ length-map old.entries (λ e. e.name)
 
 -- the names stay, where a call that keeps them is done or refused

@@ -33,10 +33,10 @@ no-text None o is = absurd cc
 no-text (Some p) o is = absurd cc
 
 module _ {K : Type 0} (content : K → List ℕ) (r : Rows K) (are : AreRows content r) (column group o : ℕ) where
-  found-in : (s : Slot) → slice_get r.slots column ≡ Some s → object_at r column group ≡ option_map (object_in s) (object_of r s group)
+  pub found-in : (s : Slot) → slice_get r.slots column ≡ Some s → object_at r column group ≡ option_map (object_in s) (object_of r s group)
   found-in s is = ap (option_and_then (λ (t : Slot). option_map (object_in t) (object_of r t group))) is
 
-  told-number : (s : Slot) → slice_get r.slots column ≡ Some s → object_at r column group ≡ Some (object.Number o) → told_at r group s ≡ absent r.number_objects o
+  pub told-number : (s : Slot) → slice_get r.slots column ≡ Some s → object_at r column group ≡ Some (object.Number o) → told_at r group s ≡ absent r.number_objects o
   told-number (slot.Number i) is at = ap (λ (f : Option ℕ). option_map_or (absent r.number_objects) f (false, refusal.StaleJob)) (number-of (object_of r (slot.Number i) group) o (sym (found-in (slot.Number i) is) ∙ at))
   told-number (slot.Text i) is at = no-number (object_of r (slot.Text i) group) o (sym (found-in (slot.Text i) is) ∙ at)
 
@@ -51,7 +51,7 @@ module _ {K : Type 0} (content : K → List ℕ) (r : Rows K) (are : AreRows con
         ∙ sym (λ k. option_or (first_of ((is_none (is k), refusal.NoColumn) ∷ (is_none (at k), refusal.OutOfRange) ∷ [])) (first_of (option_map_or (absent_at r column group) (is k) (false, refusal.StaleJob) ∷ option_map_or (pins_used r) (at k) (false, refusal.StaleJob) ∷ [])))
   ]
 
-  told-text : (s : Slot) → slice_get r.slots column ≡ Some s → object_at r column group ≡ Some (object.Text o) → told_at r group s ≡ absent r.text_objects o
+  pub told-text : (s : Slot) → slice_get r.slots column ≡ Some s → object_at r column group ≡ Some (object.Text o) → told_at r group s ≡ absent r.text_objects o
   told-text (slot.Text i) is at = ap (λ (f : Option ℕ). option_map_or (absent r.text_objects) f (false, refusal.StaleJob)) (text-of (object_of r (slot.Text i) group) o (sym (found-in (slot.Text i) is) ∙ at))
   told-text (slot.Number i) is at = no-text (object_of r (slot.Number i) group) o (sym (found-in (slot.Number i) is) ∙ at)
 

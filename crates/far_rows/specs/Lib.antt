@@ -12,3 +12,4 @@ pub mod Moving
 pub mod Effects
 pub mod Plain
 pub mod Jobs
+pub mod Renewal

@@ -9,6 +9,7 @@ ghost use Rattle.far_rows.specs.Places.{places_in};
 ghost use Rattle.far_rows.specs.Opening.{empty_rows};
 
 mod asking;
+mod beginning;
 mod compacting;
 mod grouping;
 mod jobs;
@@ -17,6 +18,7 @@ mod moving;
 mod opening;
 mod pushing;
 mod reading;
+mod renewing;
 mod setting;
 
 use super::slot::Slot;

@@ -1,4 +1,4 @@
-// Jobs on the objects of the rows that end. They are begun on the objects lent.
+// Jobs on the objects of the rows that end.
 ghost use Rattle.std.specs.Prelude.{◌≡◌, ◌≢◌, ◌↔◌, ◌⊎◌, length, false, OnOk, OnErr, IfErr, IsErrOf, IsSomeAnd};
 ghost use Rattle.far_codec.specs.FarForm.{ints_form};
 ghost use Rattle.far_log.specs.Room.{fits_in};
@@ -8,21 +8,41 @@ ghost use Rattle.far_evacuator.specs.Acceptance.{IsCommittable, IsInstallable};
 ghost use Rattle.far_columns.specs.Texts.{lists_of};
 ghost use Rattle.far_columns.specs.Numbers.{number_lists};
 ghost use Rattle.far_rows.specs.Rows.{cells_of};
-ghost use Rattle.far_rows.specs.Jobs.{SpellsNumbers, SpellsTexts};
+ghost use Rattle.far_rows.specs.Jobs.{SpellsNumbers, SpellsTexts, of_either, AreAt, IsEvacAccepted, IsFetchAccepted, pins_by, after_commit, HasNoRoom, IsAfterInstall};
 
 use super::Rows;
+use crate::job::{ByKind, RowsCarried, RowsFetched};
 use far_evacuator::{Carried, Fetched, commit, install};
 use far_store::FarTickets;
 use far_types::Refusal;
 use std::alloc::Global;
 
 impl<S: FarTickets> Rows<S> {
-    /// Sends an object of numbers away whose far form was carried. Takes no memory.
+    /// Sends an object away whose far form was carried. The carried evacuation is kept; no second commit of it is accepted.
+    /// Takes no memory.
     ///
-    /// Refused with `StaleJob` (20) exactly where what it rests on does not hold any more (`IsCommittable`): it was begun on
+    /// Refused with `StaleJob` (20) exactly where what it rests on does not hold any more (`IsEvacAccepted`): it was begun on
     /// other objects, the object is away, was written or away since, has used up its leavings, or is no longer what was
     /// carried; else with `Pinned` (19) exactly where the object has a pin. Then nothing is changed.
-    pub fn commit_numbers(
+    pub fn commit(&mut self, store: &S, carried: &RowsCarried<S>) -> Result<(), Refusal>
+        requires here { AreAt S.is_of (S.name store.now) self.old }
+        requires carried_here { S.is_of (of_either carried.now).ticket (S.name store.now) }
+        ensures committed { OnOk result (self.new ≡ after_commit self.old carried.now) }
+        ensures cells { cells_of S.content self.new ≡ cells_of S.content self.old }
+        ensures here { AreAt S.is_of (S.name store.now) self.new }
+        ensures stale { IsErrOf result Refusal.StaleJob ↔ (¬ IsEvacAccepted S.number_of self.old carried.now) }
+        ensures pinned { IsErrOf result Refusal.Pinned ↔ (IsEvacAccepted S.number_of self.old carried.now × (pins_by self.old carried.now ≢ 0)) }
+        ensures refused { IfErr result (λ e. (e ≡ Refusal.StaleJob) ⊎ (e ≡ Refusal.Pinned)) }
+        ensures err { OnErr result (self.new ≡ self.old) }
+    {
+        match &carried.carried {
+            ByKind::Numbers(carried) => self.commit_numbers(store, carried),
+            ByKind::Texts(carried) => self.commit_texts(store, carried),
+        }
+    }
+
+    // Sends an object of numbers away.
+    fn commit_numbers(
         &mut self,
         store: &S,
         carried: &Carried<Option<i64>, S>,
@@ -41,10 +61,8 @@ impl<S: FarTickets> Rows<S> {
         commit(&mut self.number_objects, store, carried)
     }
 
-    /// Sends an object of texts away whose far form was carried. Takes no memory.
-    ///
-    /// Refused as `commit_numbers` is, with `StaleJob` (20) and `Pinned` (19).
-    pub fn commit_texts(&mut self, store: &S, carried: &Carried<u8, S>) -> Result<(), Refusal>
+    // Sends an object of texts away.
+    fn commit_texts(&mut self, store: &S, carried: &Carried<u8, S>) -> Result<(), Refusal>
         requires here { AreHere S.is_of (S.name store.now) self.old.text_objects }
         requires carried_here { S.is_of carried.now.ticket (S.name store.now) }
         ensures committed { OnOk result (self.new ≡ record self.old { text_objects = departed self.old.text_objects carried.now.job.object carried.now.ticket }) }
@@ -59,12 +77,36 @@ impl<S: FarTickets> Rows<S> {
         commit(&mut self.text_objects, store, carried)
     }
 
-    /// Brings an object of numbers back whose far form was read.
+    /// Brings an object back whose far form was read. The fetched bytes are kept; no second install of them is accepted.
     ///
-    /// Refused with `StaleJob` (20) exactly where what the fetch rests on does not hold any more (`IsInstallable`): it was
+    /// Refused with `StaleJob` (20) exactly where what the fetch rests on does not hold any more (`IsFetchAccepted`): it was
     /// begun on other objects, or the object is local, or has been away again since; else with `RegionFull` (17) exactly
     /// where no segment has the space; else with `NoMemory` (1) alone. Then nothing is changed.
-    pub fn install_numbers(
+    pub fn install(
+        &mut self,
+        alloc: Global,
+        store: &S,
+        fetched: &RowsFetched<S>,
+    ) -> Result<(), Refusal>
+        requires here { AreAt S.is_of (S.name store.now) self.old }
+        requires fetched_here { S.is_of (of_either fetched.now).job.ticket (S.name store.now) }
+        ensures installed { OnOk result (IsAfterInstall S.content self.old fetched.now self.new) }
+        ensures accepted { OnOk result (IsFetchAccepted S.number_of self.old fetched.now) }
+        ensures cells { cells_of S.content self.new ≡ cells_of S.content self.old }
+        ensures here { AreAt S.is_of (S.name store.now) self.new }
+        ensures stale { IsErrOf result Refusal.StaleJob ↔ (¬ IsFetchAccepted S.number_of self.old fetched.now) }
+        ensures full { IsErrOf result Refusal.RegionFull ↔ (IsFetchAccepted S.number_of self.old fetched.now × HasNoRoom S.content self.old fetched.now) }
+        ensures refused { IfErr result (λ e. (e ≡ Refusal.StaleJob) ⊎ ((e ≡ Refusal.RegionFull) ⊎ (e ≡ Refusal.NoMemory))) }
+        ensures err { OnErr result (self.new ≡ self.old) }
+    {
+        match &fetched.fetched {
+            ByKind::Numbers(fetched) => self.install_numbers(alloc, store, fetched),
+            ByKind::Texts(fetched) => self.install_texts(alloc, store, fetched),
+        }
+    }
+
+    // Brings an object of numbers back.
+    fn install_numbers(
         &mut self,
         alloc: Global,
         store: &S,
@@ -85,10 +127,8 @@ impl<S: FarTickets> Rows<S> {
         install(alloc, &mut self.number_objects, store, fetched)
     }
 
-    /// Brings an object of texts back whose far form was read.
-    ///
-    /// Refused as `install_numbers` is, with `StaleJob` (20), `RegionFull` (17) and `NoMemory` (1).
-    pub fn install_texts(
+    // Brings an object of texts back.
+    fn install_texts(
         &mut self,
         alloc: Global,
         store: &S,

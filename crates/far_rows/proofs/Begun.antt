@@ -1,0 +1,68 @@
+-- Why no job begins on an object that is found, told by its column and its row group.
+use Rattle.std.proofs.Common.{◌≡◌, inl, inr, ℕ, Bool, true, false, List, [], ◌∷◌, Option, None, Some, refl, sym, ap, ◌∙◌}
+use Rattle.std.specs.Prelude.{not, is_none, option_map, slice_get}
+use Rattle.std.specs.Option.{option_and_then, option_map_or, option_or}
+use Rattle.std.proofs.lemmas.Option.{none-some}
+use Rattle.far_types.specs.declared.refusal.Refusal.{Refusal}
+use Rattle.far_types.specs.declared.refusal.Refusal.TheVariants as refusal
+use Rattle.far_types.specs.FirstOf.{first_of}
+use Rattle.far_scopes.specs.Movement.{is_local}
+use Rattle.far_scopes.specs.Refusing.{lend_refusal}
+use Rattle.far_scopes.proofs.Places.{cases_option}
+use Rattle.far_evacuator.specs.Beginning.{fetch_refusal as fetch_refusal_in}
+use Rattle.far_rows.specs.declared.slot.Slot.{Slot}
+use Rattle.far_rows.specs.declared.object.Object.{Object}
+use Rattle.far_rows.specs.declared.object.Object.TheVariants as object
+use Rattle.far_rows.specs.Rows.{Rows, AreRows, object_of}
+use Rattle.far_rows.specs.Moving.{object_in, object_at}
+use Rattle.far_rows.specs.Refusing.{told_at, absent_at}
+use Rattle.far_rows.specs.Jobs.{evac_refusal, fetch_refusal}
+use Rattle.far_rows.proofs.AbsentNames.{one-named}
+use Rattle.far_rows.proofs.Pinning.{told-number, told-text}
+
+not-not : (b : Bool) → b ≡ not (not b)
+not-not true = refl
+not-not false = refl
+
+module _ {K : Type 0} (content : K → List ℕ) (r : Rows K) (are : AreRows content r) (column group o : ℕ) where
+  -- the column has a slot where the object is found
+  lies : (found : Object) → object_at r column group ≡ Some found → (s : Slot) × (slice_get r.slots column ≡ Some s)
+  lies found at = elim (cases_option (slice_get r.slots column)) [
+    | inl none ↦ absurd (none-some found (sym (ap (option_and_then (λ (t : Slot). option_map (object_in t) (object_of r t group))) none) ∙ at))
+    | inr (s, is) ↦ (s, is)
+  ]
+
+  -- it is away: the refusal says its column and its row group
+  away-told : (found : Object) (at : object_at r column group ≡ Some found) (s : Slot) (is : slice_get r.slots column ≡ Some s) → first_of (told_at r group s ∷ []) ≡ evac_refusal r column group
+  away-told found at s is =
+      one-named content r are group column s is None None refl
+      ∙ sym (λ k. option_or (first_of ((is_none (is k), refusal.NoColumn) ∷ (is_none (at k), refusal.OutOfRange) ∷ [])) (first_of (option_map_or (absent_at r column group) (is k) (false, refusal.StaleJob) ∷ [])))
+
+  -- it is local
+  local-told : (found : Object) (at : object_at r column group ≡ Some found) (s : Slot) (is : slice_get r.slots column ≡ Some s) → first_of ((not (told_at r group s).0, refusal.StaleJob) ∷ []) ≡ fetch_refusal r column group
+  local-told found at s is =
+      sym (λ k. option_or (first_of ((is_none (is k), refusal.NoColumn) ∷ (is_none (at k), refusal.OutOfRange) ∷ [])) (first_of ((not (option_map_or (absent_at r column group) (is k) (false, refusal.StaleJob)).0, refusal.StaleJob) ∷ [])))
+
+  pub evac-number : object_at r column group ≡ Some (object.Number o) → lend_refusal r.number_objects o ≡ evac_refusal r column group
+  evac-number at =
+      let column_lies = lies (object.Number o) at in
+      ap (λ (case : Bool × Refusal). first_of (case ∷ [])) (sym (told-number content r are column group o column_lies.0 column_lies.1 at))
+      ∙ away-told (object.Number o) at column_lies.0 column_lies.1
+
+  pub evac-text : object_at r column group ≡ Some (object.Text o) → lend_refusal r.text_objects o ≡ evac_refusal r column group
+  evac-text at =
+      let column_lies = lies (object.Text o) at in
+      ap (λ (case : Bool × Refusal). first_of (case ∷ [])) (sym (told-text content r are column group o column_lies.0 column_lies.1 at))
+      ∙ away-told (object.Text o) at column_lies.0 column_lies.1
+
+  pub fetch-number : object_at r column group ≡ Some (object.Number o) → fetch_refusal_in r.number_objects o ≡ fetch_refusal r column group
+  fetch-number at =
+      let column_lies = lies (object.Number o) at in
+      ap (λ (here : Bool). first_of ((here, refusal.StaleJob) ∷ [])) (not-not (is_local r.number_objects o) ∙ ap (λ (case : Bool × Refusal). not case.0) (sym (told-number content r are column group o column_lies.0 column_lies.1 at)))
+      ∙ local-told (object.Number o) at column_lies.0 column_lies.1
+
+  pub fetch-text : object_at r column group ≡ Some (object.Text o) → fetch_refusal_in r.text_objects o ≡ fetch_refusal r column group
+  fetch-text at =
+      let column_lies = lies (object.Text o) at in
+      ap (λ (here : Bool). first_of ((here, refusal.StaleJob) ∷ [])) (not-not (is_local r.text_objects o) ∙ ap (λ (case : Bool × Refusal). not case.0) (sym (told-text content r are column group o column_lies.0 column_lies.1 at)))
+      ∙ local-told (object.Text o) at column_lies.0 column_lies.1

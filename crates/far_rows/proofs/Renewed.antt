@@ -1,0 +1,68 @@
+-- Rows whose objects went under the tickets of another store: each has the list that it had, and its name.
+use Rattle.std.proofs.Common.{◌≡◌, ℕ, List, [], ◌∷◌, map, length, get_or, Option, refl, sym, ap, subst, ◌∙◌, arith}
+use Rattle.std.specs.Prelude.{ℤ}
+use Rattle.std.specs.List.{zip}
+use Rattle.far_types.specs.declared.name.Name.{Name}
+use Rattle.far_codec.specs.Reading.{ints_meaning}
+use Rattle.far_scopes.specs.declared.entry.Entry.{Entry}
+use Rattle.far_scopes.specs.Movement.{Movement, AreClean}
+use Rattle.far_scopes.specs.Renewal.{renewed_entry, renewed}
+use Rattle.far_vector.proofs.Together.{vectors-stay, elements-stay}
+use Rattle.far_vector.specs.Vector.{Vector}
+use Rattle.far_columns.specs.Texts.{Texts, lists_of, texts_in}
+use Rattle.far_columns.specs.Numbers.{number_lists, numbers_in}
+use Rattle.far_columns.proofs.Beside.{columns-stay, texts-stay}
+use Rattle.far_rows.specs.Slots.{columns_of}
+use Rattle.far_rows.specs.Naming.{names_of, AreNamed, AreOwned}
+use Rattle.far_rows.specs.Rows.{Rows, AreRows, cells_of}
+use Rattle.far_rows.proofs.Moved.{same-map}
+use Rattle.far_rows.proofs.Names.{as-many}
+
+module _ {K L : Type 0} where
+  entries-named : (entries : List (Entry K)) (tickets : List (Option L)) → length tickets ≡ length entries → map (λ e. e.name) (map (λ (e : Entry K × Option L). renewed_entry e.0 e.1) (zip entries tickets)) ≡ map (λ e. e.name) entries
+  entries-named [] tickets even = refl
+  entries-named (e ∷ entries) [] even = absurd (omega (arith, even))
+  entries-named (e ∷ entries) (ticket ∷ tickets) even = ap (λ (names : List Name). e.name ∷ names) (entries-named entries tickets (omega (arith, even)))
+
+  pub renewed-named : {X : Type 0} (m : Movement X K) (tickets : List (Option L)) → length tickets ≡ length m.entries → names_of (renewed m tickets) ≡ names_of m
+  renewed-named m tickets even = entries-named m.entries tickets even
+
+  module _ (content : K → List ℕ) (new_content : L → List ℕ) (r : Rows K) (number_objects : Movement (Option ℤ) L) (text_objects : Movement ℕ L) (number_same : (o : ℕ) → number_lists new_content number_objects o ≡ number_lists content r.number_objects o) (text_same : (o : ℕ) → lists_of new_content text_objects o ≡ lists_of content r.text_objects o) where
+    pub rows-renewed : AreRows content r → names_of number_objects ≡ names_of r.number_objects → AreClean ints_meaning new_content number_objects → names_of text_objects ≡ names_of r.text_objects → AreClean (λ bytes. bytes) new_content text_objects
+        → AreRows new_content record { slots = r.slots; size = r.size; numbers = r.numbers; texts = r.texts; number_objects = number_objects; text_objects = text_objects; alive = r.alive }
+    rows-renewed are number_names number_clean text_names text_clean = record {
+      slots = are.slots;
+      few = are.few;
+      some = are.some;
+      small = are.small;
+      places = are.places;
+      numbers = record {
+        beside = vectors-stay (number_lists content r.number_objects) (number_lists new_content number_objects) r.numbers are.numbers.beside number_same;
+        even = are.numbers.even;
+      };
+      texts = record {
+        beside = columns-stay (lists_of content r.text_objects) (lists_of new_content text_objects) r.texts are.texts.beside text_same;
+        even = are.texts.even;
+      };
+      shaped = are.shaped;
+      grouped = are.grouped;
+      even_numbers = are.even_numbers;
+      even_texts = are.even_texts;
+      number_objects = λ k c within. as-many r.number_objects number_objects number_names ∙ are.number_objects k c within;
+      text_objects = λ k c within. as-many r.text_objects text_objects text_names ∙ are.text_objects k c within;
+      numbered = are.numbered;
+      placed_numbers = are.placed_numbers;
+      placed_texts = are.placed_texts;
+      number_names = λ k c within. subst (λ (ns : List Name). AreNamed ns (get_or r.numbers k c).column (get_or r.numbers k c).objects) (sym number_names) (are.number_names k c within);
+      text_names = λ k c within. subst (λ (ns : List Name). AreNamed ns (get_or r.texts k c).column (get_or r.texts k c).objects) (sym text_names) (are.text_names k c within);
+      owned_numbers = subst (λ (ns : List Name). AreOwned (λ (v : Vector (Option ℤ)). v.column) (λ v. v.objects) ns r.numbers) (sym number_names) are.owned_numbers;
+      owned_texts = subst (λ (ns : List Name). AreOwned (λ (v : Texts). v.column) (λ v. v.objects) ns r.texts) (sym text_names) are.owned_texts;
+      clean_numbers = number_clean;
+      clean_texts = text_clean;
+    }
+
+    pub renewed-cells : cells_of new_content record { slots = r.slots; size = r.size; numbers = r.numbers; texts = r.texts; number_objects = number_objects; text_objects = text_objects; alive = r.alive } ≡ cells_of content r
+    renewed-cells =
+        let numbers_is = same-map (numbers_in new_content number_objects) (numbers_in content r.number_objects) (λ c. elements-stay (number_lists content r.number_objects) (number_lists new_content number_objects) c number_same) r.numbers in
+        let texts_is = same-map (texts_in (lists_of new_content text_objects)) (texts_in (lists_of content r.text_objects)) (λ c. texts-stay (lists_of content r.text_objects) (lists_of new_content text_objects) c text_same) r.texts in
+        λ k. columns_of r.slots (numbers_is k) (texts_is k)

@@ -1,0 +1,173 @@
+// Jobs on the objects of a table, which carry either kind of values.
+ghost use Rattle.std.specs.Prelude.{◌≡◌, ◌+◌, ◌<◌, ◌^◌, [], ◌∷◌, IfOk, IfErr, IsErr};
+ghost use Rattle.far_store.specs.Faults.{faults_in, RefusedBy};
+ghost use Rattle.far_evacuator.specs.Jobs.{outcome, IsFormOf, IsDirtyForm};
+ghost use Rattle.far_rows.specs.Jobs.{of_either, IsCarriedEvac, IsCarriedFetch};
+
+use far_evacuator::{Carried, EvacJob, FetchJob, Fetched};
+use far_store::{FarRead, FarStore, FarTickets, Meter};
+use far_types::Refusal;
+use std::alloc::Global;
+use std::marker::Model;
+
+/// One of two, by the kind of the values that it is about.
+#[derive(Drop)]
+pub enum ByKind<N, T> {
+    /// About numbers.
+    Numbers(N),
+    /// About texts.
+    Texts(T),
+}
+
+/// An evacuation of an object of a table that was begun. It borrows nothing, so any thread can carry it.
+#[derive(Drop)]
+pub struct RowsEvac<S: FarTickets> {
+    pub(crate) job: ByKind<EvacJob<Option<i64>, S>, EvacJob<u8, S>>,
+}
+
+impl<S: FarTickets> Model for RowsEvac<S> {
+    ghost use Rattle.far_evacuator.specs.Jobs.{Evacuation};
+    ghost use Rattle.far_rows.specs.declared.job.ByKind.{ByKind};
+
+    ghost Value = { ByKind (Evacuation S.Ticket) (Evacuation S.Ticket) };
+
+    ghost view = { λ evac. evac.job };
+}
+
+/// An evacuation of an object of a table whose far form the far store has.
+#[derive(Drop)]
+pub struct RowsCarried<S: FarTickets> {
+    pub(crate) carried: ByKind<Carried<Option<i64>, S>, Carried<u8, S>>,
+}
+
+impl<S: FarTickets> Model for RowsCarried<S> {
+    ghost use Rattle.far_evacuator.specs.Jobs.{CarriedEvacuation};
+    ghost use Rattle.far_rows.specs.declared.job.ByKind.{ByKind};
+
+    ghost Value = { ByKind (CarriedEvacuation S.Ticket) (CarriedEvacuation S.Ticket) };
+
+    ghost view = { λ carried. carried.carried };
+}
+
+/// A fetch of an object of a table that was begun. It borrows nothing, so any thread can carry it.
+#[derive(Drop)]
+pub struct RowsFetch<S: FarTickets> {
+    pub(crate) job: ByKind<FetchJob<S>, FetchJob<S>>,
+}
+
+impl<S: FarTickets> Model for RowsFetch<S> {
+    ghost use Rattle.far_evacuator.specs.Jobs.{Fetch};
+    ghost use Rattle.far_rows.specs.declared.job.ByKind.{ByKind};
+
+    ghost Value = { ByKind (Fetch S.Ticket) (Fetch S.Ticket) };
+
+    ghost view = { λ fetch. fetch.job };
+}
+
+/// A fetch of an object of a table whose bytes were read.
+#[derive(Drop)]
+pub struct RowsFetched<S: FarTickets> {
+    pub(crate) fetched: ByKind<Fetched<S>, Fetched<S>>,
+}
+
+impl<S: FarTickets> Model for RowsFetched<S> {
+    ghost use Rattle.far_evacuator.specs.Jobs.{CarriedFetch};
+    ghost use Rattle.far_rows.specs.declared.job.ByKind.{ByKind};
+
+    ghost Value = { ByKind (CarriedFetch S.Ticket) (CarriedFetch S.Ticket) };
+
+    ghost view = { λ fetched. fetched.fetched };
+}
+
+impl<S: FarStore> RowsEvac<S> {
+    /// Puts the far form that the job holds into the store. A job that was begun on a clean object asks the store for
+    /// nothing, and is not refused.
+    ///
+    /// Refused with `FarFault` (21) where the store fails in this call, exactly where the meter rises, by one; with
+    /// `FarFull` (22); and with `NoMemory` (1). The job then comes back whole.
+    pub fn carry(
+        self,
+        alloc: Global,
+        store: &S,
+        meter: &mut Meter,
+    ) -> Result<RowsCarried<S>, (Refusal, RowsEvac<S>)>
+        requires few { meter.old < 2 ^ 63 }
+        requires here { IsFormOf S.is_of (S.name store.now) (of_either self).form }
+        ensures carried { IfOk result (IsCarriedEvac S.content self) }
+        ensures here { IfOk result (λ carried. S.is_of (of_either carried).ticket (S.name store.now)) }
+        ensures back { IfErr result (λ refused. refused.1 ≡ self) }
+        ensures dirty { IsErr result → IsDirtyForm (of_either self).form }
+        ensures faults { meter.new ≡ meter.old + faults_in (outcome result) }
+        ensures refused { RefusedBy (21 ∷ 22 ∷ 1 ∷ []) (outcome result) }
+    {
+        match self.job {
+            ByKind::Numbers(numbers) => match numbers.carry(alloc, store, meter) {
+                Ok(carried) => Ok(RowsCarried {
+                    carried: ByKind::Numbers(carried),
+                }),
+                Err((refusal, numbers)) => Err((
+                    refusal,
+                    RowsEvac {
+                        job: ByKind::Numbers(numbers),
+                    },
+                )),
+            },
+            ByKind::Texts(texts) => match texts.carry(alloc, store, meter) {
+                Ok(carried) => Ok(RowsCarried {
+                    carried: ByKind::Texts(carried),
+                }),
+                Err((refusal, texts)) => Err((
+                    refusal,
+                    RowsEvac {
+                        job: ByKind::Texts(texts),
+                    },
+                )),
+            },
+        }
+    }
+}
+
+impl<S: FarRead> RowsFetch<S> {
+    /// Reads the content of the job's ticket.
+    ///
+    /// Refused with `FarFault` (21) where the store fails in this call, exactly where the meter rises, by one, and with
+    /// `NoMemory` (1). The job then comes back whole.
+    pub fn carry(
+        self,
+        alloc: Global,
+        store: &S,
+        meter: &mut Meter,
+    ) -> Result<RowsFetched<S>, (Refusal, RowsFetch<S>)>
+        requires few { meter.old < 2 ^ 63 }
+        requires here { S.is_of (of_either self).ticket (S.name store.now) }
+        ensures fetched { IfOk result (IsCarriedFetch S.content self) }
+        ensures back { IfErr result (λ refused. refused.1 ≡ self) }
+        ensures faults { meter.new ≡ meter.old + faults_in (outcome result) }
+        ensures refused { RefusedBy (21 ∷ 1 ∷ []) (outcome result) }
+    {
+        match self.job {
+            ByKind::Numbers(job) => match job.carry(alloc, store, meter) {
+                Ok(fetched) => Ok(RowsFetched {
+                    fetched: ByKind::Numbers(fetched),
+                }),
+                Err((refusal, job)) => Err((
+                    refusal,
+                    RowsFetch {
+                        job: ByKind::Numbers(job),
+                    },
+                )),
+            },
+            ByKind::Texts(job) => match job.carry(alloc, store, meter) {
+                Ok(fetched) => Ok(RowsFetched {
+                    fetched: ByKind::Texts(fetched),
+                }),
+                Err((refusal, job)) => Err((
+                    refusal,
+                    RowsFetch {
+                        job: ByKind::Texts(job),
+                    },
+                )),
+            },
+        }
+    }
+}

@@ -1,0 +1,62 @@
+// Rows whose far copies go into another store.
+ghost use Rattle.std.specs.Prelude.{◌≡◌, ◌+◌, ◌<◌, ◌^◌, ℕ, List, [], ◌∷◌, IfOk};
+ghost use Rattle.far_store.specs.Faults.{faults_in, RefusedBy};
+ghost use Rattle.far_rows.specs.Rows.{cells_of};
+ghost use Rattle.far_rows.specs.Jobs.{AreAt};
+ghost use Rattle.far_rows.specs.Renewal.{RenewsRows, AreTicketsAt, renewed_rows};
+
+use super::Rows;
+use crate::renewal::RowsRenewal;
+use far_store::{FarRead, FarStore, FarTickets, Meter};
+use far_types::Refusal;
+use std::alloc::Global;
+
+impl<S: FarRead> Rows<S> {
+    /// Puts the content of each object that is away into another store, those of numbers before those of texts, each by
+    /// rising object number, and makes all room that `renew` needs. The rows stay as they are.
+    ///
+    /// Refused with `FarFault` (21) where one of the stores fails, exactly where the meter rises, by one; with `FarFull` (22)
+    /// where the new one gives out no more numbers; and with `NoMemory` (1). It ends at the first object that is refused;
+    /// what was put before stays in the new store.
+    pub fn renewal<N: FarStore>(
+        &self,
+        alloc: Global,
+        store: &S,
+        new_store: &N,
+        meter: &mut Meter,
+    ) -> Result<RowsRenewal<N>, Refusal>
+        requires few { meter.old < 2 ^ 63 }
+        requires here { AreAt S.is_of (S.name store.now) self.now }
+        ensures renews { IfOk result (RenewsRows S.content N.content self.now) }
+        ensures there { IfOk result (AreTicketsAt N.is_of (N.name new_store.now)) }
+        ensures faults { meter.new ≡ meter.old + faults_in result }
+        ensures refused { RefusedBy (21 ∷ 22 ∷ 1 ∷ []) result }
+    {
+        let numbers = self.number_objects.renewal(alloc, store, new_store, meter)?;
+        let texts = self.text_objects.renewal(alloc, store, new_store, meter)?;
+        Ok(RowsRenewal { numbers, texts })
+    }
+}
+
+impl<S: FarTickets> Rows<S> {
+    /// The same rows, whose far copies are those of the renewal from now on. Every cell and flag, what is local, hot or
+    /// pinned, versions, leavings, the orders of use and the room stay; the local objects are dirty, since they have no copy
+    /// in the new store. Takes no memory.
+    pub fn renew<N: FarTickets>(self, renewal: RowsRenewal<N>) -> Rows<N>
+        requires { RenewsRows S.content N.content self renewal }
+        ensures renewed { result ≡ renewed_rows self renewal }
+        ensures cells { cells_of N.content result ≡ cells_of S.content self }
+        ensures store { (name : List ℕ) → AreTicketsAt N.is_of name renewal → AreAt N.is_of name result }
+    {
+        let RowsRenewal { numbers, texts } = renewal;
+        Rows {
+            slots: self.slots,
+            size: self.size,
+            numbers: self.numbers,
+            texts: self.texts,
+            number_objects: self.number_objects.renew(numbers),
+            text_objects: self.text_objects.renew(texts),
+            alive: self.alive,
+        }
+    }
+}
