@@ -12,20 +12,22 @@ enum Move {
 }
 
 /// Each step, and which objects of either column are local after it: `+`, and `-` where one is away.
-const STEPS: [(Move, [&str; 2]); 12] = [
-    (Move::Away(0, 1), ["+-+", "+++"]),
-    (Move::Away(1, 0), ["+-+", "-++"]),
-    (Move::Away(1, 2), ["+-+", "-+-"]),
-    (Move::Away(0, 0), ["--+", "-+-"]),
-    (Move::Away(0, 2), ["---", "-+-"]),
-    (Move::Away(1, 1), ["---", "---"]),
-    (Move::Back(1, 2), ["---", "--+"]),
-    (Move::Back(0, 0), ["+--", "--+"]),
-    (Move::Back(1, 0), ["+--", "+-+"]),
-    (Move::Back(0, 2), ["+-+", "+-+"]),
-    (Move::Back(0, 1), ["+++", "+-+"]),
-    (Move::Back(1, 1), ["+++", "+++"]),
-];
+fn steps() -> [(Move, [&'static str; 2]); 12] {
+    [
+        (Move::Away(0, 1), ["+-+", "+++"]),
+        (Move::Away(1, 0), ["+-+", "-++"]),
+        (Move::Away(1, 2), ["+-+", "-+-"]),
+        (Move::Away(0, 0), ["--+", "-+-"]),
+        (Move::Away(0, 2), ["---", "-+-"]),
+        (Move::Away(1, 1), ["---", "---"]),
+        (Move::Back(1, 2), ["---", "--+"]),
+        (Move::Back(0, 0), ["+--", "--+"]),
+        (Move::Back(1, 0), ["+--", "+-+"]),
+        (Move::Back(0, 2), ["+-+", "+-+"]),
+        (Move::Back(0, 1), ["+++", "+-+"]),
+        (Move::Back(1, 1), ["+++", "+++"]),
+    ]
+}
 
 /// Which of the eight places are cleared.
 const CLEARED: [usize; 3] = [1, 5, 6];
@@ -52,12 +54,18 @@ fn all_here(k: usize, local: &str) -> Result<(), Refusal> {
 pub fn script<C: Copy>(alloc: Global, cells: &[[C; 2]]) -> Result<Vec<Line<PairCall<C>>>, Refusal> {
     let mut lines = Vec::new(alloc);
     add_pushes(&mut lines, cells)?;
-    add_reads(&mut lines, cells, ["+++", "+++"])?;
-    for (step, local) in STEPS {
-        lines.push((call_of(step), Ok(())))?;
-        add_reads(&mut lines, cells, local)?;
-    }
+    add_moves(&mut lines, cells)?;
     Ok(lines)
+}
+
+/// Reads all, and once more after each move.
+fn add_moves<C: Copy>(lines: &mut Vec<Line<PairCall<C>>>, cells: &[[C; 2]]) -> Result<(), Refusal> {
+    add_reads(lines, cells, ["+++", "+++"])?;
+    for (step, local) in steps() {
+        lines.push((call_of(step), Ok(())))?;
+        add_reads(lines, cells, local)?;
+    }
+    Ok(())
 }
 
 fn call_of<C>(step: Move) -> PairCall<C> {

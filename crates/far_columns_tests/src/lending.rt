@@ -3,8 +3,8 @@ ghost use Rattle.far_vector.specs.Vector.{IsVector};
 ghost use Rattle.far_columns.specs.Numbers.{number_lists};
 ghost use Rattle.far_columns.specs.Texts.{lists_of, IsTextColumn};
 
-use crate::script::WRONG;
-use far_columns::{Alive, IntColumn, Lent, TextColumn};
+use crate::script::{WRONG, found};
+use far_columns::{Alive, IntColumn, Lent, TextCell, TextColumn};
 use far_scopes::Objects;
 use far_store::FarTickets;
 use far_types::Refusal;
@@ -24,17 +24,27 @@ pub fn lend_texts<S: FarTickets>(
     }
     let mut cells = column.texts(objects, alive, from, to)?;
     for place in from..to {
-        let Some(cell) = cells.next() else {
-            return Err(WRONG);
-        };
-        if column.text(objects, place) != Ok(cell.text) || alive.get(place) != Some(cell.alive) {
+        if !is_cell(objects, column, alive, cells.next(), place) {
             return Err(WRONG);
         }
     }
-    match cells.next() {
-        Some(_) => Err(WRONG),
-        None => Ok(()),
-    }
+    found(cells.next().is_none())
+}
+
+// Whether this is the text of a place and its flag.
+fn is_cell<S: FarTickets>(
+    objects: &Objects<u8, S>,
+    column: &TextColumn,
+    alive: &Alive,
+    cell: Option<TextCell<'_>>,
+    place: usize,
+) -> bool
+    requires { IsTextColumn (lists_of S.content objects.now) column.now }
+{
+    let Some(cell) = cell else {
+        return false;
+    };
+    column.text(objects, place) == Ok(cell.text) && alive.get(place) == Some(cell.alive)
 }
 
 /// Lends a part of a column of numbers, whose row groups have so many places, and finds the number of each place and its
@@ -64,7 +74,7 @@ pub fn lend_numbers<S: FarTickets>(
         }
         place = end;
     }
-    if place == to { Ok(()) } else { Err(WRONG) }
+    found(place == to)
 }
 
 // Where the row group of a place ends.

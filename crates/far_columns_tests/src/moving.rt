@@ -8,6 +8,7 @@ ghost use Rattle.far_columns.specs.Texts.{lists_of, IsTextColumn};
 
 use far_codec::Elem;
 use far_columns::{IntColumn, TextColumn};
+use far_fixtures::put;
 use far_pointer::Pointer;
 use far_scopes::Objects;
 use far_store::{FarStore, Meter};
@@ -33,8 +34,7 @@ pub fn send_away<T: Elem, S: FarStore>(
     if !objects.may_leave(o) {
         return Err(Refusal::EditsUsedUp);
     }
-    let bytes = T::spell(alloc, list)?;
-    let ticket = store.put(alloc, &mut Meter::new(), &bytes)?;
+    let ticket = put(alloc, store, list)?;
     objects.leave(store, o, &ticket);
     Ok(())
 }

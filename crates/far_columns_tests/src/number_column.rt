@@ -1,7 +1,7 @@
 // Columns of numbers: worked examples, and why calls are refused.
 mod fixture;
 
-use crate::script::{Layout, Line, agent};
+use crate::script::{Layout, Line, agent, answered};
 use far_store::FarStore;
 use far_types::Refusal;
 use fixture::NumberCall::{Alive, Away, Clear, Len, Lend, Number, Push, Set};
@@ -149,42 +149,35 @@ const WRITTEN_OUT: [NumberLine; 6] = [
 
 #[test]
 fn numbers_are_lent_with_the_flags_of_their_places(rt: HostRuntime) -> Result<(), Fail> {
-    assert_eq!(rt; play(&rt, rt.alloc(), TWO_GROUPS, 0, &LENT)?, None);
-    Ok(())
+    answered(play(&rt, rt.alloc(), TWO_GROUPS, 0, &LENT))
 }
 
 #[test]
 fn a_row_group_without_room_is_refused(rt: HostRuntime) -> Result<(), Fail> {
-    assert_eq!(rt; play(&rt, rt.alloc(), TWO_GROUPS, 8, &NINTH)?, None);
-    Ok(())
+    answered(play(&rt, rt.alloc(), TWO_GROUPS, 8, &NINTH))
 }
 
 #[test]
 fn a_number_past_the_end_is_refused(rt: HostRuntime) -> Result<(), Fail> {
-    assert_eq!(rt; play(&rt, rt.alloc(), FOURS, 5, &PAST)?, None);
-    Ok(())
+    answered(play(&rt, rt.alloc(), FOURS, 5, &PAST))
 }
 
 #[test]
 fn numbers_that_are_away_are_refused(rt: HostRuntime) -> Result<(), Fail> {
-    assert_eq!(rt; play(&rt, rt.alloc(), FOURS, 9, &AWAY)?, None);
-    Ok(())
+    answered(play(&rt, rt.alloc(), FOURS, 9, &AWAY))
 }
 
 #[test]
 fn the_first_row_group_that_is_away_is_named(rt: HostRuntime) -> Result<(), Fail> {
-    assert_eq!(rt; play(&rt, rt.alloc(), FOURS, 9, &LENT_AWAY)?, None);
-    Ok(())
+    answered(play(&rt, rt.alloc(), FOURS, 9, &LENT_AWAY))
 }
 
 #[test]
 fn a_number_without_room_is_refused(rt: HostRuntime) -> Result<(), Fail> {
-    assert_eq!(rt; play(&rt, rt.alloc(), TWO_FIVES, 8, &FULL)?, None);
-    Ok(())
+    answered(play(&rt, rt.alloc(), TWO_FIVES, 8, &FULL))
 }
 
 #[test]
 fn numbers_written_too_often_are_refused(rt: HostRuntime) -> Result<(), Fail> {
-    assert_eq!(rt; play(&rt, rt.alloc(), TWO_WRITES, 3, &WRITTEN_OUT)?, None);
-    Ok(())
+    answered(play(&rt, rt.alloc(), TWO_WRITES, 3, &WRITTEN_OUT))
 }

@@ -4,7 +4,7 @@ mod taken_back;
 
 use crate::coming_back;
 use crate::script::PairCall::{Away, Cell, Len, MayPush, Objects, ObjectsOf, Push};
-use crate::script::{Layout, Line, PairCall, agent};
+use crate::script::{Layout, Line, PairCall, agent, answered};
 use far_store::FarStore;
 use far_types::Refusal;
 use fixture::TwoNumberColumns;
@@ -67,6 +67,17 @@ fn play_over<S: FarStore>(
 ) -> Result<Option<usize>, Refusal> {
     let mut columns = TwoNumberColumns::new(alloc, store, layout)?;
     columns.first_wrong(alloc, script)
+}
+
+/// Plays how the objects of two columns of such numbers go away and come back.
+fn play_moves<R: Wait + Sync + Drop + Copy>(
+    rt: R,
+    alloc: Global,
+    layout: Layout,
+    cells: &[[Option<i64>; 2]],
+) -> Result<Option<usize>, Refusal> {
+    let script = coming_back::script(alloc, cells)?;
+    play(rt, alloc, layout, &script)
 }
 
 /// Each number is at its place, in its own column, and each row group has its object, the first column's before the second's.
@@ -139,37 +150,30 @@ const THREES: Layout = Layout {
 
 #[test]
 fn each_column_gets_its_own_number(rt: HostRuntime) -> Result<(), Fail> {
-    assert_eq!(rt; play(&rt, rt.alloc(), PAIRS, &PUSHED)?, None);
-    Ok(())
+    answered(play(&rt, rt.alloc(), PAIRS, &PUSHED))
 }
 
 #[test]
 fn a_full_region_refuses_a_number_to_all_columns(rt: HostRuntime) -> Result<(), Fail> {
-    assert_eq!(rt; play(&rt, rt.alloc(), ONE_GROUP, &NO_ROOM)?, None);
-    Ok(())
+    answered(play(&rt, rt.alloc(), ONE_GROUP, &NO_ROOM))
 }
 
 #[test]
 fn objects_written_out_refuse_a_number_to_all_columns(rt: HostRuntime) -> Result<(), Fail> {
-    assert_eq!(rt; play(&rt, rt.alloc(), ONE_WRITE, &WRITTEN_OUT)?, None);
-    Ok(())
+    answered(play(&rt, rt.alloc(), ONE_WRITE, &WRITTEN_OUT))
 }
 
 #[test]
 fn an_object_that_is_away_refuses_a_number_to_all_columns(rt: HostRuntime) -> Result<(), Fail> {
-    assert_eq!(rt; play(&rt, rt.alloc(), FOURS, &AWAY)?, None);
-    Ok(())
+    answered(play(&rt, rt.alloc(), FOURS, &AWAY))
 }
 
 #[test]
 fn numbers_refused_for_memory_can_be_repeated(rt: HostRuntime) -> Result<(), Fail> {
-    assert_eq!(rt; play(&rt, rt.alloc(), PAIRS, &REPEATED)?, None);
-    Ok(())
+    answered(play(&rt, rt.alloc(), PAIRS, &REPEATED))
 }
 
 #[test]
 fn numbers_that_went_away_and_came_back_read_as_before(rt: HostRuntime) -> Result<(), Fail> {
-    let script = coming_back::script(rt.alloc(), &MOVED)?;
-    assert_eq!(rt; play(&rt, rt.alloc(), THREES, &script)?, None);
-    Ok(())
+    answered(play_moves(&rt, rt.alloc(), THREES, &MOVED))
 }

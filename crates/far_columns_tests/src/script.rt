@@ -1,10 +1,11 @@
 // Scripts: calls on columns, and their replies.
-ghost use Rattle.std.specs.Prelude.{◌<◌, ◌≤◌, OnOk};
+ghost use Rattle.std.specs.Prelude.{◌≡◌, ◌<◌, ◌≤◌, ⊤, OnOk};
 
 use far_store::AgentStore;
 use far_types::Refusal;
-use std::alloc::Global;
+use std::alloc::{AllocError, Global};
 use std::sync::Wait;
+use std::test::Fail;
 
 /// A call, and its reply.
 pub type Line<C> = (C, Result<(), Refusal>);
@@ -15,6 +16,14 @@ pub const WRONG: Refusal = Refusal::BadSpec;
 /// The reply of a call that finds what it should, or not.
 pub fn found(right: bool) -> Result<(), Refusal> {
     if right { Ok(()) } else { Err(WRONG) }
+}
+
+/// Fails where a call of a script was not answered as it should be, and names its line.
+pub fn answered(first_wrong: Result<Option<usize>, Refusal>) -> Result<(), Fail> {
+    match first_wrong? {
+        Some(line) => Err(Fail::new(format_args!("line {line}"))),
+        None => Ok(()),
+    }
 }
 
 /// How large columns are, and the region of their objects: how many places a row group has, how many segments of how many
@@ -52,7 +61,6 @@ pub fn is_due(reply: Result<(), Refusal>, due: Result<(), Refusal>) -> Result<bo
 }
 
 /// A call on two columns of one kind that have such cells.
-#[derive(Clone, Copy)]
 pub enum PairCall<C> {
     MayPush(C, C),
     Push(C, C),
@@ -74,6 +82,19 @@ pub enum PairCall<C> {
     /// Finds the objects of both columns' row group.
     ObjectsOf(u32, u32, u32),
 }
+
+// A derived `clone` copies call by call, and costs its proof more than all else here.
+impl<C: Copy> Clone for PairCall<C> {
+    ghost is_clone = { λ x y. y ≡ x };
+
+    ghost is_infallible = { λ _. ⊤ };
+
+    fn clone(&self) -> Result<PairCall<C>, AllocError> {
+        Ok(*self)
+    }
+}
+
+impl<C: Copy> Copy for PairCall<C> {}
 
 /// A store of sixteen contents.
 pub fn agent<R: Wait + Sync + Drop + Copy>(rt: R, alloc: Global) -> Result<AgentStore<R>, Refusal> {

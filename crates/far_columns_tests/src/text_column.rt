@@ -1,7 +1,7 @@
 // Columns of texts: worked examples, and why calls are refused.
 mod fixture;
 
-use crate::script::{Layout, Line, agent};
+use crate::script::{Layout, Line, agent, answered};
 use far_store::FarStore;
 use far_types::Refusal;
 use fixture::OneTextColumn;
@@ -244,75 +244,70 @@ const BEGINS: [TextLine; 7] = [
 
 #[test]
 fn texts_are_lent_with_the_flags_of_their_places(rt: HostRuntime) -> Result<(), Fail> {
-    assert_eq!(rt; play(&rt, rt.alloc(), PAIRS, 0, &LENT)?, None);
-    Ok(())
+    answered(play(&rt, rt.alloc(), PAIRS, 0, &LENT))
 }
 
 #[test]
 fn a_text_is_at_the_place_that_it_was_pushed_to(rt: HostRuntime) -> Result<(), Fail> {
-    assert_eq!(rt; play(&rt, rt.alloc(), PAIRS, 0, &PUSHED)?, None);
-    Ok(())
+    answered(play(&rt, rt.alloc(), PAIRS, 0, &PUSHED))
 }
 
 #[test]
 fn a_text_of_4097_bytes_is_too_long(rt: HostRuntime) -> Result<(), Fail> {
-    assert_eq!(rt; play(&rt, rt.alloc(), LARGE, 0, &TOO_LONG_BY_ONE)?, None);
-    Ok(())
+    answered(play(&rt, rt.alloc(), LARGE, 0, &TOO_LONG_BY_ONE))
 }
 
 #[test]
 fn a_form_is_filled_to_the_byte(rt: HostRuntime) -> Result<(), Fail> {
-    assert_eq!(rt; play(&rt, rt.alloc(), TWO_SEGMENTS, 0, &FILLED)?, None);
-    Ok(())
+    answered(play(&rt, rt.alloc(), TWO_SEGMENTS, 0, &FILLED))
 }
 
 #[test]
 fn lengths_are_told_before_a_form_is_made(rt: HostRuntime) -> Result<(), Fail> {
-    assert_eq!(rt; play(&rt, rt.alloc(), TWO_SEGMENTS, 0, &TOLD)?, None);
-    Ok(())
+    answered(play(&rt, rt.alloc(), TWO_SEGMENTS, 0, &TOLD))
 }
 
 #[test]
 fn a_text_is_asked_for_before_it_is_set(rt: HostRuntime) -> Result<(), Fail> {
-    assert_eq!(rt; play(&rt, rt.alloc(), TWO_SEGMENTS, 0, &ASKED)?, None);
-    Ok(())
+    answered(play(&rt, rt.alloc(), TWO_SEGMENTS, 0, &ASKED))
 }
 
 #[test]
 fn a_text_past_the_end_is_refused(rt: HostRuntime) -> Result<(), Fail> {
-    assert_eq!(rt; play(&rt, rt.alloc(), FOURS, 5, &PAST)?, None);
-    Ok(())
+    answered(play(&rt, rt.alloc(), FOURS, 5, &PAST))
 }
 
 #[test]
 fn texts_that_are_away_are_refused(rt: HostRuntime) -> Result<(), Fail> {
-    assert_eq!(rt; play(&rt, rt.alloc(), FOURS, 9, &AWAY)?, None);
-    Ok(())
+    answered(play(&rt, rt.alloc(), FOURS, 9, &AWAY))
 }
 
 #[test]
 fn the_bytes_of_a_text_are_counted(rt: HostRuntime) -> Result<(), Fail> {
-    assert_eq!(rt; play(&rt, rt.alloc(), FOURS, 2, &COUNTED)?, None);
-    Ok(())
+    answered(play(&rt, rt.alloc(), FOURS, 2, &COUNTED))
 }
 
 #[test]
 fn a_text_that_is_not_alive_keeps_its_space(rt: HostRuntime) -> Result<(), Fail> {
-    assert_eq!(rt; play(&rt, rt.alloc(), FOURS, 1, &DEAD)?, None);
-    Ok(())
+    answered(play(&rt, rt.alloc(), FOURS, 1, &DEAD))
 }
 
 #[test]
 fn the_first_refusal_that_applies_is_answered(rt: HostRuntime) -> Result<(), Fail> {
-    assert_eq!(rt; play(&rt, rt.alloc(), WRITTEN_OUT, 2, &DUE_AWAY)?, None);
-    assert_eq!(rt; play(&rt, rt.alloc(), WRITTEN_OUT, 2, &DUE_HERE)?, None);
-    let with_room = play(&rt, rt.alloc(), WRITTEN_OUT_WITH_ROOM, 2, &DUE_WITH_ROOM)?;
-    assert_eq!(rt; with_room, None);
-    Ok(())
+    answered(play(&rt, rt.alloc(), WRITTEN_OUT, 2, &DUE_HERE))
+}
+
+#[test]
+fn the_first_refusal_is_answered_while_a_row_group_is_away(rt: HostRuntime) -> Result<(), Fail> {
+    answered(play(&rt, rt.alloc(), WRITTEN_OUT, 2, &DUE_AWAY))
+}
+
+#[test]
+fn a_row_group_written_too_often_is_told_where_there_is_room(rt: HostRuntime) -> Result<(), Fail> {
+    answered(play(&rt, rt.alloc(), WRITTEN_OUT_WITH_ROOM, 2, &DUE_WITH_ROOM))
 }
 
 #[test]
 fn a_text_that_begins_a_row_group_needs_room(rt: HostRuntime) -> Result<(), Fail> {
-    assert_eq!(rt; play(&rt, rt.alloc(), ONE_SEGMENT, 4, &BEGINS)?, None);
-    Ok(())
+    answered(play(&rt, rt.alloc(), ONE_SEGMENT, 4, &BEGINS))
 }

@@ -3,7 +3,7 @@ mod fixture;
 
 use crate::coming_back;
 use crate::script::PairCall::{Away, Cell, Len, MayPush, Objects, Push, Set};
-use crate::script::{Layout, Line, PairCall, agent};
+use crate::script::{Layout, Line, PairCall, agent, answered};
 use crate::words::Word;
 use far_store::FarStore;
 use far_types::Refusal;
@@ -78,6 +78,17 @@ fn play_over<S: FarStore>(
 ) -> Result<Option<usize>, Refusal> {
     let mut columns = TwoTextColumns::new(alloc, store, layout)?;
     columns.first_wrong(alloc, script)
+}
+
+/// Plays how the objects of two columns of such texts go away and come back.
+fn play_moves<R: Wait + Sync + Drop + Copy>(
+    rt: R,
+    alloc: Global,
+    layout: Layout,
+    cells: &[[Word; 2]],
+) -> Result<Option<usize>, Refusal> {
+    let script = coming_back::script(alloc, cells)?;
+    play(rt, alloc, layout, &script)
 }
 
 /// Each text is at its place, in its own column.
@@ -286,88 +297,90 @@ const THREES: Layout = Layout { group: 3, ..FOURS };
 
 #[test]
 fn each_column_gets_its_own_text(rt: HostRuntime) -> Result<(), Fail> {
-    assert_eq!(rt; play(&rt, rt.alloc(), PAIRS, &PUSHED)?, None);
-    Ok(())
+    answered(play(&rt, rt.alloc(), PAIRS, &PUSHED))
 }
 
 #[test]
 fn a_push_refused_for_memory_can_be_repeated(rt: HostRuntime) -> Result<(), Fail> {
-    assert_eq!(rt; play(&rt, rt.alloc(), PAIRS, &REPEATED)?, None);
-    Ok(())
+    answered(play(&rt, rt.alloc(), PAIRS, &REPEATED))
 }
 
 #[test]
 fn texts_that_may_be_pushed_are_pushed(rt: HostRuntime) -> Result<(), Fail> {
-    assert_eq!(rt; play(&rt, rt.alloc(), PAIRS, &ASKED)?, None);
-    Ok(())
+    answered(play(&rt, rt.alloc(), PAIRS, &ASKED))
 }
 
 #[test]
 fn the_first_refusal_of_several_texts_is_told_beforehand(rt: HostRuntime) -> Result<(), Fail> {
-    assert_eq!(rt; play(&rt, rt.alloc(), UNWRITABLE, &BEGUN)?, None);
-    assert_eq!(rt; play(&rt, rt.alloc(), FOUR_SEGMENTS, &WITH_ROOM)?, None);
-    assert_eq!(rt; play(&rt, rt.alloc(), WRITABLE, &FREE)?, None);
-    Ok(())
+    answered(play(&rt, rt.alloc(), UNWRITABLE, &BEGUN))
+}
+
+#[test]
+fn used_up_objects_of_several_texts_are_told_where_there_is_room(
+    rt: HostRuntime,
+) -> Result<(), Fail> {
+    answered(play(&rt, rt.alloc(), FOUR_SEGMENTS, &WITH_ROOM))
+}
+
+#[test]
+fn several_texts_may_be_pushed_where_nothing_refuses_them(rt: HostRuntime) -> Result<(), Fail> {
+    answered(play(&rt, rt.alloc(), WRITABLE, &FREE))
 }
 
 #[test]
 fn the_first_refusal_of_texts_that_begin_row_groups_is_told_beforehand(
     rt: HostRuntime,
 ) -> Result<(), Fail> {
-    assert_eq!(rt; play(&rt, rt.alloc(), ONES, &BEGINS)?, None);
-    assert_eq!(rt;
-        play(&rt, rt.alloc(), ONES_WITH_ROOM, &BEGINS_WITH_ROOM)?,
-        None
-    );
-    Ok(())
+    answered(play(&rt, rt.alloc(), ONES, &BEGINS))
+}
+
+#[test]
+fn texts_that_begin_row_groups_need_no_object_that_is_there(rt: HostRuntime) -> Result<(), Fail> {
+    answered(play(&rt, rt.alloc(), ONES_WITH_ROOM, &BEGINS_WITH_ROOM))
 }
 
 #[test]
 fn an_object_that_is_away_refuses_all(rt: HostRuntime) -> Result<(), Fail> {
-    assert_eq!(rt; play(&rt, rt.alloc(), FOURS, &AWAY)?, None);
-    Ok(())
+    answered(play(&rt, rt.alloc(), FOURS, &AWAY))
 }
 
 #[test]
 fn new_forms_find_room_beside_the_old_ones_or_nothing_changes(rt: HostRuntime) -> Result<(), Fail> {
-    assert_eq!(rt; play(&rt, rt.alloc(), THREE_SEGMENTS, &OLD_FORMS)?, None);
-    Ok(())
+    answered(play(&rt, rt.alloc(), THREE_SEGMENTS, &OLD_FORMS))
 }
 
 #[test]
 fn a_row_group_without_room_in_the_second_column_changes_nothing(
     rt: HostRuntime,
 ) -> Result<(), Fail> {
-    assert_eq!(rt; play(&rt, rt.alloc(), THREE_ONES, &BEHIND)?, None);
-    Ok(())
+    answered(play(&rt, rt.alloc(), THREE_ONES, &BEHIND))
 }
 
 #[test]
 fn a_form_that_is_too_long_in_one_column_refuses_all(rt: HostRuntime) -> Result<(), Fail> {
-    assert_eq!(rt; play(&rt, rt.alloc(), FOURS, &FULL)?, None);
-    Ok(())
+    answered(play(&rt, rt.alloc(), FOURS, &FULL))
 }
 
 #[test]
-fn a_form_that_is_full_to_the_byte_refuses_one_byte_more_for_all(
+fn a_first_form_that_is_full_to_the_byte_refuses_one_byte_more_for_all(
     rt: HostRuntime,
 ) -> Result<(), Fail> {
-    for k in 0..2 {
-        let wrong = play(&rt, rt.alloc(), FOURS, &filled(k))?;
-        assert_eq!(rt; wrong, None, "column {k}");
-    }
-    Ok(())
+    answered(play(&rt, rt.alloc(), FOURS, &filled(0)))
+}
+
+#[test]
+fn a_second_form_that_is_full_to_the_byte_refuses_one_byte_more_for_all(
+    rt: HostRuntime,
+) -> Result<(), Fail> {
+    answered(play(&rt, rt.alloc(), FOURS, &filled(1)))
 }
 
 #[test]
 fn objects_that_were_written_as_often_as_they_may_refuse_all(rt: HostRuntime) -> Result<(), Fail> {
-    assert_eq!(rt; play(&rt, rt.alloc(), ONE_WRITE, &WRITTEN_OUT)?, None);
-    Ok(())
+    answered(play(&rt, rt.alloc(), ONE_WRITE, &WRITTEN_OUT))
 }
 
 #[test]
 fn texts_that_went_away_and_came_back_read_as_before(rt: HostRuntime) -> Result<(), Fail> {
-    let script = coming_back::script(rt.alloc(), &MOVED)?;
-    assert_eq!(rt; play(&rt, rt.alloc(), THREES, &script)?, None);
-    Ok(())
+    answered(play_moves(&rt, rt.alloc(), THREES, &MOVED))
 }

@@ -170,12 +170,20 @@ impl<'a, S: FarStore> OneNumberColumn<'a, S> {
             NumberCall::Set(place, number) => self.set(place, number),
             NumberCall::Clear(place) => self.clear(place),
             NumberCall::Away(group) => self.send_away(alloc, group),
+            call => self.reply_of_reading(call),
+        }
+    }
+
+    // What a call answers that changes nothing.
+    fn reply_of_reading(&self, call: NumberCall) -> Result<(), Refusal> {
+        match call {
             NumberCall::Lend(from, to) => self.lend((from, to)),
             NumberCall::Number(place, number) => {
                 found(self.column.get(&self.objects, place)? == number)
             }
             NumberCall::Alive(place, alive) => found(self.alive.get(place) == alive),
             NumberCall::Len(len) => found(self.column.len() == len),
+            _ => Err(WRONG),
         }
     }
 

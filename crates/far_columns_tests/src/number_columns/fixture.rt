@@ -75,6 +75,28 @@ impl<'a, S: FarStore> TwoNumberColumns<'a, S> {
         reply
     }
 
+    fn send_away(&mut self, alloc: Global, k: usize, group: u32) -> Result<(), Refusal> {
+        send_away(
+            alloc,
+            &mut self.objects,
+            self.store,
+            &self.columns,
+            k,
+            group,
+        )
+    }
+
+    fn bring_back(&mut self, alloc: Global, k: usize, group: u32) -> Result<(), Refusal> {
+        bring_back(
+            alloc,
+            &mut self.objects,
+            self.store,
+            &self.columns,
+            k,
+            group,
+        )
+    }
+
     fn clear(&mut self, place: usize) -> Result<(), Refusal> {
         if place >= self.alive.len() {
             return Err(Refusal::NoRow);
@@ -222,27 +244,18 @@ impl<'a, S: FarStore> TwoNumberColumns<'a, S> {
 
     fn reply(&mut self, alloc: Global, call: PairCall<Option<i64>>) -> Result<(), Refusal> {
         match call {
-            PairCall::MayPush(_, _) => may_push_numbers(&self.objects, &self.columns),
             PairCall::Push(first, second) => self.push(first, second),
-            // One column alone is set, as in the scripts of one column.
-            PairCall::Set(_, _, _) => Err(WRONG),
             PairCall::Clear(place) => self.clear(place),
-            PairCall::Away(k, group) => send_away(
-                alloc,
-                &mut self.objects,
-                self.store,
-                &self.columns,
-                k,
-                group,
-            ),
-            PairCall::Back(k, group) => bring_back(
-                alloc,
-                &mut self.objects,
-                self.store,
-                &self.columns,
-                k,
-                group,
-            ),
+            PairCall::Away(k, group) => self.send_away(alloc, k, group),
+            PairCall::Back(k, group) => self.bring_back(alloc, k, group),
+            call => self.reply_of_reading(call),
+        }
+    }
+
+    // What a call answers that changes nothing. One column alone is set, as in the scripts of one column.
+    fn reply_of_reading(&self, call: PairCall<Option<i64>>) -> Result<(), Refusal> {
+        match call {
+            PairCall::MayPush(_, _) => may_push_numbers(&self.objects, &self.columns),
             PairCall::Lend(k) => self.lend(k),
             PairCall::Cell(k, place, number) => self.find(k, place, number),
             PairCall::Len(len) => found(have_len(&self.columns, len)),
@@ -250,6 +263,7 @@ impl<'a, S: FarStore> TwoNumberColumns<'a, S> {
             PairCall::ObjectsOf(group, first, second) => {
                 found(have_objects(&self.columns, group, first, second))
             }
+            _ => Err(WRONG),
         }
     }
 

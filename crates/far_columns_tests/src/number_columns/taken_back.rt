@@ -5,12 +5,14 @@ ghost use Rattle.far_columns.specs.Numbers.{number_lists};
 ghost use Rattle.far_columns.specs.NumbersTogether.{AreNumberColumns, all_begin, all_pushed};
 ghost use Rattle.far_columns.specs.NumbersBack.{AreBegunLast};
 
+use crate::script::agent;
 use far_columns::{IntColumn, push_numbers, unpush_numbers};
-use far_fixtures::{agent, no_objects};
+use far_fixtures::no_objects;
 use far_scopes::Objects;
 use far_store::FarTickets;
 use far_types::Refusal;
 use std::alloc::Global;
+use std::sync::Wait;
 use std::test::Fail;
 
 /// Two columns without a number, in row groups of one place.
@@ -113,9 +115,13 @@ fn begin_again_in<S: FarTickets>(alloc: Global, store: &S) -> Result<bool, Refus
     begin_again(alloc, &mut objects)
 }
 
+fn begin_again_over<R: Wait + Sync + Drop + Copy>(rt: R, alloc: Global) -> Result<bool, Refusal> {
+    let store = agent(rt, alloc)?;
+    begin_again_in(alloc, &store)
+}
+
 #[test]
 fn numbers_taken_back_give_back_their_objects(rt: HostRuntime) -> Result<(), Fail> {
-    let store = agent(&rt, 4)?;
-    assert!(rt; begin_again_in(rt.alloc(), &store)?);
+    assert!(rt; begin_again_over(&rt, rt.alloc())?);
     Ok(())
 }

@@ -100,15 +100,19 @@ impl<'a, S: FarStore> OneTextColumn<'a, S> {
 
     fn push(&mut self, alloc: Global, word: Word) -> Result<(), Refusal> {
         let text = text(alloc, word)?;
+        self.push_text(alloc, &text)
+    }
+
+    fn push_text(&mut self, alloc: Global, text: &Option<Text>) -> Result<(), Refusal> {
         self.alive.push()?;
-        let reply = self.push_text(alloc, &text);
+        let reply = self.push_in_column(alloc, text);
         if reply.is_err() && self.alive.len() > 0 {
             self.alive.unpush();
         }
         reply
     }
 
-    fn push_text(&mut self, alloc: Global, text: &Option<Text>) -> Result<(), Refusal> {
+    fn push_in_column(&mut self, alloc: Global, text: &Option<Text>) -> Result<(), Refusal> {
         if self.objects.count() >= 8 {
             return Err(Refusal::TableFull);
         }
@@ -122,8 +126,17 @@ impl<'a, S: FarStore> OneTextColumn<'a, S> {
 
     fn set(&mut self, alloc: Global, place: usize, word: Word) -> Result<(), Refusal> {
         let text = text(alloc, word)?;
-        let due = self.column.may_set(&self.objects, place, &text);
-        match self.column.set(alloc, &mut self.objects, place, &text) {
+        self.set_text(alloc, place, &text)
+    }
+
+    fn set_text(
+        &mut self,
+        alloc: Global,
+        place: usize,
+        text: &Option<Text>,
+    ) -> Result<(), Refusal> {
+        let due = self.column.may_set(&self.objects, place, text);
+        match self.column.set(alloc, &mut self.objects, place, text) {
             Err(Refusal::NoMemory) => Err(Refusal::NoMemory),
             reply if reply == due => reply,
             _ => Err(WRONG),
@@ -154,13 +167,21 @@ impl<'a, S: FarStore> OneTextColumn<'a, S> {
         len: usize,
     ) -> Result<(), Refusal> {
         let text = text(alloc, word)?;
-        found(self.column.form_length_with(&self.objects, place, &text)? == len)
+        is_len(
+            self.column.form_length_with(&self.objects, place, &text),
+            len,
+        )
     }
 
     fn has_len_with_next(&self, alloc: Global, word: Word, len: usize) -> Result<(), Refusal> {
         let text = text(alloc, word)?;
-        found(self.column.form_length_with_next(&self.objects, &text)? == len)
+        is_len(self.column.form_length_with_next(&self.objects, &text), len)
     }
+}
+
+// Finds a length.
+fn is_len(told: Result<usize, Refusal>, len: usize) -> Result<(), Refusal> {
+    found(told? == len)
 }
 
 impl<'a, S: FarStore> OneTextColumn<'a, S> {
@@ -191,10 +212,17 @@ impl<'a, S: FarStore> OneTextColumn<'a, S> {
     fn reply(&mut self, alloc: Global, call: TextCall) -> Result<(), Refusal> {
         match call {
             TextCall::Push(word) => self.push(alloc, word),
-            TextCall::MaySet(place, word) => self.may_set(alloc, place, word),
             TextCall::Set(place, word) => self.set(alloc, place, word),
             TextCall::Clear(place) => self.clear(place),
             TextCall::Away(group) => self.send_away(alloc, group),
+            call => self.reply_of_reading(alloc, call),
+        }
+    }
+
+    // What a call answers that changes nothing.
+    fn reply_of_reading(&self, alloc: Global, call: TextCall) -> Result<(), Refusal> {
+        match call {
+            TextCall::MaySet(place, word) => self.may_set(alloc, place, word),
             TextCall::Lend(from, to) => {
                 lend_texts(&self.objects, &self.column, &self.alive, (from, to))
             }
@@ -204,6 +232,7 @@ impl<'a, S: FarStore> OneTextColumn<'a, S> {
             TextCall::LenWith(place, word, len) => self.has_len_with(alloc, place, word, len),
             TextCall::LenWithNext(word, len) => self.has_len_with_next(alloc, word, len),
             TextCall::Object(group, object) => found(self.column.object(group) == object),
+            _ => Err(WRONG),
         }
     }
 

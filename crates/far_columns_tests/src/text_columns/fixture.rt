@@ -65,14 +65,18 @@ impl<'a, S: FarStore> TwoTextColumns<'a, S> {
     }
 
     fn may_push(&self, alloc: Global, first: Word, second: Word) -> Result<(), Refusal> {
-        let texts = [text(alloc, first)?, text(alloc, second)?];
+        let texts = two_texts(alloc, first, second)?;
         may_push_texts(&self.objects, &self.columns, &texts)
     }
 
     fn push(&mut self, alloc: Global, first: Word, second: Word) -> Result<(), Refusal> {
-        let texts = [text(alloc, first)?, text(alloc, second)?];
+        let texts = two_texts(alloc, first, second)?;
+        self.push_texts(alloc, &texts)
+    }
+
+    fn push_texts(&mut self, alloc: Global, texts: &[Option<Text>]) -> Result<(), Refusal> {
         self.alive.push()?;
-        let reply = push(alloc, &mut self.objects, &mut self.columns, &texts);
+        let reply = push(alloc, &mut self.objects, &mut self.columns, texts);
         if reply.is_err() && self.alive.len() > 0 {
             self.alive.unpush();
         }
@@ -85,6 +89,28 @@ impl<'a, S: FarStore> TwoTextColumns<'a, S> {
         }
         let text = text(alloc, word)?;
         set_text(alloc, &mut self.objects, &self.columns, k, place, &text)
+    }
+
+    fn send_away(&mut self, alloc: Global, k: usize, group: u32) -> Result<(), Refusal> {
+        send_away(
+            alloc,
+            &mut self.objects,
+            self.store,
+            &self.columns,
+            k,
+            group,
+        )
+    }
+
+    fn bring_back(&mut self, alloc: Global, k: usize, group: u32) -> Result<(), Refusal> {
+        bring_back(
+            alloc,
+            &mut self.objects,
+            self.store,
+            &self.columns,
+            k,
+            group,
+        )
     }
 
     fn clear(&mut self, place: usize) -> Result<(), Refusal> {
@@ -104,6 +130,11 @@ impl<'a, S: FarStore> TwoTextColumns<'a, S> {
         let column = column_of(&self.objects, &self.columns, k);
         find(column.text(&self.objects, place)?, word)
     }
+}
+
+// The texts of two words.
+fn two_texts(alloc: Global, first: Word, second: Word) -> Result<[Option<Text>; 2], Refusal> {
+    Ok([text(alloc, first)?, text(alloc, second)?])
 }
 
 // Two columns without a text.
@@ -254,26 +285,19 @@ impl<'a, S: FarStore> TwoTextColumns<'a, S> {
 
     fn reply(&mut self, alloc: Global, call: PairCall<Word>) -> Result<(), Refusal> {
         match call {
-            PairCall::MayPush(first, second) => self.may_push(alloc, first, second),
             PairCall::Push(first, second) => self.push(alloc, first, second),
             PairCall::Set(k, place, word) => self.set(alloc, k, place, word),
             PairCall::Clear(place) => self.clear(place),
-            PairCall::Away(k, group) => send_away(
-                alloc,
-                &mut self.objects,
-                self.store,
-                &self.columns,
-                k,
-                group,
-            ),
-            PairCall::Back(k, group) => bring_back(
-                alloc,
-                &mut self.objects,
-                self.store,
-                &self.columns,
-                k,
-                group,
-            ),
+            PairCall::Away(k, group) => self.send_away(alloc, k, group),
+            PairCall::Back(k, group) => self.bring_back(alloc, k, group),
+            call => self.reply_of_reading(alloc, call),
+        }
+    }
+
+    // What a call answers that changes nothing.
+    fn reply_of_reading(&self, alloc: Global, call: PairCall<Word>) -> Result<(), Refusal> {
+        match call {
+            PairCall::MayPush(first, second) => self.may_push(alloc, first, second),
             PairCall::Lend(k) => self.lend(k),
             PairCall::Cell(k, place, word) => self.find(k, place, word),
             PairCall::Len(len) => found(have_len(&self.columns, len)),
@@ -281,6 +305,7 @@ impl<'a, S: FarStore> TwoTextColumns<'a, S> {
             PairCall::ObjectsOf(group, first, second) => {
                 found(have_objects(&self.columns, group, first, second))
             }
+            _ => Err(WRONG),
         }
     }
 
