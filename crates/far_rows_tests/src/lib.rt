@@ -14,6 +14,8 @@ mod pushing;
 #[cfg(test)]
 mod random_run;
 #[cfg(test)]
+mod renewing;
+#[cfg(test)]
 mod script;
 #[cfg(test)]
 mod setting;
