@@ -3,6 +3,7 @@ ghost use Rattle.std.specs.Prelude.{◌≡◌, ℕ, List, length, IfOk};
 ghost use Rattle.far_scopes.specs.Movement.{AreHere};
 
 mod moving;
+mod renewing;
 mod writing;
 
 use far_rows::{CellRef, Rows};

@@ -16,6 +16,8 @@ mod pushing;
 #[cfg(test)]
 mod random_run;
 #[cfg(test)]
+mod renewing;
+#[cfg(test)]
 mod script;
 #[cfg(test)]
 mod setting;

@@ -8,7 +8,7 @@ use std::alloc::Global;
 use std::test::Fail;
 
 /// The columns of which the objects of a row group go away, and the first of these: one of texts, one of numbers, and all.
-const AWAY: [(&[usize], usize); 3] = [(&[2], 2), (&[1], 1), (&[3, 0, 1, 2], 0)];
+pub const AWAY: [(&[usize], usize); 3] = [(&[2], 2), (&[1], 1), (&[3, 0, 1, 2], 0)];
 
 /// How a call is refused for the object of a column in the second row group.
 fn absent(column: usize) -> Result<(), Refusal> {
@@ -43,7 +43,7 @@ fn moved(column: usize) -> [Step; 5] {
 }
 
 /// Sends the objects of a row group of some columns away, one after the other.
-fn send_away<S: FarStore>(
+pub fn send_away<S: FarStore>(
     alloc: Global,
     fixture: &mut Fixture<'_, S>,
     columns: &[usize],
@@ -55,7 +55,7 @@ fn send_away<S: FarStore>(
 }
 
 /// Brings them back.
-fn bring_back<S: FarStore>(
+pub fn bring_back<S: FarStore>(
     alloc: Global,
     fixture: &mut Fixture<'_, S>,
     columns: &[usize],
@@ -67,7 +67,7 @@ fn bring_back<S: FarStore>(
 }
 
 /// Whether calls are answered as they should be while the object of a column is the first that is away.
-fn are_refused<S: FarStore>(
+pub fn are_refused<S: FarStore>(
     alloc: Global,
     fixture: &mut Fixture<'_, S>,
     column: usize,
@@ -125,12 +125,13 @@ fn pinned_twice(column: usize) -> [Step; 8] {
 }
 
 /// Names a column or a row group that is not there.
-fn missing(column: usize, group: u32, refusal: Refusal) -> [Step; 4] {
+fn missing(column: usize, group: u32, refusal: Refusal) -> [Step; 5] {
     [
         Step::Call(Call::Pin(column, group), Err(refusal)),
         Step::Call(Call::Unpin(column, group), Err(refusal)),
         Step::Call(Call::Touch(column, group), Err(refusal)),
         Step::Call(Call::Evacuate(column, group), Err(refusal)),
+        Step::Call(Call::FetchBack(column, group), Err(refusal)),
     ]
 }
 
