@@ -26,7 +26,7 @@ not-not false = refl
 
 module _ {K : Type 0} (content : K → List ℕ) (r : Rows K) (are : AreRows content r) (column group o : ℕ) where
   -- the column has a slot where the object is found
-  lies : (found : Object) → object_at r column group ≡ Some found → (s : Slot) × (slice_get r.slots column ≡ Some s)
+  pub lies : (found : Object) → object_at r column group ≡ Some found → (s : Slot) × (slice_get r.slots column ≡ Some s)
   lies found at = elim (cases_option (slice_get r.slots column)) [
     | inl none ↦ absurd (none-some found (sym (ap (option_and_then (λ (t : Slot). option_map (object_in t) (object_of r t group))) none) ∙ at))
     | inr (s, is) ↦ (s, is)

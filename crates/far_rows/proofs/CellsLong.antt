@@ -12,7 +12,7 @@ use Rattle.far_columns.specs.Numbers.{number_lists, numbers_in}
 use Rattle.far_columns.proofs.Groups.{texts-length}
 use Rattle.far_rows.specs.declared.slot.Slot.{Slot}
 use Rattle.far_rows.specs.declared.slot.Slot.TheVariants as slot
-use Rattle.far_rows.specs.Cells.{int_cell, text_cell}
+use Rattle.far_types.specs.Lent.{int_cell, text_cell}
 use Rattle.far_rows.specs.Slots.{Values, IsWithin, cell_in, column_in, row_of}
 use Rattle.far_rows.specs.Rows.{Rows, AreRows, all_numbers, all_texts, cells_of}
 use Rattle.far_rows.proofs.Overfull.{found-at}

@@ -7,7 +7,7 @@ use Rattle.std.proofs.lemmas.Option.{slice_get_within, slice_get-map, get_or_fro
 use Rattle.far_columns.specs.Numbers.{Numbers}
 use Rattle.far_rows.specs.declared.slot.Slot.{Slot}
 use Rattle.far_rows.specs.declared.slot.Slot.TheVariants as slot
-use Rattle.far_rows.specs.Cells.{int_cell, text_cell}
+use Rattle.far_types.specs.Lent.{int_cell, text_cell}
 use Rattle.far_types.specs.declared.cell.Kind.{Kind}
 use Rattle.far_rows.specs.Slots.{kind_of, column_in, columns_of}
 use Rattle.far_rows.specs.Setting.{with_cell_at}

@@ -9,7 +9,7 @@ use Rattle.far_types.specs.Cells.{is_of_kind}
 use Rattle.far_types.specs.Edits.{kinds_fit}
 use Rattle.far_rows.specs.declared.slot.Slot.{Slot}
 use Rattle.far_rows.specs.declared.slot.Slot.TheVariants as slot
-use Rattle.far_rows.specs.Cells.{int_cell, text_cell}
+use Rattle.far_types.specs.Lent.{int_cell, text_cell}
 use Rattle.far_rows.specs.Slots.{Values, IsWithin, kind_of, cell_in, row_of, with_value}
 
 and-left : (a b : Bool) → a && b ≡ true → a ≡ true

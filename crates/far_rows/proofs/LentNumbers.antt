@@ -21,7 +21,7 @@ use Rattle.far_columns.specs.Numbers.{Numbers, numbers_in, with_flags}
 use Rattle.far_columns.proofs.FirstCases.{first-append}
 use Rattle.far_rows.specs.declared.slot.Slot.{Slot}
 use Rattle.far_rows.specs.declared.slot.Slot.TheVariants as slot
-use Rattle.far_rows.specs.Cells.{int_cell}
+use Rattle.far_types.specs.Lent.{int_cell}
 use Rattle.far_rows.specs.Slots.{kind_of, column_in}
 use Rattle.far_rows.specs.Rows.{Rows, AreRows, all_numbers, all_texts, cells_of}
 use Rattle.far_rows.specs.Refusing.{told_at, absent_at, no_range, ints_refusal}

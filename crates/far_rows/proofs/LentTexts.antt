@@ -21,7 +21,7 @@ use Rattle.far_columns.proofs.FirstCases.{first-append}
 use Rattle.far_columns.proofs.Groups.{texts-length}
 use Rattle.far_rows.specs.declared.slot.Slot.{Slot}
 use Rattle.far_rows.specs.declared.slot.Slot.TheVariants as slot
-use Rattle.far_rows.specs.Cells.{text_cell}
+use Rattle.far_types.specs.Lent.{text_cell}
 use Rattle.far_rows.specs.Slots.{kind_of, column_in}
 use Rattle.far_rows.specs.Rows.{Rows, AreRows, all_numbers, all_texts, cells_of}
 use Rattle.far_rows.specs.Refusing.{told_at, absent_at, no_range, texts_refusal}

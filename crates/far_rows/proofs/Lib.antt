@@ -37,3 +37,4 @@ pub mod Renewed
 pub mod Reading
 pub mod LentNumbers
 pub mod LentTexts
+pub mod Grouped

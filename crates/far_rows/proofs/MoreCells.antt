@@ -10,7 +10,7 @@ use Rattle.far_columns.specs.NumbersTogether.{NumberLists, NumberColumns, all_nu
 use Rattle.far_columns.specs.Together.{all_texts_with}
 use Rattle.far_rows.specs.declared.slot.Slot.{Slot}
 use Rattle.far_rows.specs.declared.slot.Slot.TheVariants as slot
-use Rattle.far_rows.specs.Cells.{int_cell, text_cell}
+use Rattle.far_types.specs.Lent.{int_cell, text_cell}
 use Rattle.far_rows.specs.Slots.{Values, IsWithin, cell_in, row_of, column_in, columns_of, with_row}
 
 module _ {A : Type 0} where

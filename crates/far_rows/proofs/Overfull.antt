@@ -25,7 +25,7 @@ use Rattle.far_columns.proofs.Groups.{texts-length}
 use Rattle.far_columns.proofs.RowGroups.{group-with-next, group-with-text}
 use Rattle.far_rows.specs.declared.slot.Slot.{Slot}
 use Rattle.far_rows.specs.declared.slot.Slot.TheVariants as slot
-use Rattle.far_rows.specs.Cells.{text_cell}
+use Rattle.far_types.specs.Lent.{text_cell}
 use Rattle.far_rows.specs.Slots.{IsWithin, Values, kind_of, cell_in, row_of, column_in}
 use Rattle.far_rows.specs.Rows.{Rows, AreRows, all_numbers, all_texts, cells_of}
 use Rattle.far_rows.specs.Places.{places_in, AreOf, text_parts}

@@ -16,19 +16,19 @@ use Rattle.far_rows.specs.Moving.{object_in, object_at, pins_used, pin_refusal}
 use Rattle.far_rows.specs.Refusing.{told_at, absent_at}
 use Rattle.far_rows.proofs.AbsentNames.{one-named}
 
-number-of : (found : Option ℕ) (o : ℕ) → option_map (λ p. object.Number p) found ≡ Some (object.Number o) → found ≡ Some o
+pub number-of : (found : Option ℕ) (o : ℕ) → option_map (λ p. object.Number p) found ≡ Some (object.Number o) → found ≡ Some o
 number-of None o is = absurd cc
 number-of (Some p) o is = cc
 
-no-number : {A : Type 0} (found : Option ℕ) (o : ℕ) → option_map (λ p. object.Text p) found ≡ Some (object.Number o) → A
+pub no-number : {A : Type 0} (found : Option ℕ) (o : ℕ) → option_map (λ p. object.Text p) found ≡ Some (object.Number o) → A
 no-number None o is = absurd cc
 no-number (Some p) o is = absurd cc
 
-text-of : (found : Option ℕ) (o : ℕ) → option_map (λ p. object.Text p) found ≡ Some (object.Text o) → found ≡ Some o
+pub text-of : (found : Option ℕ) (o : ℕ) → option_map (λ p. object.Text p) found ≡ Some (object.Text o) → found ≡ Some o
 text-of None o is = absurd cc
 text-of (Some p) o is = cc
 
-no-text : {A : Type 0} (found : Option ℕ) (o : ℕ) → option_map (λ p. object.Number p) found ≡ Some (object.Text o) → A
+pub no-text : {A : Type 0} (found : Option ℕ) (o : ℕ) → option_map (λ p. object.Number p) found ≡ Some (object.Text o) → A
 no-text None o is = absurd cc
 no-text (Some p) o is = absurd cc
 

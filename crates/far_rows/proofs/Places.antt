@@ -10,7 +10,7 @@ use Rattle.far_types.specs.declared.cell.Cell.TheVariants as cell
 use Rattle.far_types.specs.Cells.{cell_at, text_in}
 use Rattle.far_types.specs.Edits.{with_cell, removed, changed_at}
 use Rattle.far_types.specs.Table.{Place, column, in_group}
-use Rattle.far_rows.specs.Cells.{text_cell}
+use Rattle.far_types.specs.Lent.{text_cell}
 use Rattle.far_rows.specs.Places.{row_at, places_of}
 
 -- the places from one on, of a row for each flag

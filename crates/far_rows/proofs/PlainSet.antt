@@ -29,7 +29,7 @@ use Rattle.far_rows.specs.declared.slot.Slot.TheVariants as slot
 use Rattle.far_rows.specs.declared.object.Object.{Object}
 use Rattle.far_rows.specs.declared.new_cell.NewCell.{NewCell}
 use Rattle.far_rows.specs.declared.new_cell.NewCell.TheVariants as new
-use Rattle.far_rows.specs.Cells.{text_cell}
+use Rattle.far_types.specs.Lent.{text_cell}
 use Rattle.far_rows.specs.Slots.{IsWithin, kind_of}
 use Rattle.far_rows.specs.Rows.{Rows, AreRows, object_of}
 use Rattle.far_rows.specs.Setting.{cell_of, kind_in, set_refusal, value_refusal}

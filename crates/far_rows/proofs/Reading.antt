@@ -18,7 +18,7 @@ use Rattle.far_columns.specs.Numbers.{number_lists, numbers_in}
 use Rattle.far_columns.specs.Texts.{Texts, HasGroups, IsTextColumn, lists_of, texts_in}
 use Rattle.far_columns.specs.Refusing.{text_refusal}
 use Rattle.far_rows.specs.declared.slot.Slot.TheVariants as slot
-use Rattle.far_rows.specs.Cells.{text_cell}
+use Rattle.far_types.specs.Lent.{text_cell}
 use Rattle.far_rows.specs.Slots.{column_in}
 use Rattle.far_rows.specs.Rows.{Rows, AreRows, all_numbers, all_texts}
 use Rattle.far_rows.specs.Refusing.{told_at}

@@ -6,7 +6,7 @@ use Rattle.far_types.specs.declared.cell.Cell.{Cell}
 use Rattle.far_types.specs.Cells.{is_too_long}
 use Rattle.far_columns.specs.Refusing.{text_too_long}
 use Rattle.far_columns.specs.RefusingTogether.{any_too_long}
-use Rattle.far_rows.specs.Cells.{text_cell}
+use Rattle.far_types.specs.Lent.{text_cell}
 
 or-none : (a b : Bool) → (a || b) ≡ false → (a ≡ false) × (b ≡ false)
 or-none true b is = absurd cc

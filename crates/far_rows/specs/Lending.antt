@@ -1,9 +1,14 @@
 -- Parts of columns that are lent.
-use Rattle.std.specs.Prelude.{ℕ, Bool, List, [], Option, slice_get, slice_index_or, slice_range}
+use Rattle.std.specs.Prelude.{ℕ, Bool, List, [], map, Option, slice_get, slice_index_or, slice_range}
 use Rattle.std.specs.List.{zip}
 use Rattle.std.specs.Option.{option_map_or}
+use Rattle.far_types.specs.declared.cell.Cell.{Cell}
+use Rattle.far_types.specs.Lent.{int_cell, text_cell}
+use Rattle.far_codec.specs.TextForm.{texts_meaning, IsTextsForm}
 use Rattle.far_vector.specs.Pieces.{pieces_of}
 use Rattle.far_columns.specs.Numbers.{Numbers, with_flags}
+use Rattle.far_rows.specs.declared.lent_column.LentColumn.{LentColumn}
+use Rattle.far_rows.specs.declared.lent_column.LentColumn.TheVariants as lent
 use Rattle.far_rows.specs.declared.slot.Slot.{Slot}
 use Rattle.far_rows.specs.declared.slot.Slot.TheVariants as slot
 use Rattle.far_rows.specs.Rows.{Rows, all_numbers, all_texts}
@@ -26,3 +31,13 @@ module _ {K : Type 0} (content : K → List ℕ) (r : Rows K) where
   -- the texts that are lent of a column, each with the flag of its place
   abbrev pub lent_texts : ℕ → ℕ → ℕ → List (Option (List ℕ) × Bool)
   lent_texts column from to = option_map_or (λ s. zip (slice_range (texts_of s) from to) (slice_range r.alive from to)) (slice_get r.slots column) []
+
+-- the cells of a row group that is lent
+abbrev pub cells_lent : LentColumn → List Cell
+cells_lent (lent.Numbers numbers) = map int_cell numbers.now
+cells_lent (lent.Form form) = map text_cell (texts_meaning form.now)
+
+-- what is lent of a column of texts is a far form
+abbrev pub IsLent : LentColumn → Type 0
+IsLent (lent.Numbers numbers) = Unit {0}
+IsLent (lent.Form form) = IsTextsForm form.now

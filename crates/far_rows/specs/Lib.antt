@@ -1,4 +1,3 @@
-pub mod Cells
 pub mod Slots
 pub mod Naming
 pub mod Rows

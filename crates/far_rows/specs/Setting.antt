@@ -14,7 +14,7 @@ use Rattle.far_rows.specs.declared.slot.Slot.{Slot}
 use Rattle.far_rows.specs.declared.slot.Slot.TheVariants as slot
 use Rattle.far_rows.specs.declared.new_cell.NewCell.{NewCell}
 use Rattle.far_rows.specs.declared.new_cell.NewCell.TheVariants as new
-use Rattle.far_rows.specs.Cells.{int_cell, text_cell}
+use Rattle.far_types.specs.Lent.{int_cell, text_cell}
 use Rattle.far_rows.specs.Rows.{Rows}
 use Rattle.far_rows.specs.Refusing.{absents}
 

@@ -6,7 +6,7 @@ use Rattle.far_types.specs.declared.cell.Kind.{Kind}
 use Rattle.far_types.specs.declared.cell.Kind.TheVariants as kind
 use Rattle.far_rows.specs.declared.slot.Slot.{Slot}
 use Rattle.far_rows.specs.declared.slot.Slot.TheVariants as slot
-use Rattle.far_rows.specs.Cells.{int_cell, text_cell}
+use Rattle.far_types.specs.Lent.{int_cell, text_cell}
 
 -- the slots of columns of these kinds, behind so many columns of numbers and so many of texts
 abbrev pub slots_from : ℕ → ℕ → List Kind → List Slot

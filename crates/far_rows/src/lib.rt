@@ -1,8 +1,9 @@
 #![tactic(auto)]
 //! The rows of a table whose columns lie in objects that may be away.
 
-mod cell_ref;
 mod job;
+mod lent_cell;
+mod lent_column;
 mod new_cell;
 mod new_row;
 mod object;
@@ -10,8 +11,8 @@ mod renewal;
 mod rows;
 mod slot;
 
-pub use cell_ref::CellRef;
 pub use job::{ByKind, RowsCarried, RowsEvac, RowsFetch, RowsFetched};
+pub use lent_column::LentColumn;
 pub use new_cell::NewCell;
 pub use new_row::NewRow;
 pub use object::Object;

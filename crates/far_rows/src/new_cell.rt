@@ -1,9 +1,11 @@
 // A cell that is to come.
 ghost use Rattle.std.specs.Prelude.{◌≡◌, true};
 ghost use Rattle.far_types.specs.Cells.{is_of_kind};
+ghost use Rattle.far_types.specs.Lent.{lent_cell};
 ghost use Rattle.far_rows.specs.Setting.{cell_of, kind_in};
 
-use far_types::{Cell, Kind, Text};
+use super::lent_cell::lent_number;
+use far_types::{Cell, CellRef, Kind, Text};
 
 /// A value for a place of a column, a number or a text, each of which may be missing.
 #[derive(Drop, Debug)]
@@ -27,6 +29,17 @@ impl NewCell {
             (Kind::Text, Cell::Text(text)) => NewCell::Text(Some(text)),
             (Kind::Text, Cell::Missing) => NewCell::Text(None),
             _ => unreachable!(),
+        }
+    }
+
+    /// The value as a cell, lent in place. Takes no memory.
+    pub fn lend(&self) -> CellRef<'_>
+        ensures { lent_cell result ≡ cell_of self.now }
+    {
+        match self {
+            NewCell::Number(number) => lent_number(*number),
+            NewCell::Text(Some(text)) => CellRef::Text(text.as_str()),
+            NewCell::Text(None) => CellRef::Missing,
         }
     }
 }

@@ -1,14 +1,15 @@
 // A row that is to come.
-ghost use Rattle.std.specs.Prelude.{◌≡◌, None, replicate, true, false, length, map, IfOk, IfErr};
+ghost use Rattle.std.specs.Prelude.{◌≡◌, ◌≤◌, None, replicate, true, false, length, map, IfOk, IfErr};
 ghost use Rattle.far_types.specs.Edits.{kinds_fit};
 ghost use Rattle.std.specs.List.{list_any};
 ghost use Rattle.far_types.specs.Cells.{is_of_kind, is_too_long};
 ghost use Rattle.far_columns.specs.RefusingTogether.{any_too_long};
-ghost use Rattle.far_rows.specs.Cells.{int_cell, text_cell};
-ghost use Rattle.far_rows.specs.Slots.{AreSlots, IsWithin, kind_of, row_of, with_value};
+ghost use Rattle.far_types.specs.Lent.{int_cell, text_cell, lent_cell};
+ghost use Rattle.far_rows.specs.Slots.{AreSlots, IsWithin, cell_in, kind_of, row_of, with_value};
 
+use super::lent_cell::lent_number;
 use super::slot::Slot;
-use far_types::{Cell, Kind, Refusal, Row, Text};
+use far_types::{Cell, CellRef, Kind, LentRow, Refusal, Row, Text};
 use std::alloc::Global;
 use std::marker::Model;
 
@@ -73,6 +74,33 @@ impl NewRow {
         match slot {
             Slot::Number(number) => self.numbers[number] = number_of(cell),
             Slot::Text(text) => self.texts[text] = text_of(cell),
+        }
+    }
+
+    /// The row, whose columns have these slots, each cell lent in place. Takes no memory.
+    pub fn lend(&self, slots: &[Slot]) -> LentRow<'_>
+        requires slots { AreSlots slots.now (length self.now.numbers) (length self.now.texts) }
+        requires few { length slots.now ≤ 16 }
+        ensures { result ≡ row_of slots.now self.now }
+    {
+        let mut row = LentRow::new();
+        for slot in slots {
+            row.push(self.cell(*slot));
+        }
+        row
+    }
+
+    // The cell of a slot.
+    fn cell(&self, slot: Slot) -> CellRef<'_>
+        requires { IsWithin (length self.now.numbers) (length self.now.texts) slot }
+        ensures { lent_cell result ≡ cell_in self.now slot }
+    {
+        match slot {
+            Slot::Number(number) => lent_number(self.numbers[number]),
+            Slot::Text(text) => match &self.texts[text] {
+                Some(text) => CellRef::Text(text.as_str()),
+                None => CellRef::Missing,
+            },
         }
     }
 

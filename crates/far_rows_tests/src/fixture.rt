@@ -6,9 +6,9 @@ mod moving;
 mod renewing;
 mod writing;
 
-use far_rows::{CellRef, Rows};
+use far_rows::Rows;
 use far_store::FarStore;
-use far_types::{Kind, Limits, Refusal, Schema};
+use far_types::{CellRef, Kind, Limits, Refusal, Schema};
 use std::alloc::Global;
 use std::marker::Model;
 
@@ -102,7 +102,7 @@ impl<'a, S: FarStore> Fixture<'a, S> {
     fn has_row(&self, place: usize, row: Option<&Values<'_>>) -> bool {
         let alive = self.rows.is_alive(place);
         match row {
-            Some(values) => alive == Some(true) && self.values(place) == Ok(*values),
+            Some(values) => alive == Some(true) && self.has_values(place, *values),
             None => alive.is_none() && self.values(place) == Err(Refusal::NoRow),
         }
     }
@@ -111,6 +111,11 @@ impl<'a, S: FarStore> Fixture<'a, S> {
     pub fn has_cell(&self, place: usize, column: usize) -> Result<(), Refusal> {
         self.rows.cell(column, place)?;
         Ok(())
+    }
+
+    /// Whether a place has these values, read cell by cell, and as one row.
+    pub fn has_values(&self, place: usize, values: Values<'_>) -> bool {
+        self.values(place) == Ok(values) && has_cells(&self.rows, place)
     }
 
     /// The values of a place.
@@ -136,6 +141,27 @@ impl<'a, S: FarStore> Fixture<'a, S> {
             CellRef::Missing => Ok(None),
             CellRef::Text(_) => Err(Refusal::WrongKind),
         }
+    }
+}
+
+// Whether a row that is lent has the cells of its place, and no other.
+fn has_cells<S: FarStore>(rows: &Rows<S>, place: usize) -> bool {
+    if place >= rows.len() {
+        return false;
+    }
+    match rows.row(place) {
+        Ok(row) => (0..5).all(|column| is_cell(row.get(column), rows.cell(column, place).ok())),
+        Err(_) => false,
+    }
+}
+
+// Whether both are the same cell, or none.
+fn is_cell(one: Option<CellRef<'_>>, other: Option<CellRef<'_>>) -> bool {
+    match (one, other) {
+        (Some(CellRef::Int(one)), Some(CellRef::Int(other))) => one == other,
+        (Some(CellRef::Text(one)), Some(CellRef::Text(other))) => one == other,
+        (Some(CellRef::Missing), Some(CellRef::Missing)) | (None, None) => true,
+        _ => false,
     }
 }
 

@@ -101,7 +101,7 @@ fn comes_out<S: FarStore>(
     match step {
         Step::Call(call, due) => is_due(reply(alloc, fixture, call), due),
         Step::Rows(count) => Ok(fixture.has_rows(ROWS.get(..count).unwrap_or(&[]))),
-        Step::Values(place, values) => Ok(fixture.values(place) == Ok(values)),
+        Step::Values(place, values) => Ok(fixture.has_values(place, values)),
         Step::Alive(place, alive) => Ok(fixture.rows().is_alive(place) == alive),
     }
 }

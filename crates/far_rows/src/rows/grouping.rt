@@ -1,9 +1,16 @@
 // A row group, lent in place.
-ghost use Rattle.std.specs.Prelude.{◌≡◌};
+ghost use Rattle.std.specs.Prelude.{◌≡◌, Some, IfOk, option_map, slice_get};
 ghost use Rattle.far_types.specs.Table.{in_group};
+ghost use Rattle.far_scopes.specs.Refusing.{refusal_in};
+ghost use Rattle.far_rows.specs.Rows.{cells_of};
+ghost use Rattle.far_rows.specs.Lending.{cells_lent, IsLent};
+ghost use Rattle.far_rows.specs.Jobs.{evac_refusal};
 
 use super::Rows;
+use crate::lent_column::LentColumn;
+use crate::object::Object;
 use far_store::FarTickets;
+use far_types::Refusal;
 
 impl<S: FarTickets> Rows<S> {
     /// The alive flags of the places of a row group, lent in place; none where no place of it is used. Takes no memory.
@@ -20,5 +27,25 @@ impl<S: FarTickets> Rows<S> {
             return self.alive.flags(from, len);
         }
         self.alive.flags(from, from + size)
+    }
+
+    /// The values of a row group of a column, lent in place. Takes no memory.
+    ///
+    /// Refused with `NoColumn` (4) exactly where there is no such column; else with `OutOfRange` (14) exactly where no place
+    /// of the row group is used; else with `Absent` (16) exactly where its object is away.
+    pub fn group_column(&self, column: usize, group: u32) -> Result<LentColumn<'_>, Refusal>
+        ensures cells { IfOk result (λ lent. option_map (in_group self.now.size group) (slice_get (cells_of S.content self.now) column) ≡ Some (cells_lent lent)) }
+        ensures form { IfOk result IsLent }
+        ensures refused { refusal_in result ≡ evac_refusal self.now column group }
+    {
+        // It tells what rows are.
+        let _len = self.len();
+        match self.object(column, group)? {
+            Object::Number(o) => {
+                let used = self.flags(group).len();
+                Ok(LentColumn::Numbers(&self.number_objects().lend(o)?[..used]))
+            }
+            Object::Text(o) => Ok(LentColumn::Form(self.text_objects().lend(o)?)),
+        }
     }
 }

@@ -28,6 +28,7 @@ impl<S: FarTickets> Rows<S> {
         requires here { AreAt S.is_of (S.name store.now) self.old }
         requires carried_here { S.is_of (of_either carried.now).ticket (S.name store.now) }
         ensures committed { OnOk result (self.new ≡ after_commit self.old carried.now) }
+        ensures accepted { OnOk result (IsEvacAccepted S.number_of self.old carried.now) }
         ensures cells { cells_of S.content self.new ≡ cells_of S.content self.old }
         ensures here { AreAt S.is_of (S.name store.now) self.new }
         ensures stale { IsErrOf result Refusal.StaleJob ↔ (¬ IsEvacAccepted S.number_of self.old carried.now) }
@@ -50,6 +51,7 @@ impl<S: FarTickets> Rows<S> {
         requires here { AreHere S.is_of (S.name store.now) self.old.number_objects }
         requires carried_here { S.is_of carried.now.ticket (S.name store.now) }
         ensures committed { OnOk result (self.new ≡ record self.old { number_objects = departed self.old.number_objects carried.now.job.object carried.now.ticket }) }
+        ensures accepted { OnOk result (IsCommittable S.number_of ints_form self.old.number_objects carried.now) }
         ensures kept { self.new ≡ record self.old { number_objects = self.new.number_objects } }
         ensures cells { cells_of S.content self.new ≡ cells_of S.content self.old }
         ensures here { AreHere S.is_of (S.name store.now) self.new.number_objects }
@@ -66,6 +68,7 @@ impl<S: FarTickets> Rows<S> {
         requires here { AreHere S.is_of (S.name store.now) self.old.text_objects }
         requires carried_here { S.is_of carried.now.ticket (S.name store.now) }
         ensures committed { OnOk result (self.new ≡ record self.old { text_objects = departed self.old.text_objects carried.now.job.object carried.now.ticket }) }
+        ensures accepted { OnOk result (IsCommittable S.number_of (λ bytes. bytes) self.old.text_objects carried.now) }
         ensures kept { self.new ≡ record self.old { text_objects = self.new.text_objects } }
         ensures cells { cells_of S.content self.new ≡ cells_of S.content self.old }
         ensures here { AreHere S.is_of (S.name store.now) self.new.text_objects }

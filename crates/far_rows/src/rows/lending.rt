@@ -5,7 +5,7 @@ ghost use Rattle.far_types.specs.FirstOf.{first_of};
 ghost use Rattle.far_scopes.specs.Refusing.{refusal_in};
 ghost use Rattle.far_vector.specs.Pieces.{pieces_of, touched};
 ghost use Rattle.far_columns.specs.Numbers.{with_flags};
-ghost use Rattle.far_rows.specs.Cells.{int_cell, text_cell};
+ghost use Rattle.far_types.specs.Lent.{int_cell, text_cell};
 ghost use Rattle.far_rows.specs.Rows.{cells_of};
 ghost use Rattle.far_rows.specs.Refusing.{no_range, told_at, ints_refusal, texts_refusal};
 ghost use Rattle.far_rows.specs.Lending.{lent_ints, lent_texts, numbers_of, texts_of};

@@ -8,18 +8,19 @@ ghost use Rattle.far_vector.specs.Vector.{IsVector};
 ghost use Rattle.far_columns.specs.Numbers.{number_lists};
 ghost use Rattle.far_columns.specs.Texts.{lists_of, IsTextColumn};
 ghost use Rattle.far_rows.specs.declared.slot.Slot.TheVariants as slot;
-ghost use Rattle.far_rows.specs.Cells.{int_cell, text_cell, lent_cell};
+ghost use Rattle.far_types.specs.Lent.{int_cell, text_cell, lent_cell};
 ghost use Rattle.far_rows.specs.Slots.{IsWithin, column_in};
+ghost use Rattle.far_rows.specs.Places.{row_at};
 ghost use Rattle.far_rows.specs.Rows.{all_numbers, all_texts, cells_of};
 ghost use Rattle.far_rows.specs.Refusing.{told_at, absent_at, absents, cell_refusal, text_refusal};
 
 use super::Rows;
-use crate::cell_ref::CellRef;
+use crate::lent_cell::{lent_number, lent_text};
 use crate::slot::Slot;
 use far_columns::{IntColumn, TextColumn};
 use far_scopes::Objects;
 use far_store::FarTickets;
-use far_types::Refusal;
+use far_types::{CellRef, LentRow, Refusal};
 
 impl<S: FarTickets> Rows<S> {
     /// Whether all objects of a row group are local. A row group of which no place is used has none. Takes no memory.
@@ -64,10 +65,40 @@ impl<S: FarTickets> Rows<S> {
         if place >= self.alive.len() {
             return Err(Refusal::NoRow);
         }
-        match *slot {
+        self.cell_in(column, *slot, place)
+    }
+
+    // The cell of a place that is there, in the column with this slot.
+    fn cell_in(&self, column: usize, slot: Slot, place: usize) -> Result<CellRef<'_>, Refusal>
+        requires lies { slice_get self.now.slots column ≡ Some slot }
+        requires place { place < length self.now.alive }
+        ensures cell { IfOk result (λ cell. slice_index_or (column_in (all_numbers S.content self.now) (all_texts S.content self.now) slot) place Missing ≡ lent_cell cell) }
+        ensures refused { refusal_in result ≡ first_of (absent_at self.now column (place / self.now.size) slot ∷ []) }
+    {
+        // It tells that each slot is that of a column.
+        let _len = self.len();
+        match slot {
             Slot::Number(number) => Ok(lent_number(self.number_at(column, number, place)?)),
             Slot::Text(text) => Ok(lent_text(self.text_at(column, text, place)?)),
         }
+    }
+
+    /// The row of a place, each cell lent where it lies and each column looked at once. Takes no memory.
+    ///
+    /// Refused with `Absent` (16) exactly where an object of the place's row group is away, naming the first in the order of
+    /// the columns.
+    pub fn row(&self, place: usize) -> Result<LentRow<'_>, Refusal>
+        requires { place < length self.now.alive }
+        ensures row { IfOk result (λ row. row ≡ row_at (cells_of S.content self.now) place) }
+        ensures refused { refusal_in result ≡ first_of (absents self.now (place / self.now.size)) }
+    {
+        // It tells that a table has at most 16 columns.
+        let _len = self.len();
+        let mut row = LentRow::new();
+        for (column, slot) in self.slots.iter().enumerate() {
+            row.push(self.cell_in(column, *slot, place)?);
+        }
+        Ok(row)
     }
 
     /// The text of a place, lent in place; `None` where it is missing. Takes no memory.
@@ -150,24 +181,4 @@ fn texts_are_here<S: FarTickets>(
         objects.lend(o)?;
     }
     Ok(())
-}
-
-// A number that is read, as a cell.
-fn lent_number<'a>(number: Option<i64>) -> CellRef<'a>
-    ensures { lent_cell result ≡ int_cell number }
-{
-    match number {
-        Some(number) => CellRef::Int(number),
-        None => CellRef::Missing,
-    }
-}
-
-// A text that is lent, as a cell.
-fn lent_text(text: Option<&str>) -> CellRef<'_>
-    ensures { lent_cell result ≡ text_cell (option_copied text.entry) }
-{
-    match text {
-        Some(text) => CellRef::Text(text),
-        None => CellRef::Missing,
-    }
 }

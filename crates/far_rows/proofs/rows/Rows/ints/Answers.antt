@@ -8,7 +8,7 @@ use Rattle.far_types.specs.declared.cell.Cell.{Cell}
 use Rattle.far_columns.specs.Numbers.{Numbers}
 use Rattle.far_rows.specs.declared.slot.Slot.{Slot}
 use Rattle.far_rows.specs.declared.slot.Slot.TheVariants as slot
-use Rattle.far_rows.specs.Cells.{int_cell}
+use Rattle.far_types.specs.Lent.{int_cell}
 use Rattle.far_rows.specs.Rows.{Rows, AreRows, cells_of}
 use Rattle.far_rows.specs.Lending.{numbers_of}
 use Rattle.far_rows.proofs.LentNumbers.{part-cells, part-due}

@@ -6,7 +6,7 @@ use Rattle.far_types.specs.declared.cell.Cell.TheVariants as cell
 use Rattle.far_types.specs.FirstOf.{first_of}
 use Rattle.far_columns.specs.Texts.{lists_of, texts_in}
 use Rattle.far_rows.specs.declared.slot.Slot.TheVariants as slot
-use Rattle.far_rows.specs.Cells.{text_cell}
+use Rattle.far_types.specs.Lent.{text_cell}
 use Rattle.far_rows.specs.Slots.{column_in}
 use Rattle.far_rows.specs.Rows.{Rows, all_numbers, all_texts}
 use Rattle.far_rows.specs.Refusing.{absent_at}

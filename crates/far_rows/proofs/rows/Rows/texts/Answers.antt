@@ -6,7 +6,7 @@ use Rattle.std.proofs.lemmas.Result.{IfOk-weaker}
 use Rattle.far_types.specs.declared.cell.Cell.{Cell}
 use Rattle.far_rows.specs.declared.slot.Slot.{Slot}
 use Rattle.far_rows.specs.declared.slot.Slot.TheVariants as slot
-use Rattle.far_rows.specs.Cells.{text_cell}
+use Rattle.far_types.specs.Lent.{text_cell}
 use Rattle.far_rows.specs.Rows.{Rows, AreRows, cells_of}
 use Rattle.far_rows.specs.Lending.{texts_of}
 use Rattle.far_rows.proofs.LentTexts.{part-cells, part-due}
