@@ -69,6 +69,7 @@ impl<S: FarTickets> Rows<S> {
     }
 
     // The cell of a place that is there, in the column with this slot.
+    #[inline(always)]
     fn cell_in(&self, column: usize, slot: Slot, place: usize) -> Result<CellRef<'_>, Refusal>
         requires lies { slice_get self.now.slots column ≡ Some slot }
         requires place { place < length self.now.alive }

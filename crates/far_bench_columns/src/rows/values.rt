@@ -1,0 +1,95 @@
+// Rows to be pushed.
+ghost use Rattle.std.specs.Prelude.{◌≡◌, [], ◌∷◌, length, true, false, IfOk};
+ghost use Rattle.std.specs.List.{list_any};
+ghost use Rattle.far_types.specs.declared.cell.Kind.TheVariants.{Int, Text as Texts};
+ghost use Rattle.far_types.specs.Cells.{is_of_kind, is_too_long};
+ghost use Rattle.far_types.specs.Edits.{kinds_fit};
+
+use far_rows::{NewRow, Slot};
+use far_types::{Cell, Refusal, Row, Text};
+use std::alloc::Global;
+
+/// A row of one number.
+pub fn one_number(alloc: Global) -> Result<NewRow, Refusal>
+    ensures numbers { IfOk result (λ row. length row.numbers ≡ 1) }
+    ensures texts { IfOk result (λ row. length row.texts ≡ 0) }
+{
+    let mut row = NewRow::new(alloc, 1, 0)?;
+    row.fill(
+        &[Slot::Number(0)],
+        Row::new(Vec::from_array(alloc, [Cell::Int(7)])?),
+    );
+    Ok(row)
+}
+
+/// A row of four numbers.
+pub fn four_numbers(alloc: Global) -> Result<NewRow, Refusal>
+    ensures numbers { IfOk result (λ row. length row.numbers ≡ 4) }
+    ensures texts { IfOk result (λ row. length row.texts ≡ 0) }
+{
+    let slots = [
+        Slot::Number(0),
+        Slot::Number(1),
+        Slot::Number(2),
+        Slot::Number(3),
+    ];
+    let cells = [Cell::Int(1), Cell::Int(2), Cell::Int(3), Cell::Int(4)];
+    let mut row = NewRow::new(alloc, 4, 0)?;
+    row.fill(&slots, Row::new(Vec::from_array(alloc, cells)?));
+    Ok(row)
+}
+
+/// A row of sixteen numbers, all missing.
+pub fn sixteen_numbers(alloc: Global) -> Result<NewRow, Refusal>
+    ensures numbers { IfOk result (λ row. length row.numbers ≡ 16) }
+    ensures texts { IfOk result (λ row. length row.texts ≡ 0) }
+{
+    NewRow::new(alloc, 16, 0)
+}
+
+/// A text of eight bytes.
+fn eight_bytes(alloc: Global) -> Result<Cell, Refusal>
+    ensures kind { IfOk result (λ cell. is_of_kind Texts cell ≡ true) }
+    ensures short { IfOk result (λ cell. is_too_long cell ≡ false) }
+{
+    let text = "sixty-ty";
+    if text.len() > 4096 {
+        return Err(Refusal::TextTooLong);
+    }
+    Ok(Cell::Text(Text::new(String::from_str(alloc, text)?)))
+}
+
+/// The cells of a row of four texts.
+fn texts(alloc: Global) -> Result<Row, Refusal>
+    ensures width { IfOk result (λ row. length row ≡ 4) }
+    ensures kinds { IfOk result (λ row. kinds_fit (Texts ∷ Texts ∷ Texts ∷ Texts ∷ []) row ≡ true) }
+    ensures short { IfOk result (λ row. list_any is_too_long row ≡ false) }
+{
+    let first = eight_bytes(alloc)?;
+    let second = eight_bytes(alloc)?;
+    let third = eight_bytes(alloc)?;
+    let last = eight_bytes(alloc)?;
+    Ok(Row::new(Vec::from_array(alloc, [first, second, third, last])?))
+}
+
+/// A row of one text.
+pub fn one_text(alloc: Global) -> Result<NewRow, Refusal>
+    ensures numbers { IfOk result (λ row. length row.numbers ≡ 0) }
+    ensures texts { IfOk result (λ row. length row.texts ≡ 1) }
+{
+    let text = eight_bytes(alloc)?;
+    let mut row = NewRow::new(alloc, 0, 1)?;
+    row.fill(&[Slot::Text(0)], Row::new(Vec::from_array(alloc, [text])?));
+    Ok(row)
+}
+
+/// A row of four texts.
+pub fn four_texts(alloc: Global) -> Result<NewRow, Refusal>
+    ensures numbers { IfOk result (λ row. length row.numbers ≡ 0) }
+    ensures texts { IfOk result (λ row. length row.texts ≡ 4) }
+{
+    let slots = [Slot::Text(0), Slot::Text(1), Slot::Text(2), Slot::Text(3)];
+    let mut row = NewRow::new(alloc, 0, 4)?;
+    row.fill(&slots, texts(alloc)?);
+    Ok(row)
+}
