@@ -19,7 +19,7 @@ fn main(rt: HostRuntime) -> io::Result<()> {
     let with_times = env::args(&rt)?.count() > 1;
     let store = AgentStore::new(&rt, rt.alloc(), 4_096).map_err(faults::io_error)?;
     show_sums(&rt, &store, with_times)?;
-    show_rows(&rt, &store, with_times)
+    show_rows::<AgentStore<&HostRuntime>>(&rt, with_times)
 }
 
 /// Measures the sums.
@@ -42,10 +42,9 @@ fn show_sums<S: FarTickets>(rt: &HostRuntime, store: &S, with_times: bool) -> io
 }
 
 /// Measures the calls on rows.
-fn show_rows<S: FarTickets>(rt: &HostRuntime, store: &S, with_times: bool) -> io::Result<()> {
-    let times = rows::measure(
+fn show_rows<S: FarTickets>(rt: &HostRuntime, with_times: bool) -> io::Result<()> {
+    let times = rows::measure::<S>(
         rt,
-        store,
         if with_times { CALLS } else { 256 },
         if with_times { 20 } else { 1 },
     )

@@ -124,74 +124,45 @@ fn push_all<S: FarTickets>(
     Ok(())
 }
 
-/// The time of so many pushes.
+/// The time of so many pushes of a row into a fresh table, whose columns are of these kinds.
 fn time_pushes<S: FarTickets>(
     rt: &HostRuntime,
-    rows: &mut Rows<S>,
+    kinds: Vec<Kind>,
     row: &NewRow,
     count: usize,
 ) -> Result<u128, Refusal>
-    requires numbers { length row.now.numbers ≡ length rows.old.numbers }
-    requires texts { length row.now.texts ≡ length rows.old.texts }
+    requires numbers { length row.now.numbers ≡ length (numbers_from 64 0 kinds.items) }
+    requires texts { length row.now.texts ≡ length (texts_from 64 1048576 0 kinds.items) }
 {
+    let mut rows = no_rows::<S>(rt.alloc(), &LIMITS, kinds)?;
     let start = Instant::now(rt).map_err(no_clock)?;
-    push_all(rt.alloc(), rows, row, count)?;
+    push_all(rt.alloc(), &mut rows, row, count)?;
     Ok(start.elapsed(rt).map_err(no_clock)?.as_nanos())
 }
 
-fn push_one_number<S: FarTickets>(
-    rt: &HostRuntime,
-    _store: &S,
-    count: usize,
-) -> Result<u128, Refusal> {
-    let row = one_number(rt.alloc())?;
+fn push_one_number<S: FarTickets>(rt: &HostRuntime, count: usize) -> Result<u128, Refusal> {
     let kinds = Vec::from_array(rt.alloc(), [Kind::Int])?;
-    let mut rows = no_rows::<S>(rt.alloc(), &LIMITS, kinds)?;
-    time_pushes(rt, &mut rows, &row, count)
+    time_pushes::<S>(rt, kinds, &one_number(rt.alloc())?, count)
 }
 
-fn push_four_numbers<S: FarTickets>(
-    rt: &HostRuntime,
-    _store: &S,
-    count: usize,
-) -> Result<u128, Refusal> {
-    let row = four_numbers(rt.alloc())?;
+fn push_four_numbers<S: FarTickets>(rt: &HostRuntime, count: usize) -> Result<u128, Refusal> {
     let kinds = Vec::from_array(rt.alloc(), [Kind::Int; 4])?;
-    let mut rows = no_rows::<S>(rt.alloc(), &LIMITS, kinds)?;
-    time_pushes(rt, &mut rows, &row, count)
+    time_pushes::<S>(rt, kinds, &four_numbers(rt.alloc())?, count)
 }
 
-fn push_sixteen_numbers<S: FarTickets>(
-    rt: &HostRuntime,
-    _store: &S,
-    count: usize,
-) -> Result<u128, Refusal> {
-    let row = sixteen_numbers(rt.alloc())?;
+fn push_sixteen_numbers<S: FarTickets>(rt: &HostRuntime, count: usize) -> Result<u128, Refusal> {
     let kinds = Vec::from_array(rt.alloc(), [Kind::Int; 16])?;
-    let mut rows = no_rows::<S>(rt.alloc(), &LIMITS, kinds)?;
-    time_pushes(rt, &mut rows, &row, count)
+    time_pushes::<S>(rt, kinds, &sixteen_numbers(rt.alloc())?, count)
 }
 
-fn push_one_text<S: FarTickets>(
-    rt: &HostRuntime,
-    _store: &S,
-    count: usize,
-) -> Result<u128, Refusal> {
-    let row = one_text(rt.alloc())?;
+fn push_one_text<S: FarTickets>(rt: &HostRuntime, count: usize) -> Result<u128, Refusal> {
     let kinds = Vec::from_array(rt.alloc(), [Kind::Text])?;
-    let mut rows = no_rows::<S>(rt.alloc(), &LIMITS, kinds)?;
-    time_pushes(rt, &mut rows, &row, count)
+    time_pushes::<S>(rt, kinds, &one_text(rt.alloc())?, count)
 }
 
-fn push_four_texts<S: FarTickets>(
-    rt: &HostRuntime,
-    _store: &S,
-    count: usize,
-) -> Result<u128, Refusal> {
-    let row = four_texts(rt.alloc())?;
+fn push_four_texts<S: FarTickets>(rt: &HostRuntime, count: usize) -> Result<u128, Refusal> {
     let kinds = Vec::from_array(rt.alloc(), [Kind::Text; 4])?;
-    let mut rows = no_rows::<S>(rt.alloc(), &LIMITS, kinds)?;
-    time_pushes(rt, &mut rows, &row, count)
+    time_pushes::<S>(rt, kinds, &four_texts(rt.alloc())?, count)
 }
 
 /// Whether a number may be put in the first column, which is of numbers, of a place.
@@ -339,7 +310,6 @@ fn time_cells<S: FarTickets>(
 /// One round of the calls on cells, of a table of four columns of numbers.
 fn cells_of_four<S: FarTickets>(
     rt: &HostRuntime,
-    _store: &S,
     count: usize,
     times: &mut RowTimes,
 ) -> Result<(), Refusal> {
@@ -354,41 +324,39 @@ fn cells_of_four<S: FarTickets>(
 /// One round of pushes.
 fn time_numbers<S: FarTickets>(
     rt: &HostRuntime,
-    store: &S,
     count: usize,
     times: &mut RowTimes,
 ) -> Result<(), Refusal> {
-    times.one_number = times.one_number.min(push_one_number(rt, store, count)?);
-    times.four_numbers = times.four_numbers.min(push_four_numbers(rt, store, count)?);
+    times.one_number = times.one_number.min(push_one_number::<S>(rt, count)?);
+    times.four_numbers = times.four_numbers.min(push_four_numbers::<S>(rt, count)?);
     times.sixteen_numbers = times
         .sixteen_numbers
-        .min(push_sixteen_numbers(rt, store, count)?);
+        .min(push_sixteen_numbers::<S>(rt, count)?);
     Ok(())
 }
 
 fn time_texts<S: FarTickets>(
     rt: &HostRuntime,
-    store: &S,
     count: usize,
     times: &mut RowTimes,
 ) -> Result<(), Refusal> {
-    times.one_text = times.one_text.min(push_one_text(rt, store, count)?);
-    times.four_texts = times.four_texts.min(push_four_texts(rt, store, count)?);
+    times.one_text = times.one_text.min(push_one_text::<S>(rt, count)?);
+    times.four_texts = times.four_texts.min(push_four_texts::<S>(rt, count)?);
     Ok(())
 }
 
-/// Times calls on rows, so many of each in a round, a power of two up to 65,536. The store's type alone is needed.
+/// Times calls on rows, so many of each in a round, a power of two up to 65,536, over objects whose tickets are of this
+/// kind of store.
 pub fn measure<S: FarTickets>(
     rt: &HostRuntime,
-    store: &S,
     count: usize,
     rounds: u32,
 ) -> Result<RowTimes, Refusal> {
     let mut times = RowTimes::new();
     for _ in 0..rounds {
-        time_numbers(rt, store, count, &mut times)?;
-        time_texts(rt, store, count, &mut times)?;
-        cells_of_four(rt, store, count, &mut times)?;
+        time_numbers::<S>(rt, count, &mut times)?;
+        time_texts::<S>(rt, count, &mut times)?;
+        cells_of_four::<S>(rt, count, &mut times)?;
     }
     Ok(times)
 }
