@@ -4,12 +4,20 @@ ghost use Rattle.far_columns.specs.Numbers.{number_lists};
 
 use crate::faults::io_error;
 use far_columns::{Alive, IntColumn};
-use far_scopes::Objects;
+use far_scopes::{ObjectLimits, Objects};
 use far_store::FarTickets;
 use far_types::Refusal;
 use std::alloc::Global;
 use std::io;
 use std::time::Instant;
+
+/// Room for 2,097,152 numbers, and no bound on writes.
+const LIMITS: ObjectLimits = ObjectLimits {
+    segments: 32,
+    size: 65_536,
+    changes: u64::MAX,
+    leavings: u64::MAX,
+};
 
 /// The least times of a sum, in nanoseconds, with a look at the flags and without, and what keeps the work from being left
 /// out.
@@ -237,7 +245,7 @@ pub fn measure<S: FarTickets>(
     count: usize,
     rounds: u32,
 ) -> io::Result<SumTimes> {
-    match Objects::<Option<i64>, S>::new(rt.alloc(), 0, 32, 65_536, u64::MAX, u64::MAX) {
+    match Objects::<Option<i64>, S>::new(rt.alloc(), 0, LIMITS) {
         Ok(mut objects) => time_in(rt, &mut objects, count, rounds),
         Err(refusal) => Err(io_error(refusal)),
     }

@@ -5,7 +5,7 @@ ghost use Rattle.far_evacuator.specs.Jobs.{IsFormOf};
 
 use far_codec::Elem;
 use far_evacuator::{EvacJob, Want, begin_evac, begin_fetch, commit, install};
-use far_scopes::Objects;
+use far_scopes::{ObjectLimits, Objects};
 use far_store::{FarStore, Meter};
 use far_types::{Name, Refusal};
 use std::alloc::Global;
@@ -102,7 +102,13 @@ fn no_objects<T: Sample, S: FarStore>(
     ensures here { IfOk result (λ m. (name : List ℕ) → AreHere S.is_of name m) }
     ensures clean { IfOk result (AreClean T.meaning S.content) }
 {
-    Objects::new(alloc, 0, segments, 65_536, u64::MAX, u64::MAX)
+    let limits = ObjectLimits {
+        segments,
+        size: 65_536,
+        changes: u64::MAX,
+        leavings: u64::MAX,
+    };
+    Objects::new(alloc, 0, limits)
 }
 
 fn begin_spelled<T: Sample, S: FarStore>(

@@ -1,6 +1,6 @@
 -- What bytes say that begin with a head.
 use Rattle.std.proofs.Common.{◌≡◌, ℕ, zero, suc, ◌⊎◌, inl, inr, Option, None, Some, ◌<◌, ◌≤◌, ◌^◌, Bool, true, false, cond, List, [], ◌∷◌, ◌++◌, length, get_or, take, drop, refl, sym, ap, ◌∙◌, arith}
-use Rattle.std.specs.Prelude.{IfSome, IsSome, IsSomeAnd, is_some}
+use Rattle.std.specs.Prelude.{All, IfSome, IsSome, IsSomeAnd, is_some}
 use Rattle.std.proofs.lemmas.List.Folds.{list_any_none}
 use Rattle.std.proofs.lemmas.List.FromFn.{get_or-map-range_with_len}
 use Rattle.std.proofs.lemmas.List.{take-append-drop}
@@ -79,11 +79,14 @@ version_2 flags e = tells_2 (some_missing flags) e
     tells_2 true e = refl
     tells_2 false e = absurd (omega arith)
 
+-- without a mask no flag is set
+pub unset_without_mask : (count : ℕ) → All (λ missing. missing ≡ false) (flags_of [] count)
+unset_without_mask count = λ k d h.
+    get_or-map-range_with_len (is_missing []) 0 count k k d (omega (arith, length-flags_of [] count)) (omega arith) ∙ missing_in_none k
+
 -- without a mask nothing is missing
 pub none_missing : (count : ℕ) → some_missing (flags_of [] count) ≡ false
-none_missing count =
-    list_any_none (λ missing. missing) (flags_of [] count) (λ k d h.
-    get_or-map-range_with_len (is_missing []) 0 count k k d (omega (arith, length-flags_of [] count)) (omega arith) ∙ missing_in_none k)
+none_missing count = list_any_none (λ missing. missing) (flags_of [] count) (unset_without_mask count)
 
 pub version_either : (flags : List Bool) → (version flags ≡ 1) ⊎ (version flags ≡ 2)
 version_either flags = either (some_missing flags)

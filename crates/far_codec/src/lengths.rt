@@ -11,10 +11,13 @@ use crate::text_forms::{bytes_in, known_parts};
 use crate::texts::text_in;
 use far_types::Text;
 
-/// Whether a value other than value `i` is missing.
+/// Whether a value other than value `i` is missing. Where there is no mask, none is: then no flag is looked at.
 fn other_missing(mask: &[u8], count: usize, i: usize) -> bool
     ensures { result ≡ some_missing (slice_set (flags_of mask.now count) i false) }
 {
+    if mask.is_empty() {
+        return false;
+    }
     let mut missing = false;
     for j in 0..count {
         missing |= (j != i) & is_set(mask, j);

@@ -1,6 +1,7 @@
 // Scripts: calls on columns, and their replies.
 ghost use Rattle.std.specs.Prelude.{◌≡◌, ◌<◌, ◌≤◌, ⊤, OnOk};
 
+use far_scopes::ObjectLimits;
 use far_store::AgentStore;
 use far_types::Refusal;
 use std::alloc::{AllocError, Global};
@@ -49,6 +50,18 @@ impl Layout {
             return Err(Refusal::BadSpec);
         }
         Ok(())
+    }
+
+    /// The limits of the objects: each may go away nine times.
+    pub fn limits(&self) -> ObjectLimits
+        ensures { result.segments ≡ self.now.segments }
+    {
+        ObjectLimits {
+            segments: self.segments,
+            size: self.size,
+            changes: self.changes,
+            leavings: 9,
+        }
     }
 }
 

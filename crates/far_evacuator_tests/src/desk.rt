@@ -10,7 +10,7 @@ use crate::call::Call;
 use far_evacuator::{Carried, EvacJob, FetchJob, Fetched};
 use far_fixtures::{Element, digest_of};
 use far_pointer::Pointer;
-use far_scopes::Objects;
+use far_scopes::{ObjectLimits, Objects};
 use far_store::FarStore;
 use far_types::{Name, Refusal};
 use std::alloc::Global;
@@ -252,23 +252,14 @@ fn no_objects<T: Element, S: FarStore>(
     ensures here { IfOk result (λ m. (name : List ℕ) → AreHere S.is_of name m) }
     ensures clean { IfOk result (AreClean T.meaning S.content) }
 {
-    let segments = u32::from(limits.segments);
-    match Objects::new(
-        alloc,
-        number,
-        segments,
-        limits.size,
-        limits.changes,
-        limits.leavings,
-    ) {
-        Err(Refusal::NoMemory) => Objects::new(
-            alloc,
-            number,
-            segments,
-            limits.size,
-            limits.changes,
-            limits.leavings,
-        ),
+    let limits = ObjectLimits {
+        segments: u32::from(limits.segments),
+        size: limits.size,
+        changes: limits.changes,
+        leavings: limits.leavings,
+    };
+    match Objects::new(alloc, number, limits) {
+        Err(Refusal::NoMemory) => Objects::new(alloc, number, limits),
         reply => reply,
     }
 }

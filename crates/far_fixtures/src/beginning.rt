@@ -1,10 +1,11 @@
 //! What tests begin with, each made a second time where the first finds no memory.
-ghost use Rattle.std.specs.Prelude.{◌≡◌, ◌≤◌, ℕ, List, [], replicate, IfOk};
+ghost use Rattle.std.specs.Prelude.{◌≡◌, ◌≤◌, ℕ, List, IfOk};
 ghost use Rattle.far_codec.specs.Spelling.{IsSpelled};
 ghost use Rattle.far_scopes.specs.Movement.{AreHere};
+ghost use Rattle.far_scopes.specs.Opening.{no_objects};
 
 use far_codec::Elem;
-use far_scopes::Objects;
+use far_scopes::{ObjectLimits, Objects};
 use far_store::{AgentStore, FarStore, FarTickets, Meter};
 use far_types::Refusal;
 use std::alloc::Global;
@@ -17,21 +18,18 @@ pub fn agent(rt: &HostRuntime, capacity: u64) -> Result<AgentStore<&HostRuntime>
     }
 }
 
-/// No object of frame 7, in so many segments of `size` elements; each may be written `changes` times and go away `leavings` times.
+/// No object of frame 7, within these limits.
 pub fn no_objects<T: Elem, S: FarTickets>(
     alloc: Global,
     _store: &S,
-    segments: u32,
-    size: u32,
-    changes: u64,
-    leavings: u64,
+    limits: ObjectLimits,
 ) -> Result<Objects<T, S>, Refusal>
-    requires { segments ≤ 65536 }
-    ensures none { IfOk result (λ m. m ≡ record { number = 7; changes = changes; leavings = leavings; memory = record { words = []; room = replicate segments record { parts = []; size = size } }; entries = []; order = [] }) }
+    requires { limits.segments ≤ 65536 }
+    ensures none { IfOk result (λ m. m ≡ no_objects 7 limits) }
     ensures here { IfOk result (λ m. (name : List ℕ) → AreHere S.is_of name m) }
 {
-    match Objects::new(alloc, 7, segments, size, changes, leavings) {
-        Err(Refusal::NoMemory) => Objects::new(alloc, 7, segments, size, changes, leavings),
+    match Objects::new(alloc, 7, limits) {
+        Err(Refusal::NoMemory) => Objects::new(alloc, 7, limits),
         reply => reply,
     }
 }

@@ -1,14 +1,16 @@
 -- What a change of one segment is for the region.
-use Rattle.std.proofs.Common.{◌≡◌, ◌≢◌, ℕ, ◌+◌, ◌-◌, ◌<◌, ◌≤◌, List, [], ◌++◌, length, get_or, take, drop, map, Option, Some, None, IsSome, refl, sym, ap, subst, ◌∙◌, inl, inr, arith, get_or-set_same, get_or-set_other, length-set}
-use Rattle.std.specs.Prelude.{slice_set, slice_index, nat_le, IsSomeAnd}
+use Rattle.std.proofs.Common.{◌≡◌, ◌≢◌, ℕ, ◌+◌, ◌-◌, ◌*◌, ◌<◌, ◌≤◌, List, [], ◌∷◌, ◌++◌, length, get_or, take, drop, map, Option, Some, None, IsSome, refl, sym, ap, subst, ◌∙◌, inl, inr, arith, get_or-set_same, get_or-set_other, length-set}
+use Rattle.std.specs.Prelude.{All, slice_set, slice_index, nat_le, IsSomeAnd}
 use Rattle.std.proofs.lemmas.Bool.{cases_eq, cases_lt, leb-true}
 use Rattle.std.proofs.lemmas.List.Quantifiers.{position-Some}
 use Rattle.std.proofs.lemmas.List.{append-nil, drop_all, length-map, map-set, get_or-map, get_or_default, get_or_past}
 use Rattle.std.proofs.Common.{replicate, zero, suc}
 use Rattle.std.proofs.lemmas.List.{length-replicate}
-use Rattle.std.proofs.lemmas.List.Elements.{All-set, All-get_or, All-replicate}
+use Rattle.std.proofs.lemmas.List.Elements.{All-head, All-tail, All-set, All-get_or, All-replicate}
+use Rattle.std.proofs.lemmas.List.Sums.{sum_by-cons}
+use Rattle.std.proofs.Math.Nat.{suc-mul}
 use Rattle.far_pointer.specs.declared.pointer.At.{At}
-use Rattle.far_log.specs.Room.{SegmentRoom, Room, fill_of, space_in, IsLaid, list_at, segment_of, part_of, spaces_of, target_of, IsRegion}
+use Rattle.far_log.specs.Room.{SegmentRoom, Room, fill_of, space_in, IsLaid, list_at, segment_of, part_of, spaces_of, capacity_of, target_of, IsRegion}
 use Rattle.far_log.specs.Changes.{ChangesOnly, WritesPart, with_segment, with_part, with_list, written_at, with_list_at}
 use Rattle.far_log.proofs.Laid.{ChangesList, space-with_part, laid-with_part, changes-placed, changes-replaced, no-list-at-fill, no-list-behind, written-one}
 
@@ -149,6 +151,14 @@ region-new {X} (suc n) size le =
       even = All-replicate (λ s. s.size ≡ size) (suc n) empty refl;
       laid = All-replicate IsLaid (suc n) empty (omega arith);
     }
+
+-- the sizes of segments, each for as many elements
+pub sizes-sum : {X : Type 0} (n : ℕ) (room : Room X) → All (λ s. s.size ≡ n) room → capacity_of room ≡ length room * n
+sizes-sum n [] h = omega arith
+sizes-sum n (s ∷ room) h =
+    let first : s.size ≡ n = All-head (λ t. t.size ≡ n) s room h in
+    let rest = sizes-sum n room (All-tail (λ t. t.size ≡ n) s room h) in
+    sum_by-cons (λ t. t.size) s room ∙ omega (arith, first, rest, suc-mul (length room) n)
 
 -- parts begin within their segment, and all segments are as long as the first
 pub below-size : {X : Type 0} (room : Room X) (number offset : ℕ) → IsRegion room → IsSome (list_at (segment_of room number).parts offset) → offset < (segment_of room 0).size

@@ -69,6 +69,14 @@ module _ {X : Type 0} where
   abbrev pub spaces_of : Room X → List ℕ
   spaces_of room = map space_in room
 
+  -- the spaces of all segments together
+  abbrev pub space_of : Room X → ℕ
+  space_of room = sum_by space_in room
+
+  -- the sizes of all segments together
+  abbrev pub capacity_of : Room X → ℕ
+  capacity_of room = sum_by (λ s. s.size) room
+
 -- the lowest segment that takes n elements, where each has so much space
 abbrev pub lowest_for : List ℕ → ℕ → Option ℕ
 lowest_for spaces n = position (λ space. nat_le n space) spaces

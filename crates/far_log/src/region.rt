@@ -1,7 +1,7 @@
 // The local region.
 ghost use Rattle.std.specs.Prelude.{◌≡◌, ◌≢◌, ℕ, ◌+◌, ◌-◌, ◌<◌, ◌≤◌, ◌^◌, ◌↔◌, ◌⊎◌, List, [], ◌++◌, length, take, drop, replicate, true, false, Some, IsSome, IsSomeAnd, IsTrue, IfOk, IfErr, IfSome, OnOk, OnErr, IfNone, IsErrOf, slice_index, slice_range, slice_set, All};
 ghost use Rattle.std.specs.Borrow.{sem};
-ghost use Rattle.far_log.specs.Room.{part_of, used_of, spaces_of, fits_in, target_of, fit_in_order, segment_of, IsRegion};
+ghost use Rattle.far_log.specs.Room.{part_of, used_of, spaces_of, space_of, capacity_of, fits_in, target_of, fit_in_order, segment_of, IsRegion};
 ghost use Rattle.far_log.specs.Changes.{ChangesOnly, WritesPart, written_at, IsPlaced, IsEmptyOther, HasNoEmptyOther, IsOrder, Compacts, with_segment, without_part};
 
 use super::compaction::{Moved, move_segment};
@@ -102,6 +102,22 @@ impl<T: Elem> Region<T> {
             .iter()
             .map(|segment| segment.used() as u64)
             .sum()
+    }
+
+    /// How many elements the segments take behind their fills, all together. Takes no memory.
+    ///
+    /// A list needs its space in one segment, so one that is no longer than this need not fit.
+    pub fn space(&self) -> usize
+        ensures { result ≡ space_of self.now }
+    {
+        self.segments.iter().map(|segment| segment.space()).sum()
+    }
+
+    /// For how many elements all segments are made together. Takes no memory.
+    pub fn capacity(&self) -> usize
+        ensures { result ≡ capacity_of self.now }
+    {
+        self.segments.len() * self.size() as usize
     }
 
     /// For how many elements each segment is made; 0 where there is no segment. Takes no memory.

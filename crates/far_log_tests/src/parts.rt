@@ -48,6 +48,32 @@ fn a_place_is_full_where_no_segment_has_the_space(rt: HostRuntime) -> Result<(),
     Ok(())
 }
 
+/// The space of a region without parts, with two parts in one segment, and once the first of them is dropped.
+fn spaces(region: &mut Region<i64>) -> Result<[usize; 3], Refusal> {
+    let without = region.space();
+    let first = region.place(&[1, 2])?;
+    region.place(&[3])?;
+    let with = region.space();
+    drop_part(region, first);
+    Ok([without, with, region.space()])
+}
+
+#[test]
+fn space_is_what_lies_behind_the_last_parts(rt: HostRuntime) -> Result<(), Fail> {
+    let mut region = Region::<i64>::new(rt.alloc(), 2, 4)?;
+    assert!(rt; spaces(&mut region)? == [8, 5, 5]);
+    Ok(())
+}
+
+#[test]
+fn capacity_is_the_sizes_of_all_segments(rt: HostRuntime) -> Result<(), Fail> {
+    let mut region = Region::<u8>::new(rt.alloc(), 3, 5)?;
+    region.place(b"ab")?;
+    assert!(rt; region.capacity() == 15);
+    assert!(rt; Region::<u8>::new(rt.alloc(), 0, 5)?.capacity() == 0);
+    Ok(())
+}
+
 /// Whether lists of 4 and 1; 1, 2 and 2; 2 and 4; 1, 4 and 1 elements, and no lists, fit in order.
 fn fit_in_order(region: &Region<u8>) -> [bool; 5] {
     [

@@ -27,6 +27,16 @@ fn fill_of<T>(shadows: &[Shadow<T>], segment: u32) -> usize {
     fill
 }
 
+/// How many elements the segments should take behind their last parts.
+fn space_of<T>(shadows: &[Shadow<T>]) -> usize {
+    let mut space = 0usize;
+    for segment in 0..SEGMENTS {
+        let behind = (SIZE as usize).saturating_sub(fill_of(shadows, segment));
+        space = space.saturating_add(behind);
+    }
+    space
+}
+
 /// Where a list of `len` elements should be placed.
 pub fn place_of<T>(shadows: &[Shadow<T>], len: usize) -> Option<At> {
     for segment in 0..SEGMENTS {
@@ -83,5 +93,5 @@ pub fn agree<T: Elem + PartialEq>(region: &Region<T>, shadows: &[Shadow<T>]) -> 
         }
         used = used.saturating_add(shadow.list.len() as u64);
     }
-    region.used() == used
+    region.used() == used && region.space() == space_of(shadows)
 }

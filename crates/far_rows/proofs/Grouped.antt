@@ -1,10 +1,9 @@
 -- A row group of a column, as its object holds it.
-use Rattle.std.proofs.Common.{◌≡◌, inl, inr, ℕ, ℤ, ◌*◌, ◌≤◌, ◌<◌, Bool, List, [], ◌∷◌, ◌++◌, map, length, take, drop, replicate, get_or, Option, None, Some, refl, sym, ap, subst, ◌∙◌, arith}
+use Rattle.std.proofs.Common.{◌≡◌, ℕ, ℤ, ◌*◌, ◌≤◌, ◌<◌, List, [], ◌∷◌, ◌++◌, map, length, take, drop, replicate, get_or, Option, None, Some, refl, sym, ap, subst, ◌∙◌, arith}
 use Rattle.std.specs.Prelude.{◌-◌, min, option_map, unwrap_or, slice_get, IsSomeAnd}
 use Rattle.std.specs.Option.{option_and_then, option_or}
 use Rattle.std.proofs.lemmas.List.{length-take, length-drop, take-map, drop-map, length-append}
 use Rattle.std.proofs.lemmas.Option.{same_Some, slice_get-map, slice_get_within, get_or_from_slice_get}
-use Rattle.far_types.specs.declared.cell.Cell.{Cell}
 use Rattle.far_types.specs.Lent.{int_cell, text_cell}
 use Rattle.far_types.specs.Table.{in_group}
 use Rattle.far_codec.specs.TextForm.{texts_meaning, IsTextsForm}
@@ -14,7 +13,7 @@ use Rattle.far_scopes.specs.Movement.{meant, ticket_of}
 use Rattle.far_vector.specs.Vector.{Vector, IsVector, IsShaped, group_list}
 use Rattle.far_vector.proofs.RowGroups.{list-of-group}
 use Rattle.far_vector.proofs.VectorLaws.{length-elements}
-use Rattle.far_columns.specs.Texts.{Texts, HasGroups, IsTextColumn, IsGroupForm, lists_of, texts_at, texts_in}
+use Rattle.far_columns.specs.Texts.{Texts, HasGroups, IsTextColumn, IsGroupForm, lists_of, texts_in}
 use Rattle.far_columns.specs.Numbers.{Numbers, number_lists, numbers_in}
 use Rattle.far_columns.proofs.RowGroups.{texts-of-group}
 use Rattle.far_rows.specs.declared.slot.Slot.{Slot}

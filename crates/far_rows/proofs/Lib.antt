@@ -38,3 +38,4 @@ pub mod Reading
 pub mod LentNumbers
 pub mod LentTexts
 pub mod Grouped
+pub mod GoesFirst

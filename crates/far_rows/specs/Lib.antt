@@ -11,4 +11,5 @@ pub mod Moving
 pub mod Effects
 pub mod Plain
 pub mod Jobs
+pub mod Coldest
 pub mod Renewal

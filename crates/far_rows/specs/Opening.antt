@@ -1,9 +1,10 @@
 -- A table when it is opened.
-use Rattle.std.specs.Prelude.{ℕ, ◌+◌, List, [], ◌∷◌, Some, pos, replicate}
+use Rattle.std.specs.Prelude.{ℕ, ◌+◌, List, [], ◌∷◌, Some, pos}
 use Rattle.far_types.specs.declared.cell.Kind.{Kind}
 use Rattle.far_types.specs.declared.cell.Kind.TheVariants as kind
 use Rattle.far_types.specs.declared.limits.Limits.{Limits}
-use Rattle.far_scopes.specs.Movement.{Movement}
+use Rattle.far_scopes.specs.declared.limits.ObjectLimits.{ObjectLimits}
+use Rattle.far_scopes.specs.Opening.{no_objects}
 use Rattle.far_columns.specs.Texts.{Texts}
 use Rattle.far_columns.specs.NumbersTogether.{NumberColumns}
 use Rattle.far_rows.specs.Slots.{slots_from}
@@ -21,16 +22,13 @@ texts_from size limit n [] = []
 texts_from size limit n (kind.Int ∷ kinds) = texts_from size limit (n + 1) kinds
 texts_from size limit n (kind.Text ∷ kinds) = record { column = n; size = size; limit = limit; objects = []; len = 0 } ∷ texts_from size limit (n + 1) kinds
 
--- no object, in so many segments of this size
-abbrev pub no_objects : {X K : Type 0} → Limits → ℕ → ℕ → ℕ → Movement X K
-no_objects limits number segments size = record {
-  number = number;
-  changes = limits.edits;
-  leavings = limits.edits;
-  memory = record { words = []; room = replicate segments record { parts = []; size = size } };
-  entries = [];
-  order = [];
-}
+-- what the objects of numbers are opened for: each may be written and go away as often as there are edits
+abbrev pub number_limits : Limits → ObjectLimits
+number_limits limits = record { segments = limits.int_segments; size = limits.int_size; changes = limits.edits; leavings = limits.edits }
+
+-- likewise the objects of texts
+abbrev pub text_limits : Limits → ObjectLimits
+text_limits limits = record { segments = limits.text_segments; size = limits.text_size; changes = limits.edits; leavings = limits.edits }
 
 -- the rows of a table with this schema and these limits, before any row
 abbrev pub empty_rows : {K : Type 0} → List Kind → Limits → ℕ → Rows K
@@ -39,7 +37,7 @@ empty_rows schema limits number = record {
   size = limits.group;
   numbers = numbers_from limits.group 0 schema;
   texts = texts_from limits.group limits.text_size 0 schema;
-  number_objects = no_objects limits number limits.int_segments limits.int_size;
-  text_objects = no_objects limits number limits.text_segments limits.text_size;
+  number_objects = no_objects number (number_limits limits);
+  text_objects = no_objects number (text_limits limits);
   alive = [];
 }

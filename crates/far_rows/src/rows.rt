@@ -10,6 +10,7 @@ ghost use Rattle.far_rows.specs.Opening.{empty_rows};
 
 mod asking;
 mod beginning;
+mod coldest;
 mod compacting;
 mod grouping;
 mod jobs;
@@ -26,7 +27,7 @@ use far_columns::{Alive, IntColumn, TextColumn};
 use far_scopes::Objects;
 use far_store::FarTickets;
 use far_types::{Kind, Limits, Refusal, Schema};
-use opening::columns_of;
+use opening::{columns_of, number_limits, text_limits};
 use std::alloc::Global;
 use std::marker::Model;
 
@@ -72,22 +73,8 @@ impl<S: FarTickets> Rows<S> {
         ensures memory { IfErr result (λ e. e ≡ Refusal.NoMemory) }
     {
         let columns = columns_of(alloc, schema, limits)?;
-        let number_objects = Objects::new(
-            alloc,
-            number,
-            limits.int_segments,
-            limits.int_size,
-            limits.edits,
-            limits.edits,
-        )?;
-        let text_objects = Objects::new(
-            alloc,
-            number,
-            limits.text_segments,
-            limits.text_size,
-            limits.edits,
-            limits.edits,
-        )?;
+        let number_objects = Objects::new(alloc, number, number_limits(limits))?;
+        let text_objects = Objects::new(alloc, number, text_limits(limits))?;
         Ok(Rows {
             slots: columns.slots,
             size: limits.group,

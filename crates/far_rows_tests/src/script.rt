@@ -3,7 +3,7 @@ use crate::filling::{number_cell, text_cell};
 use crate::fixture::{Fixture, ROWS, Values};
 use far_rows::NewCell;
 use far_store::{AgentStore, FarStore};
-use far_types::{Kind, Limits, Refusal};
+use far_types::{Kind, Limits, Name, Refusal};
 use std::alloc::Global;
 use std::sync::Wait;
 
@@ -45,6 +45,8 @@ pub enum Step {
     Values(usize, Values<'static>),
     /// Whether a place is alive; `None` where there is no such place.
     Alive(usize, Option<bool>),
+    /// The object that goes away first.
+    Coldest(Option<Name>),
 }
 
 /// Plays a script on a new table of the first rows: the index of the first step that does not come out as it should.
@@ -103,6 +105,7 @@ fn comes_out<S: FarStore>(
         Step::Rows(count) => Ok(fixture.has_rows(ROWS.get(..count).unwrap_or(&[]))),
         Step::Values(place, values) => Ok(fixture.has_values(place, values)),
         Step::Alive(place, alive) => Ok(fixture.rows().is_alive(place) == alive),
+        Step::Coldest(name) => Ok(fixture.rows().coldest() == name),
     }
 }
 

@@ -6,6 +6,7 @@ pub mod Placing
 pub mod Replacing
 pub mod Lending
 pub mod Movement
+pub mod Opening
 pub mod Coldest
 pub mod Refusing
 pub mod Effects

@@ -3,6 +3,7 @@
 
 mod entry;
 pub mod laws;
+mod limits;
 mod memory;
 mod objects;
 mod recency;
@@ -11,6 +12,7 @@ mod replacement;
 mod scope;
 
 pub use entry::Entry;
+pub use limits::ObjectLimits;
 pub use objects::Objects;
 pub use renewal::Renewal;
 pub use replacement::Replacement;

@@ -2,7 +2,7 @@
 ghost use Rattle.std.specs.Prelude.{◌≡◌, ℕ, ◌-◌, ◌<◌, ◌≤◌, ◌^◌, ◌↔◌, ◌⊎◌, List, [], length, replicate, All, true, false, Some, None, IsSome, IsTrue, IfSome, IfOk, IfErr, OnOk, OnErr, IsErrOf, slice_get, is_some};
 ghost use Rattle.std.specs.Borrow.{sem};
 ghost use Rattle.far_pointer.specs.Layout.{HasWord};
-ghost use Rattle.far_log.specs.Room.{fits_in, fit_in_order, spaces_of};
+ghost use Rattle.far_log.specs.Room.{fits_in, fit_in_order, spaces_of, space_of, capacity_of};
 ghost use Rattle.far_scopes.specs.Memory.{at_of as word_at, place_of, list_in, ChangesList, IsMemory};
 ghost use Rattle.far_pointer.specs.declared.pointer.Pointer.{Pointer};
 ghost use Rattle.std.specs.Prelude.{not};
@@ -158,6 +158,20 @@ impl<T: Elem> LocalMemory<T> {
         ensures { result ≡ fits_in self.now.room len }
     {
         self.region.fits(len)
+    }
+
+    /// How many elements there is space for, in all segments together.
+    pub fn space(&self) -> usize
+        ensures { result ≡ space_of self.now.room }
+    {
+        self.region.space()
+    }
+
+    /// For how many elements all segments are made together.
+    pub fn capacity(&self) -> usize
+        ensures { result ≡ capacity_of self.now.room }
+    {
+        self.region.capacity()
     }
 
     /// Whether lists of these lengths can be placed one after the other.

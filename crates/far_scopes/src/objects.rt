@@ -1,10 +1,11 @@
 // Objects that are local or away.
-ghost use Rattle.std.specs.Prelude.{◌≡◌, ℕ, ◌<◌, ◌≤◌, ◌^◌, List, [], length, replicate, IfOk, IfErr, Some, option_map, is_some, false};
+ghost use Rattle.std.specs.Prelude.{◌≡◌, ℕ, ◌<◌, ◌≤◌, ◌^◌, List, length, IfOk, IfErr, Some, option_map, is_some, false};
 ghost use Rattle.far_pointer.specs.Layout.{HasWord};
 ghost use Rattle.far_codec.specs.Spelling.{IsSpelled};
 ghost use Rattle.std.specs.Option.{option_map_or};
 ghost use Rattle.far_scopes.specs.Memory.{IsMemory};
 ghost use Rattle.far_scopes.specs.Movement.{AreTracked, word_of, version_of, leavings_of, pins_of, ticket_of, has_copy};
+ghost use Rattle.far_scopes.specs.Opening.{no_objects};
 
 mod coldest;
 mod coming;
@@ -18,6 +19,7 @@ mod replacing;
 mod scopes;
 
 use super::entry::Entry;
+use super::limits::ObjectLimits;
 use super::memory::LocalMemory;
 use super::recency::Recency;
 use far_codec::Elem;
@@ -55,23 +57,16 @@ impl<T: Elem, S: FarTickets> Objects<T, S> {
     /// No object. The frame's number is kept with them, which tells the jobs of one frame from those of another.
     ///
     /// All memory for elements is taken here. Refused with `NoMemory` (1) alone.
-    pub fn new(
-        alloc: Global,
-        number: u32,
-        segments: u32,
-        size: u32,
-        changes: u64,
-        leavings: u64,
-    ) -> Result<Objects<T, S>, Refusal>
-        requires { segments ≤ 65536 }
-        ensures empty { IfOk result (λ m. m ≡ record { number = number; changes = changes; leavings = leavings; memory = record { words = []; room = replicate segments record { parts = []; size = size } }; entries = []; order = [] }) }
+    pub fn new(alloc: Global, number: u32, limits: ObjectLimits) -> Result<Objects<T, S>, Refusal>
+        requires { limits.segments ≤ 65536 }
+        ensures empty { IfOk result (λ m. m ≡ no_objects number limits) }
         ensures memory { IfErr result (λ e. e ≡ Refusal.NoMemory) }
     {
         Ok(Objects {
             number,
-            changes,
-            leavings,
-            memory: LocalMemory::new(alloc, segments, size)?,
+            changes: limits.changes,
+            leavings: limits.leavings,
+            memory: LocalMemory::new(alloc, limits.segments, limits.size)?,
             entries: Vec::new(alloc),
             order: Recency::new(alloc)?,
         })

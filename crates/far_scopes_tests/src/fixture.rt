@@ -5,7 +5,7 @@ ghost use Rattle.far_scopes.specs.Movement.{AreHere, is_local, list_of};
 
 use crate::again::create;
 use far_fixtures::{agent, no_objects, put};
-use far_scopes::Objects;
+use far_scopes::{ObjectLimits, Objects};
 use far_store::{AgentStore, FarStore, FarTickets};
 use far_types::Refusal;
 use std::alloc::Global;
@@ -26,7 +26,13 @@ pub fn empty<S: FarTickets>(alloc: Global, store: &S) -> Result<Objects<i64, S>,
     ensures none { IfOk result (λ m. m.entries ≡ []) }
     ensures leaves { IfOk result (λ m. m.leavings ≡ 1) }
 {
-    no_objects(alloc, store, 2, 4, 2, 1)
+    let limits = ObjectLimits {
+        segments: 2,
+        size: 4,
+        changes: 2,
+        leavings: 1,
+    };
+    no_objects(alloc, store, limits)
 }
 
 /// Makes two objects of these lists, of the row groups 0 and 1.

@@ -22,4 +22,6 @@ mod replacing;
 #[cfg(test)]
 mod script;
 #[cfg(test)]
+mod space;
+#[cfg(test)]
 mod writing;

@@ -1,11 +1,11 @@
 // Scripts: calls on objects, each with what must come of it.
-ghost use Rattle.std.specs.Prelude.{◌≡◌, ◌<◌, length, IfOk};
+ghost use Rattle.std.specs.Prelude.{◌≡◌, ◌<◌, ◌≤◌, length, IfOk};
 
 use crate::again::{compact, create, replace, replace_all};
 use crate::fixture::has;
 use far_fixtures::{agent, no_objects};
 use far_pointer::{At, Pointer};
-use far_scopes::{Objects, Replacement};
+use far_scopes::{ObjectLimits, Objects, Replacement};
 use far_store::{AgentStore, FarTickets};
 use far_types::Refusal;
 use std::alloc::Global;
@@ -65,6 +65,10 @@ pub enum Step<'a> {
     Cold(u32, At),
     /// This object goes away first.
     Coldest(Option<u32>),
+    /// There is space for so many numbers.
+    Space(usize),
+    /// The segments are made for so many numbers.
+    Capacity(usize),
 }
 
 /// Makes the object with this number, of the row group with that number.
@@ -82,6 +86,20 @@ pub struct Room {
     pub segments: u16,
     pub size: u32,
     pub changes: u64,
+}
+
+impl Room {
+    /// The limits of the objects: each may go away once.
+    fn limits(&self) -> ObjectLimits
+        ensures { result.segments ≤ 65536 }
+    {
+        ObjectLimits {
+            segments: u32::from(self.segments),
+            size: self.size,
+            changes: self.changes,
+            leavings: 1,
+        }
+    }
 }
 
 /// Two segments of four numbers; two writes.
@@ -103,8 +121,7 @@ fn first_wrong_in<S: FarTickets>(
     room: Room,
     steps: &[Step],
 ) -> Result<Option<usize>, Refusal> {
-    let segments = u32::from(room.segments);
-    let mut objects = no_objects(alloc, store, segments, room.size, room.changes, 1)?;
+    let mut objects = no_objects(alloc, store, room.limits())?;
     play(alloc, &mut objects, steps)
 }
 
@@ -146,6 +163,8 @@ fn is_so<S: FarTickets>(objects: &Objects<i64, S>, step: &Step) -> bool {
         Step::Dirty(o) => o < objects.count() && objects.word(o).dirty(),
         Step::Name { o, column, group } => is_named(objects, o, column, group),
         Step::Coldest(o) => objects.coldest() == o,
+        Step::Space(space) => objects.space() == space,
+        Step::Capacity(capacity) => objects.capacity() == capacity,
         _ => false,
     }
 }

@@ -6,7 +6,7 @@ ghost use Rattle.far_vector.specs.Vector.{IsVector};
 use crate::again::{no_elements, push};
 use far_codec::Elem;
 use far_fixtures::{Element, agent, no_objects};
-use far_scopes::Objects;
+use far_scopes::{ObjectLimits, Objects};
 use far_store::{AgentStore, FarTickets};
 use far_types::Refusal;
 use far_vector::FarVector;
@@ -28,7 +28,13 @@ pub fn room_for_four<T: Elem, S: FarTickets>(
     alloc: Global,
     store: &S,
 ) -> Result<Objects<T, S>, Refusal> {
-    no_objects(alloc, store, 4, 4, 5, 1)
+    let limits = ObjectLimits {
+        segments: 4,
+        size: 4,
+        changes: 5,
+        leavings: 1,
+    };
+    no_objects(alloc, store, limits)
 }
 
 /// Pushes elements; there are few objects.

@@ -4,7 +4,7 @@ ghost use Rattle.far_vector.specs.Vector.{IsVector};
 
 use crate::fixture::{filled, one_to_five, room_for_four, with_agent};
 use far_fixtures::{Element, no_objects};
-use far_scopes::Objects;
+use far_scopes::{ObjectLimits, Objects};
 use far_store::FarTickets;
 use far_types::Refusal;
 use far_vector::FarVector;
@@ -71,7 +71,13 @@ fn used_up_in<S: FarTickets>(
 }
 
 fn used_up<S: FarTickets>(alloc: Global, store: &S) -> Result<[Option<Refusal>; 3], Refusal> {
-    used_up_in(alloc, &mut no_objects(alloc, store, 4, 4, 1, 1)?)
+    let limits = ObjectLimits {
+        segments: 4,
+        size: 4,
+        changes: 1,
+        leavings: 1,
+    };
+    used_up_in(alloc, &mut no_objects(alloc, store, limits)?)
 }
 
 #[test]

@@ -74,14 +74,7 @@ impl<'a, S: FarStore> OneNumberColumn<'a, S> {
         layout: Layout,
     ) -> Result<OneNumberColumn<'a, S>, Refusal> {
         layout.check()?;
-        let objects = no_objects(
-            alloc,
-            store,
-            layout.segments,
-            layout.size,
-            layout.changes,
-            9,
-        )?;
+        let objects = no_objects(alloc, store, layout.limits())?;
         let column = IntColumn::new(alloc, 3, layout.group)?;
         Ok(OneNumberColumn {
             store,

@@ -48,14 +48,7 @@ impl<'a, S: FarStore> TwoNumberColumns<'a, S> {
         layout: Layout,
     ) -> Result<TwoNumberColumns<'a, S>, Refusal> {
         layout.check()?;
-        let objects = no_objects(
-            alloc,
-            store,
-            layout.segments,
-            layout.size,
-            layout.changes,
-            9,
-        )?;
+        let objects = no_objects(alloc, store, layout.limits())?;
         let columns = no_numbers(alloc, &objects, layout.group)?;
         Ok(TwoNumberColumns {
             store,

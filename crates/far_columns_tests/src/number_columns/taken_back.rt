@@ -8,12 +8,20 @@ ghost use Rattle.far_columns.specs.NumbersBack.{AreBegunLast};
 use crate::script::agent;
 use far_columns::{IntColumn, push_numbers, unpush_numbers};
 use far_fixtures::no_objects;
-use far_scopes::Objects;
+use far_scopes::{ObjectLimits, Objects};
 use far_store::FarTickets;
 use far_types::Refusal;
 use std::alloc::Global;
 use std::sync::Wait;
 use std::test::Fail;
+
+/// Two segments of eight numbers; nine writes and nine leavings each.
+const LIMITS: ObjectLimits = ObjectLimits {
+    segments: 2,
+    size: 8,
+    changes: 9,
+    leavings: 9,
+};
 
 /// Two columns without a number, in row groups of one place.
 fn two_columns<S: FarTickets>(
@@ -111,7 +119,7 @@ fn begin_again<S: FarTickets>(
 }
 
 fn begin_again_in<S: FarTickets>(alloc: Global, store: &S) -> Result<bool, Refusal> {
-    let mut objects = no_objects(alloc, store, 2, 8, 9, 9)?;
+    let mut objects = no_objects(alloc, store, LIMITS)?;
     begin_again(alloc, &mut objects)
 }
 

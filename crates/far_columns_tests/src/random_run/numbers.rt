@@ -8,7 +8,7 @@ ghost use Rattle.far_columns.specs.Numbers.{Numbers, number_lists};
 use super::{CHANGES, LEAVINGS};
 use crate::moving::{bring_numbers_back, send_numbers_away};
 use far_columns::IntColumn;
-use far_scopes::Objects;
+use far_scopes::{ObjectLimits, Objects};
 use far_store::{FarStore, FarTickets};
 use far_types::Refusal;
 use far_vector::laws::vectors_stay_together;
@@ -31,7 +31,13 @@ pub fn no_objects<S: FarStore>(
 ) -> Result<Objects<Option<i64>, S>, Refusal>
     ensures { IfOk result (λ m. (name : List ℕ) → AreHere S.is_of name m) }
 {
-    Objects::new(alloc, 0, 3, 20, u64::from(CHANGES), u64::from(LEAVINGS))
+    let limits = ObjectLimits {
+        segments: 3,
+        size: 20,
+        changes: u64::from(CHANGES),
+        leavings: u64::from(LEAVINGS),
+    };
+    Objects::new(alloc, 0, limits)
 }
 
 fn push<S: FarStore>(

@@ -8,7 +8,7 @@ use super::{CHANGES, LEAVINGS};
 use crate::moving::{bring_texts_back, send_texts_away};
 use far_columns::TextColumn;
 use far_columns::laws::columns_stay_together;
-use far_scopes::Objects;
+use far_scopes::{ObjectLimits, Objects};
 use far_store::FarStore;
 use far_types::{Refusal, Text};
 use std::alloc::Global;
@@ -26,7 +26,13 @@ pub enum TextCall<'a> {
 pub fn no_objects<S: FarStore>(alloc: Global, _store: &S) -> Result<Objects<u8, S>, Refusal>
     ensures { IfOk result (λ m. (name : List ℕ) → AreHere S.is_of name m) }
 {
-    Objects::new(alloc, 1, 4, 128, u64::from(CHANGES), u64::from(LEAVINGS))
+    let limits = ObjectLimits {
+        segments: 4,
+        size: 128,
+        changes: u64::from(CHANGES),
+        leavings: u64::from(LEAVINGS),
+    };
+    Objects::new(alloc, 1, limits)
 }
 
 fn push<S: FarStore>(

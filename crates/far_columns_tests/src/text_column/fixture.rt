@@ -75,14 +75,7 @@ impl<'a, S: FarStore> OneTextColumn<'a, S> {
 
     fn empty(alloc: Global, store: &'a S, layout: Layout) -> Result<OneTextColumn<'a, S>, Refusal> {
         layout.check()?;
-        let objects = no_objects(
-            alloc,
-            store,
-            layout.segments,
-            layout.size,
-            layout.changes,
-            9,
-        )?;
+        let objects = no_objects(alloc, store, layout.limits())?;
         Ok(OneTextColumn {
             store,
             objects,

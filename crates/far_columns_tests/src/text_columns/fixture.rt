@@ -47,14 +47,7 @@ impl<'a, S: FarStore> TwoTextColumns<'a, S> {
         layout: Layout,
     ) -> Result<TwoTextColumns<'a, S>, Refusal> {
         layout.check()?;
-        let objects = no_objects(
-            alloc,
-            store,
-            layout.segments,
-            layout.size,
-            layout.changes,
-            9,
-        )?;
+        let objects = no_objects(alloc, store, layout.limits())?;
         let columns = no_texts(alloc, &objects, layout.group as usize, layout.limit);
         Ok(TwoTextColumns {
             store,

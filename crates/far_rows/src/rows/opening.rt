@@ -2,10 +2,11 @@
 ghost use Rattle.std.specs.Prelude.{◌≡◌, ◌++◌, ◌∷◌, [], length, IfOk, IfErr, OnOk};
 ghost use Rattle.far_types.specs.Bounds.{AreLimits, IsSchema};
 ghost use Rattle.far_rows.specs.Slots.{slots_from};
-ghost use Rattle.far_rows.specs.Opening.{numbers_from, texts_from};
+ghost use Rattle.far_rows.specs.Opening.{numbers_from, texts_from, number_limits, text_limits};
 
 use crate::slot::Slot;
 use far_columns::{IntColumn, TextColumn};
+use far_scopes::ObjectLimits;
 use far_types::{Kind, Limits, Refusal, Schema};
 use std::alloc::Global;
 
@@ -15,6 +16,30 @@ pub(super) struct Columns {
     pub(super) slots: Vec<Slot>,
     pub(super) numbers: Vec<IntColumn>,
     pub(super) texts: Vec<TextColumn>,
+}
+
+// What the objects of numbers are opened for.
+pub(super) fn number_limits(limits: &Limits) -> ObjectLimits
+    ensures { result ≡ number_limits limits.now }
+{
+    ObjectLimits {
+        segments: limits.int_segments,
+        size: limits.int_size,
+        changes: limits.edits,
+        leavings: limits.edits,
+    }
+}
+
+// What the objects of texts are opened for.
+pub(super) fn text_limits(limits: &Limits) -> ObjectLimits
+    ensures { result ≡ text_limits limits.now }
+{
+    ObjectLimits {
+        segments: limits.text_segments,
+        size: limits.text_size,
+        changes: limits.edits,
+        leavings: limits.edits,
+    }
 }
 
 // The columns of a schema, each empty.

@@ -1,6 +1,6 @@
 // What is asked of objects before they move.
 ghost use Rattle.std.specs.Prelude.{◌≡◌, ◌<◌, ◌≤◌, ◌↔◌, length, All, Some, IsTrue, option_map};
-ghost use Rattle.far_log.specs.Room.{fits_in, fit_in_order, spaces_of};
+ghost use Rattle.far_log.specs.Room.{fits_in, fit_in_order, spaces_of, space_of, capacity_of};
 ghost use Rattle.far_scopes.specs.Movement.{entry_of, leavings_of};
 
 use super::Objects;
@@ -47,6 +47,22 @@ impl<T: Elem, S: FarTickets> Objects<T, S> {
         ensures { result ≡ fit_in_order (spaces_of self.now.memory.room) lens.now }
     {
         self.memory.fits_in_order(lens)
+    }
+
+    /// For how many elements there is space, in all segments together. Takes no memory.
+    ///
+    /// A list needs its space in one segment, so one that is no longer than this need not fit.
+    pub fn space(&self) -> usize
+        ensures { result ≡ space_of self.now.memory.room }
+    {
+        self.memory.space()
+    }
+
+    /// For how many elements all segments are made together. Takes no memory.
+    pub fn capacity(&self) -> usize
+        ensures { result ≡ capacity_of self.now.memory.room }
+    {
+        self.memory.capacity()
     }
 
     /// Whether an object may go away once more: each may as often as was given to `new`. Takes no memory.

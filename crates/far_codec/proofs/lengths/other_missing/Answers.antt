@@ -1,11 +1,13 @@
-use Rattle.std.proofs.Common.{◌≡◌, ◌+◌, ◌<◌, ℕ, Bool, true, false, eqb, List, length, get_or, set, take, refl, sym, ap, ◌∙◌, arith}
+use Rattle.std.proofs.Common.{◌≡◌, ◌+◌, ◌<◌, ℕ, Bool, true, false, eqb, List, [], ◌∷◌, length, get_or, set, take, refl, sym, ap, ◌∙◌, arith}
 use Rattle.std.specs.Prelude.{not, ◌||◌, ◌&&◌}
 use Rattle.std.proofs.lemmas.Bool.{eqb-true, false≢true}
 use Rattle.std.proofs.lemmas.Bool.Decides.{Decides-eqb}
 use Rattle.std.proofs.lemmas.List.{length-set, get_or-set_same, get_or-set_other, take_all}
-use Rattle.std.proofs.lemmas.List.Folds.{list_any_more}
+use Rattle.std.proofs.lemmas.List.Elements.{All-set}
+use Rattle.std.proofs.lemmas.List.Folds.{list_any_more, list_any_none}
 use Rattle.far_codec.specs.FarForm.{some_missing}
 use Rattle.far_codec.specs.Reading.{is_missing, flags_of}
+use Rattle.far_codec.proofs.Heads.{unset_without_mask}
 use Rattle.far_codec.proofs.Masks.{length-flags_of, flag_at}
 use Rattle.far_codec.proofs.lengths.other_missing.Goals as goal
 
@@ -17,6 +19,15 @@ flag_but mask count i j true h e =
     ap (λ k. get_or (set (flags_of mask count) i false) k false) same ∙ get_or-set_same (flags_of mask count) i false false in_flags
 flag_but mask count i j false h e =
     get_or-set_other (flags_of mask count) i j false false (λ same. absurd (false≢true (e ∙ (Decides-eqb j i).1 same))) ∙ flag_at mask count j h
+
+-- without a mask no other flag is set
+none_without_mask : (mask : List ℕ) (count i : ℕ) → length mask ≡ 0 → some_missing (set (flags_of mask count) i false) ≡ false
+none_without_mask [] count i e =
+    list_any_none (λ missing. missing) (set (flags_of [] count) i false) (All-set (λ missing. missing ≡ false) (flags_of [] count) i false refl (unset_without_mask count))
+none_without_mask (byte ∷ mask) count i e = absurd (omega arith)
+
+pub returns-then-is_empty : goal.returns-then-is_empty
+returns-then-is_empty c = sym (none_without_mask c.args.mask.now c.args.count c.args.i (eqb-true (length c.args.mask.now) 0 (sym c.is_empty.ensures ∙ c.if-is_empty.true)))
 
 pub loop-j-preserved : goal.loop-j-preserved
 loop-j-preserved c =

@@ -1,4 +1,4 @@
-use Rattle.std.proofs.Common.{map, take, length, ap, arith, length-take}
+use Rattle.std.proofs.Common.{take, length, ap, arith, length-take}
 use Rattle.std.proofs.lemmas.List.{length-map}
 use Rattle.far_rows.specs.Slots.{cell_in}
 use Rattle.far_rows.proofs.new_row.NewRow.lend.Goals as goal

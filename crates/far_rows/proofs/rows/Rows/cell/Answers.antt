@@ -1,5 +1,5 @@
-use Rattle.std.proofs.Common.{◌≡◌, ◌/◌, ◌<◌, ◌∙◌, ℕ, List, [], ◌∷◌, Some, length, true, false, not, refl, sym, ap, arith}
-use Rattle.std.specs.Prelude.{nat_lt, is_none, slice_get}
+use Rattle.std.proofs.Common.{◌≡◌, ◌/◌, ◌<◌, ◌∙◌, List, [], ◌∷◌, Some, length, false, not, refl, sym, ap, arith}
+use Rattle.std.specs.Prelude.{is_none, slice_get}
 use Rattle.std.specs.Option.{option_map_or}
 use Rattle.std.proofs.lemmas.Bool.{lt-ltb}
 use Rattle.std.proofs.lemmas.Option.{slice_get_read}

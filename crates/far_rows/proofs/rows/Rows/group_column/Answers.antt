@@ -1,4 +1,4 @@
-use Rattle.std.proofs.Common.{◌≡◌, ◌≤◌, ◌∙◌, ℕ, ℤ, List, Some, Option, map, take, length, length-take, ap, sym, arith}
+use Rattle.std.proofs.Common.{◌∙◌, ℕ, ℤ, Some, Option, map, take, length, length-take, ap, sym, arith}
 use Rattle.std.proofs.lemmas.Result.{err_from_is_err_and}
 use Rattle.far_types.specs.Lent.{int_cell}
 use Rattle.far_scopes.specs.Memory.{list_in}

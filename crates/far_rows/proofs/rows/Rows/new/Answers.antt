@@ -1,4 +1,5 @@
-use Rattle.std.proofs.Common.{sym, subst}
+use Rattle.std.proofs.Common.{sym, ap, subst, ◌∙◌}
+use Rattle.far_scopes.specs.Opening.{no_objects}
 use Rattle.far_rows.specs.Rows.{Rows, AreRows}
 use Rattle.far_rows.specs.Opening.{empty_rows}
 use Rattle.far_rows.proofs.EmptyRows.{rows-are}
@@ -13,7 +14,7 @@ invariant_of-result g c =
       size = limits.group;
       numbers = c.in_ok-columns.ensures.numbers i;
       texts = c.in_ok-columns.ensures.texts i;
-      number_objects = c.in_ok-number_objects.ensures.empty i;
-      text_objects = c.in_ok-text_objects.ensures.empty i;
+      number_objects = (c.in_ok-number_objects.ensures.empty ∙ ap (no_objects c.args.number) c.number_limits.ensures) i;
+      text_objects = (c.in_ok-text_objects.ensures.empty ∙ ap (no_objects c.args.number) c.text_limits.ensures) i;
       alive = c.new-3.ensures i;
     })) (rows-are g.S.FarTickets.content c.args.schema.now limits c.args.number c.columns_of.ensures.schema c.requires)

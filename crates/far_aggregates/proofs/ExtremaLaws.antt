@@ -1,0 +1,143 @@
+-- The extrema of the row group of an edit: with the pair that comes, and without the one that goes.
+use Rattle.std.proofs.Common.{inl, inr, ◌≡◌, ◌≢◌, ℕ, zero, suc, ◌<◌, Bool, true, false, cond, List, [], ◌∷◌, length, refl, sym, ap, ◌∙◌, arith, Option, None, Some, slice_get, slice_set}
+use Rattle.std.specs.Prelude.{◌⊎◌, ℤ, ◌<ℤ◌}
+use Rattle.std.specs.List.{filter_map, cons_option}
+use Rattle.std.specs.FinMap as fin
+use Rattle.std.proofs.lemmas.List.{get_or-set_same, get_or-set_other}
+use Rattle.far_types.specs.declared.key.Key.{Key}
+use Rattle.far_types.specs.declared.spec.Spec.{Spec}
+use Rattle.far_types.specs.Keys.{line_cmp}
+use Rattle.far_types.specs.Answers.{Extrema, extrema}
+use Rattle.far_types.specs.Changes.{with_seen, widened}
+use Rattle.far_types.specs.Edits.{changed_at}
+use Rattle.far_types.specs.Pairs.{Pair}
+use Rattle.far_types.specs.Table.{Place, place_pair, in_group, is_unbuilt}
+use Rattle.far_types.proofs.ByKeyMaps.{get_inserted}
+use Rattle.far_types.proofs.TotalLaws.{extrema-cons, extrema-among}
+use Rattle.far_extrema.specs.Live.{group_at}
+use Rattle.far_extrema.specs.Spans.{put_span}
+use Rattle.far_extrema.proofs.GoneLaws.{gone, within, put-same}
+use Rattle.far_aggregates.specs.Kept.{Change, group_pairs, built_group}
+use Rattle.far_aggregates.specs.Changes.{with_seen_change}
+use Rattle.far_aggregates.proofs.ListLaws.{length-written, set-own}
+
+pub same_or_not : (a b : ℕ) → (a ≡ b) ⊎ (a ≢ b)
+same_or_not zero zero = inl refl
+same_or_not zero (suc b) = inr (λ e. absurd (omega arith))
+same_or_not (suc a) zero = inr (λ e. absurd (omega arith))
+same_or_not (suc a) (suc b) = elim (same_or_not a b) as (λ o. (suc a ≡ suc b) ⊎ (suc a ≢ suc b)) [ inl e ↦ inl (ap suc e) | inr n ↦ inr (λ e. n (omega arith)) ]
+
+pub seen-more : (o : Change) (ps : List Pair) → extrema (cons_option o ps) ≡ with_seen_change (extrema ps) o
+seen-more None ps = refl
+seen-more (Some pair) ps = extrema-cons pair ps
+
+pub seen-swap : (a b : Change) (ps : List Pair) → extrema (cons_option a (cons_option b ps)) ≡ extrema (cons_option b (cons_option a ps))
+seen-swap None b ps = refl
+seen-swap (Some x) None ps = refl
+seen-swap (Some x) (Some y) ps = sym (extrema-among (y ∷ []) x ps)
+
+seen-under : (o : Change) (ps qs : List Pair) → extrema ps ≡ extrema qs → extrema (cons_option o ps) ≡ extrema (cons_option o qs)
+seen-under o ps qs h = seen-more o ps ∙ ap (λ m. with_seen_change m o) h ∙ sym (seen-more o qs)
+
+-- the pairs of all places but one
+module _ (spec : Spec) where
+  abbrev pub rest : List Place → ℕ → List Pair
+  rest [] j = []
+  rest (p ∷ ps) zero = filter_map (place_pair spec) ps
+  rest (p ∷ ps) (suc j) = cons_option (place_pair spec p) (rest ps j)
+
+  pub rest-apart : (ps : List Place) (j : ℕ) (x : Place) → slice_get ps j ≡ Some x → extrema (filter_map (place_pair spec) ps) ≡ extrema (cons_option (place_pair spec x) (rest ps j))
+  rest-apart [] j x h = cc
+  rest-apart (p ∷ ps) zero x h = let e : p ≡ x = cc in rw e refl
+  rest-apart (p ∷ ps) (suc j) x h =
+      seen-under (place_pair spec p) _ _ (rest-apart ps j x h) ∙ seen-swap (place_pair spec p) (place_pair spec x) (rest ps j)
+
+  pub rest-changed : (f : Place → Place) (ps : List Place) (j : ℕ) → rest (changed_at f j ps) j ≡ rest ps j
+  rest-changed f [] j = refl
+  rest-changed f (p ∷ ps) zero = refl
+  rest-changed f (p ∷ ps) (suc j) = ap (cons_option (place_pair spec p)) (rest-changed f ps j)
+
+-- a pair that goes leaves the extrema of the others
+abbrev pub without_gone : Change → Extrema → Extrema → Extrema
+without_gone None m new = m
+without_gone (Some pair) m new = put_span m pair.0 (fin.get new pair.0)
+
+pub gone-leaves : (a : Change) (qs : List Pair) (m new : Extrema) → m ≡ extrema (cons_option a qs) → new ≡ extrema qs → without_gone a m new ≡ new
+gone-leaves None qs m new h k = h ∙ sym k
+gone-leaves (Some p) qs m new h k = (λ i. put_span (h i) p.0 (fin.get (k i) p.0)) ∙ gone qs p ∙ sym k
+
+-- what stands under its key is that of the others, with its value more
+pub gone-seen : (p : Pair) (qs : List Pair) (m new : Extrema) → m ≡ extrema (p ∷ qs) → new ≡ extrema qs → fin.get m p.0 ≡ Some (widened p.1 (fin.get new p.0))
+gone-seen p qs m new h k =
+    ap (λ n. fin.get n p.0) (h ∙ extrema-cons p qs)
+    ∙ get_inserted (extrema qs) p.0 (widened p.1 (fin.get (extrema qs) p.0))
+    ∙ ap (λ n. Some (widened p.1 (fin.get n p.0))) (sym k)
+
+-- row groups of which one alone may be another than before
+abbrev pub IsWith : ℕ → List Extrema → List Extrema → Extrema → Type 0
+IsWith g gs hs m = (group_at hs g ≡ m) × ((h : ℕ) → h ≢ g → group_at hs h ≡ group_at gs h)
+
+abbrev pub groups_seen : ℕ → List Extrema → Change → List Extrema
+groups_seen g gs None = gs
+groups_seen g gs (Some pair) = slice_set gs g (with_seen (group_at gs g) pair)
+
+abbrev pub groups_left : ℕ → List Extrema → Change → Extrema → List Extrema
+groups_left g gs None new = gs
+groups_left g gs (Some pair) new = slice_set gs g (put_span (group_at gs g) pair.0 (fin.get new pair.0))
+
+pub seen-is : (g : ℕ) (gs : List Extrema) (o : Change) → g < length gs → IsWith g gs (groups_seen g gs o) (with_seen_change (group_at gs g) o)
+seen-is g gs None l = (refl, λ h n. refl)
+seen-is g gs (Some p) l = (get_or-set_same gs g _ fin.empty l, λ h n. get_or-set_other gs g h _ fin.empty n)
+
+pub left-is : (g : ℕ) (gs : List Extrema) (o : Change) (new : Extrema) → g < length gs → IsWith g gs (groups_left g gs o new) (without_gone o (group_at gs g) new)
+left-is g gs None new l = (refl, λ h n. refl)
+left-is g gs (Some p) new l = (get_or-set_same gs g _ fin.empty l, λ h n. get_or-set_other gs g h _ fin.empty n)
+
+pub seen-length : (g : ℕ) (gs : List Extrema) (o : Change) → length (groups_seen g gs o) ≡ length gs
+seen-length g gs None = refl
+seen-length g gs (Some p) = length-written gs g _
+
+-- where all other row groups have the places that they had
+module _ (spec : Spec) (size : ℕ) (unbuilt : List Bool) (g : ℕ) (ps qs : List Place) (others : (h : ℕ) → h ≢ g → in_group size h qs ≡ in_group size h ps) where
+  other-group : (h : ℕ) → h ≢ g → built_group spec size unbuilt ps h ≡ built_group spec size unbuilt qs h
+  other-group h n = ap (λ l. cond (is_unbuilt unbuilt h) fin.empty (extrema (filter_map (place_pair spec) l))) (sym (others h n))
+
+  -- the row group is built in, and has the extrema of its places
+  pub kept-built : (gs hs : List Extrema) → is_unbuilt unbuilt g ≡ false → ((h : ℕ) → group_at gs h ≡ built_group spec size unbuilt ps h) → IsWith g gs hs (extrema (group_pairs spec size g qs))
+      → (h : ℕ) → group_at hs h ≡ built_group spec size unbuilt qs h
+  kept-built gs hs is kept w h = elim (same_or_not h g) as (λ o. group_at hs h ≡ built_group spec size unbuilt qs h) [
+    | inl e ↦
+        ap (group_at hs) e ∙ w.0
+        ∙ sym (ap (λ b. cond b fin.empty (extrema (group_pairs spec size g qs))) is)
+        ∙ ap (built_group spec size unbuilt qs) (sym e)
+    | inr n ↦ w.1 h n ∙ kept h ∙ other-group h n
+  ]
+
+  -- nothing is kept of it
+  pub kept-unbuilt : (gs : List Extrema) → is_unbuilt unbuilt g ≡ true → ((h : ℕ) → group_at gs h ≡ built_group spec size unbuilt ps h) → (h : ℕ) → group_at gs h ≡ built_group spec size unbuilt qs h
+  kept-unbuilt gs is kept h =
+      kept h ∙ elim (same_or_not h g) as (λ o. built_group spec size unbuilt ps h ≡ built_group spec size unbuilt qs h) [
+        | inl e ↦
+            let shut : is_unbuilt unbuilt h ≡ true = ap (is_unbuilt unbuilt) e ∙ is in
+            ap (λ b. cond b fin.empty (extrema (group_pairs spec size h ps))) shut ∙ sym (ap (λ b. cond b fin.empty (extrema (group_pairs spec size h qs))) shut)
+        | inr n ↦ other-group h n
+      ]
+
+nothing : (x : ℤ × ℤ) → None ≡ Some x → ⊥
+nothing x e = cc
+
+-- a row group in which a key occurs has room
+pub has-room : (g : ℕ) (gs : List Extrema) (k : Option Key) (x : ℤ × ℤ) → fin.get (group_at gs g) k ≡ Some x → g < length gs
+has-room g [] k x h = absurd (nothing x (sym (fin.get-empty line_cmp k) ∙ h))
+has-room zero (m ∷ gs) k x h = omega arith
+has-room (suc g) (m ∷ gs) k x h = let rest = has-room g gs k x h in omega arith
+
+some_span : (s t : ℤ × ℤ) → Some s ≡ Some t → t ≡ s
+some_span s t e = cc
+
+-- where the value that goes is strictly within, the row group stays as it is
+pub left-within : (g : ℕ) (gs : List Extrema) (k : Option Key) (v : ℤ) (o : Option (ℤ × ℤ)) (s : ℤ × ℤ) → fin.get (group_at gs g) k ≡ Some (widened v o) → fin.get (group_at gs g) k ≡ Some s → s.0 <ℤ v → v <ℤ s.1
+    → gs ≡ slice_set gs g (put_span (group_at gs g) k o)
+left-within g gs k v o s seen found low high =
+    let rest = within v o s (some_span _ _ (sym found ∙ seen)) low high in
+    sym (ap (λ p. slice_set gs g (put_span (group_at gs g) k p)) rest ∙ ap (slice_set gs g) (put-same (group_at gs g) k s found) ∙ set-own gs g fin.empty)

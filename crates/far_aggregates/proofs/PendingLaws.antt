@@ -1,0 +1,121 @@
+-- What an edit brought in can go back, and what is to go can go once the rows are changed.
+use Rattle.std.proofs.Common.{inl, inr, ◌≡◌, ◌≢◌, ℕ, zero, suc, ◌/◌, ◌<◌, cond, List, [], ◌∷◌, ◌++◌, length, map, take, drop, refl, sym, ap, ◌∙◌, subst, arith, None, Some, slice_get, slice_set, replicate, ◌-◌}
+use Rattle.std.specs.Prelude.{◌==◌, IsSome, option_map}
+use Rattle.std.proofs.lemmas.Bool.Decides.{eqb_tells}
+use Rattle.std.proofs.lemmas.List.{length-map}
+use Rattle.std.proofs.Math.Seq.{take-append_seam}
+use Rattle.far_types.specs.declared.cell.Cell.{Cell}
+use Rattle.far_types.specs.Cells.{Cells, cells_of}
+use Rattle.far_types.specs.Edits.{changed_at, with_cell, removed}
+use Rattle.far_types.specs.Table.{Place, in_group}
+use Rattle.far_aggregates.specs.declared.pending.Pending.{Pending}
+use Rattle.far_aggregates.specs.Kept.{Slot, PlacesFit, Keeps, registered_in, registered_of}
+use Rattle.far_aggregates.specs.Changed.{with_cell_at}
+use Rattle.far_aggregates.specs.Changes.{row_gives, place_gives, alive_with, change_of}
+use Rattle.far_aggregates.specs.Coming.{come_of, added, back, EachMayBack}
+use Rattle.far_aggregates.specs.Going.{taken, EachMayTake}
+use Rattle.far_aggregates.specs.Pending.{AreKept, KeepsAsBefore, IsAliveAt, GoesBack, GoesOn}
+use Rattle.far_aggregates.specs.Rooms.{HaveRoom}
+use Rattle.far_aggregates.specs.Until.{zip_all}
+use Rattle.far_aggregates.proofs.EditLaws.{after_insert, set_may_take, after_set, removed-adds_all}
+use Rattle.far_aggregates.proofs.ListLaws.{length-zip_all}
+
+-- a row with another cell in a column, by the number of the column
+
+get-set_same : {X : Type 0} (xs : List X) (i : ℕ) (x : X) → IsSome (slice_get xs i) → slice_get (slice_set xs i x) i ≡ Some x
+get-set_same [] i x h = cc
+get-set_same (y ∷ xs) zero x h = refl
+get-set_same (y ∷ xs) (suc i) x h = get-set_same xs i x h
+
+get-set_other : {X : Type 0} (xs : List X) (i k : ℕ) (x : X) → k ≢ i → slice_get (slice_set xs i x) k ≡ slice_get xs k
+get-set_other [] i k x h = refl
+get-set_other (y ∷ xs) zero zero x h = absurd (h refl)
+get-set_other (y ∷ xs) zero (suc k) x h = refl
+get-set_other (y ∷ xs) (suc i) zero x h = refl
+get-set_other (y ∷ xs) (suc i) (suc k) x h = get-set_other xs i k x (λ e. h (ap suc e))
+
+changed-cell : (row : List Cell) (column : ℕ) (cell : Cell) (k : ℕ) → IsSome (slice_get row column) → cond (k == column) (Some cell) (slice_get row k) ≡ slice_get (slice_set row column cell) k
+changed-cell row column cell k h = elim (eqb_tells k column) as (λ o. cond (k == column) (Some cell) (slice_get row k) ≡ slice_get (slice_set row column cell) k) [
+  | inl t ↦ ap (λ b. cond b (Some cell) (slice_get row k)) t.0 ∙ sym (ap (slice_get (slice_set row column cell)) t.1 ∙ get-set_same row column cell h)
+  | inr t ↦ ap (λ b. cond b (Some cell) (slice_get row k)) t.0 ∙ sym (get-set_other row column k cell t.1)
+]
+
+changed-cells : (row : List Cell) (column : ℕ) (cell : Cell) → IsSome (slice_get row column) → with_cell_at column cell (cells_of row) ≡ cells_of (slice_set row column cell)
+changed-cells row column cell h = λ i k. changed-cell row column cell k h i
+
+-- the slots that were lent to be changed are all that there are
+pub written : (n : ℕ) (new old : List Slot) → length new ≡ n → take n (new ++ drop (length new) old) ≡ new
+written n new old h = ap (λ k. take k (new ++ drop (length new) old)) (sym h) ∙ take-append_seam new (drop (length new) old)
+
+-- what the table shows depends on what it shows of each slot alone
+pub shown-alike : (old new : List Slot) → map registered_in new ≡ map registered_in old → registered_of new ≡ registered_of old
+shown-alike old new h =
+    let many : length new ≡ length old = sym (length-map new registered_in) ∙ ap length h ∙ length-map old registered_in in
+    ap (λ n. map registered_in new ++ replicate (32 - n) None) many ∙ ap (λ l. l ++ replicate (32 - length old) None) h
+
+-- a removed place keeps its numbers
+fit-removed : (i : ℕ) (ps : List Place) → PlacesFit ps → PlacesFit (changed_at removed i ps)
+fit-removed i [] h = tt
+fit-removed zero (p ∷ ps) h = h
+fit-removed (suc i) (p ∷ ps) h = (h.0, fit-removed i ps h.1)
+
+-- an insert
+pub insert-came : (size place : ℕ) (cells : Cells) (old mid new : List Slot) → 0 < size → HaveRoom (place / size) mid → KeepsAsBefore old mid
+    → new ≡ zip_all (added (place / size)) mid (map (come_of size place (row_gives cells)) mid)
+    → (places : List Place) (row : List Cell) → length places ≡ place → cells ≡ cells_of row → Keeps size places old → Keeps size (places ++ alive_with row ∷ []) new
+insert-came size place cells old mid new positive room before is places row count same kept =
+    after_insert size place places (places ++ alive_with row ∷ []) (alive_with row) mid new (sym count) refl positive (before size places kept) room
+    (is ∙ ap (λ f. zip_all (added (place / size)) mid (map (come_of size place (row_gives f)) mid)) same)
+
+-- what came can go back
+pub goes-back : (g : ℕ) (old mid new : List Slot) (pending : Pending) → KeepsAsBefore old mid → pending.group ≡ g → length pending.came.items ≡ length new
+    → EachMayBack g (length new) new pending.came.items → zip_all (back g) new pending.came.items ≡ mid → GoesBack old new pending
+goes-back g old mid new pending before at len may is = record {
+  may = record { len = omega arith; may = subst (λ n. EachMayBack n (length new) new pending.came.items) (sym at) may };
+  kept = λ size places h. subst (Keeps size places) (sym (ap (λ n. zip_all (back n) new pending.came.items) at ∙ is)) (before size places h);
+}
+
+-- what is to go can go where a place x becomes f x
+goes-on : (size place : ℕ) (f : Place → Place) (x : Place) (old mid new : List Slot) (pending : Pending) (places : List Place) → 0 < size → HaveRoom (place / size) mid → KeepsAsBefore old mid
+    → pending.group ≡ place / size → pending.gone.items ≡ map (change_of size place (place_gives x)) mid
+    → new ≡ zip_all (added (place / size)) mid (map (come_of size place (place_gives (f x))) mid)
+    → slice_get places place ≡ Some x → AreKept size places old → PlacesFit (changed_at f place places)
+    → GoesOn size (place / size) (changed_at f place places) new pending
+goes-on size place f x old mid new pending places positive room before at went came here kept fit =
+    let after = changed_at f place places in
+    let there : Some (f x) ≡ option_map f (slice_get places place) = sym (ap (option_map f) here) in
+    let many : length pending.gone.items ≡ length mid = ap length went ∙ length-map mid (change_of size place (place_gives x)) in
+    let more : length new ≡ length mid = ap length came ∙ length-zip_all (added (place / size)) mid (map (come_of size place (place_gives (f x))) mid) in
+    record {
+      may = record {
+        len = omega arith;
+        may = subst (λ n. EachMayTake n (in_group size (place / size) after) new pending.gone.items) (sym at)
+            (set_may_take size f places after place x (f x) mid new pending.gone.items positive refl (sym here) there went came (before size places kept.kept) room kept.fit fit);
+      };
+      kept = after_set size f places after place x (f x) mid new pending.gone.items positive refl (sym here) there went came (before size places kept.kept) room
+          (zip_all (taken pending.group (in_group size (place / size) after)) new pending.gone.items)
+          (ap (λ n. zip_all (taken n (in_group size (place / size) after)) new pending.gone.items) at);
+    }
+
+-- a set
+pub set-goes : (size place column : ℕ) (cell : Cell) (cells : Cells) (old mid new : List Slot) (pending : Pending) → 0 < size → IsSome (cells column) → HaveRoom (place / size) mid → KeepsAsBefore old mid
+    → pending.group ≡ place / size → pending.gone.items ≡ map (change_of size place (row_gives cells)) mid
+    → new ≡ zip_all (added (place / size)) mid (map (come_of size place (row_gives (with_cell_at column cell cells))) mid)
+    → (places : List Place) → IsAliveAt cells place places → AreKept size places old → PlacesFit (changed_at (with_cell column cell) place places)
+    → GoesOn size (place / size) (changed_at (with_cell column cell) place places) new pending
+set-goes size place column cell cells old mid new pending positive has room before at went came places there kept fit =
+    goes-on size place (with_cell column cell) (alive_with there.0) old mid new pending places positive room before at
+    (went ∙ ap (λ (f : Cells). map (change_of size place (row_gives f)) mid) there.1)
+    (came ∙ ap (λ (f : Cells). zip_all (added (place / size)) mid (map (come_of size place (row_gives f)) mid)) (ap (with_cell_at column cell) there.1 ∙ changed-cells there.0 column cell (subst (λ (f : Cells). IsSome (f column)) there.1 has)))
+    there.2 kept fit
+
+-- a removal
+pub remove-goes : (size place : ℕ) (cells : Cells) (old mid : List Slot) (pending : Pending) → 0 < size → HaveRoom (place / size) mid → KeepsAsBefore old mid
+    → pending.group ≡ place / size → pending.gone.items ≡ map (change_of size place (row_gives cells)) mid
+    → (places : List Place) → IsAliveAt cells place places → AreKept size places old
+    → GoesOn size (place / size) (changed_at removed place places) mid pending
+remove-goes size place cells old mid pending positive room before at went places there kept =
+    goes-on size place removed (alive_with there.0) old mid mid pending places positive room before at
+    (went ∙ ap (λ (f : Cells). map (change_of size place (row_gives f)) mid) there.1)
+    (sym (removed-adds_all size place (alive_with there.0) mid))
+    there.2 kept (fit-removed place places kept.fit)

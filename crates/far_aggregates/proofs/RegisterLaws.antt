@@ -1,0 +1,133 @@
+-- Aggregates under their numbers, as the table shows them.
+use Rattle.std.proofs.Common.{inl, inr, take, ◌≡◌, ℕ, zero, suc, ◌+◌, ◌-◌, ◌*◌, ◌/◌, ◌<◌, ◌≤◌, Bool, true, false, cond, List, [], ◌∷◌, ◌++◌, length, map, refl, sym, ap, ◌∙◌, subst, arith, Option, None, Some, slice_get, slice_set, slice_index_or, replicate}
+use Rattle.std.specs.Prelude.{◌⊎◌}
+use Rattle.std.specs.List.{AllByRecursion, filter_map}
+use Rattle.std.specs.FinMap as fin
+use Rattle.std.proofs.Math.Nat.{div-mul-le_self, lt-div-mul-add, mul-le-mul_right}
+use Rattle.std.proofs.lemmas.List.{get_or-replicate, length-map, length-set, drop_all, take_all}
+use Rattle.std.proofs.lemmas.List.Sums.{sum_by-cons}
+use Rattle.std.proofs.lemmas.Nat.{le-div}
+use Rattle.far_types.specs.declared.spec.Spec.{Spec}
+use Rattle.far_types.specs.Answers.{totals, extrema}
+use Rattle.far_types.specs.Table.{Place, Registered, groups, all_unbuilt, is_unbuilt, left, in_group, place_pair}
+use Rattle.far_aggregates.specs.declared.aggregate.Kept.{Kept}
+use Rattle.far_aggregates.specs.declared.aggregate.Kept.TheVariants as kept
+use Rattle.far_aggregates.specs.Kept.{Slot, registered_in, registered_of, group_pairs, built_group, fold_of, KeepsNothing, KeepsSlot}
+use Rattle.far_aggregates.proofs.BuiltLaws.{built-none}
+use Rattle.far_aggregates.proofs.ListLaws.{map-set_like}
+
+set-before : {X : Type 0} (xs ys : List X) (a : ℕ) (y : X) → a < length xs → slice_set (xs ++ ys) a y ≡ slice_set xs a y ++ ys
+set-before [] ys a y h = absurd (omega arith)
+set-before (x ∷ xs) ys zero y h = refl
+set-before (x ∷ xs) ys (suc a) y h = ap (λ l. x ∷ l) (set-before xs ys a y (omega arith))
+
+set-seam : {X : Type 0} (xs ys : List X) (x y : X) → slice_set (xs ++ x ∷ ys) (length xs) y ≡ xs ++ y ∷ ys
+set-seam [] ys x y = refl
+set-seam (z ∷ xs) ys x y = ap (λ l. z ∷ l) (set-seam xs ys x y)
+
+map-set_at : (slots : List Slot) (a : ℕ) (s : Slot) → map registered_in (slice_set slots a s) ≡ slice_set (map registered_in slots) a (registered_in s)
+map-set_at [] a s = refl
+map-set_at (t ∷ slots) zero s = refl
+map-set_at (t ∷ slots) (suc a) s = ap (λ l. registered_in t ∷ l) (map-set_at slots a s)
+
+-- a slot that is there is replaced
+pub registered-set : (slots : List Slot) (a : ℕ) (s : Slot) → a < length slots → registered_of (slice_set slots a s) ≡ slice_set (registered_of slots) a (registered_in s)
+registered-set slots a s h =
+    let r : List (Option Registered) = replicate (32 - length slots) None in
+    ap (λ n. map registered_in (slice_set slots a s) ++ replicate (32 - n) None) (length-set slots a s)
+    ∙ ap (λ l. l ++ r) (map-set_at slots a s)
+    ∙ sym (set-before (map registered_in slots) r a (registered_in s) (let m = length-map slots registered_in in omega arith))
+
+-- or by one that the table shows alike
+pub registered-like : (slots : List Slot) (a : ℕ) (old new : Slot) → slice_get slots a ≡ Some old → registered_in new ≡ registered_in old → registered_of (slice_set slots a new) ≡ registered_of slots
+registered-like slots a old new here alike =
+    ap (λ n. map registered_in (slice_set slots a new) ++ replicate (32 - n) None) (length-set slots a new)
+    ∙ ap (λ l. l ++ replicate (32 - length slots) None) (map-set_like registered_in slots a old new here alike)
+
+map-last : (slots : List Slot) (s : Slot) → map registered_in (slots ++ s ∷ []) ≡ map registered_in slots ++ registered_in s ∷ []
+map-last [] s = refl
+map-last (t ∷ slots) s = ap (λ l. registered_in t ∷ l) (map-last slots s)
+
+append-last : {X : Type 0} (xs ys : List X) (x : X) → (xs ++ x ∷ []) ++ ys ≡ xs ++ x ∷ ys
+append-last [] ys x = refl
+append-last (z ∷ xs) ys x = ap (λ l. z ∷ l) (append-last xs ys x)
+
+length-last : (slots : List Slot) (s : Slot) → length (slots ++ s ∷ []) ≡ suc (length slots)
+length-last [] s = refl
+length-last (t ∷ slots) s = ap suc (length-last slots s)
+
+-- a slot more takes the place of a number that was never used
+pub registered-push : (slots : List Slot) (s : Slot) → length slots < 32 → registered_of (slots ++ s ∷ []) ≡ slice_set (registered_of slots) (length slots) (registered_in s)
+registered-push slots s h =
+    let n = 32 - suc (length slots) in
+    let rest : List (Option Registered) = replicate n None in
+    let count : 32 - length slots ≡ suc n = omega arith in
+    let at : length (map registered_in slots) ≡ length slots = length-map slots registered_in in
+    ap (λ m. map registered_in (slots ++ s ∷ []) ++ replicate (32 - m) None) (length-last slots s)
+    ∙ ap (λ l. l ++ rest) (map-last slots s)
+    ∙ append-last (map registered_in slots) rest (registered_in s)
+    ∙ sym (ap (λ m. slice_set (map registered_in slots ++ replicate m None) (length slots) (registered_in s)) count
+    ∙ ap (λ m. slice_set (map registered_in slots ++ None ∷ rest) m (registered_in s)) (sym at)
+    ∙ set-seam (map registered_in slots) rest None (registered_in s))
+
+pub all-last : {X : Type 0} (P : X → Type 0) (xs : List X) (x : X) → AllByRecursion P xs → P x → AllByRecursion P (xs ++ x ∷ [])
+all-last P [] x h k = (k, tt)
+all-last P (y ∷ xs) x h k = (h.0, all-last P xs x h.1 k)
+
+pub count-replicate : (n : ℕ) → left (replicate n true) ≡ n
+count-replicate zero = refl
+count-replicate (suc n) = sum_by-cons (λ (b : Bool). cond b 1 0) true (replicate n true) ∙ (let h = count-replicate n in omega arith)
+
+group_below : (k size places : ℕ) → 0 < size → k < places → k / size < groups size places
+group_below k size places g l =
+    let a = div-mul-le_self k size in
+    let b : (k / size + 1) * size ≤ places + size - 1 = omega arith in
+    let c = le-div (k / size + 1) (places + size - 1) size g b in
+    omega arith
+
+all_unbuilt-there : (size : ℕ) (ps : List Place) (k : ℕ) → 0 < size → k < length ps → is_unbuilt (all_unbuilt size ps) (k / size) ≡ true
+all_unbuilt-there size ps k g l = get_or-replicate (groups size (length ps)) (k / size) true false (group_below k size (length ps) g l)
+
+-- past the row groups there are no places
+none_there : (size g : ℕ) (ps : List Place) → 0 < size → groups size (length ps) ≤ g → in_group size g ps ≡ []
+none_there size g ps pos h =
+    let n = length ps + size - 1 in
+    let a : n < n / size * size + size = lt-div-mul-add pos in
+    let b : n / size * size ≤ g * size = mul-le-mul_right size h in
+    ap (take size) (drop_all (g * size) ps (omega arith)) ∙ take_all size [] (omega arith)
+
+above_or_not : (a b : ℕ) → (a < b) ⊎ (b ≤ a)
+above_or_not zero zero = inr (omega arith)
+above_or_not zero (suc b) = inl (omega arith)
+above_or_not (suc a) zero = inr (omega arith)
+above_or_not (suc a) (suc b) = elim (above_or_not a b) as (λ o. (suc a < suc b) ⊎ (suc b ≤ suc a)) [ inl l ↦ inl (omega arith) | inr l ↦ inr (omega arith) ]
+
+nothing_built : (spec : Spec) (size : ℕ) (ps : List Place) (g : ℕ) → 0 < size → fin.empty ≡ built_group spec size (all_unbuilt size ps) ps g
+nothing_built spec size ps g pos = elim (above_or_not g (groups size (length ps))) as (λ o. fin.empty ≡ built_group spec size (all_unbuilt size ps) ps g) [
+  | inl l ↦ sym (ap (λ b. cond b fin.empty (extrema (group_pairs spec size g ps))) (get_or-replicate (groups size (length ps)) g true false l))
+  | inr l ↦ sym (elim (is_unbuilt (all_unbuilt size ps) g) as (λ b. cond b fin.empty (extrema (group_pairs spec size g ps)) ≡ fin.empty) [
+    | true ↦ refl
+    | false ↦ ap (λ l. extrema (filter_map (place_pair spec) l)) (none_there size g ps pos l)
+  ])
+]
+
+-- an aggregate that is registered now keeps what it is to keep
+new-kept : (size : ℕ) (ps : List Place) (spec : Spec) (registration : ℕ) (k : Kept) → 0 < size → fold_of k ≡ spec.fold → KeepsNothing (groups size (length ps)) k
+    → KeepsSlot size ps (Some (record { spec = spec; registration = registration; unbuilt = all_unbuilt size ps; kept = k }))
+new-kept size ps spec registration (kept.Totals live) g f h = (
+  f,
+  (
+    h.1 ∙ sym (ap totals (built-none spec size (all_unbuilt size ps) 0 ps (λ k l. all_unbuilt-there size ps k g (omega arith)))),
+    h.0 ∙ sym (count-replicate (groups size (length ps))),
+  ),
+)
+new-kept size ps spec registration (kept.Extrema live) g f h = (
+  f,
+  ((λ i. ap (λ l. slice_index_or l i fin.empty) h.1 ∙ nothing_built spec size ps i g), h.0 ∙ sym (count-replicate (groups size (length ps)))),
+)
+
+pub new-keeps : (size : ℕ) (ps : List Place) (spec : Spec) (registration count : ℕ) (unbuilt : List Bool) (k : Kept) → 0 < size → count ≡ groups size (length ps) → fold_of k ≡ spec.fold → unbuilt ≡ replicate count true → KeepsNothing count k
+    → KeepsSlot size ps (Some (record { spec = spec; registration = registration; unbuilt = unbuilt; kept = k }))
+new-keeps size ps spec registration count unbuilt k g n f flags h =
+    subst (λ u. KeepsSlot size ps (Some (record { spec = spec; registration = registration; unbuilt = u; kept = k }))) (sym (flags ∙ ap (λ m. replicate m true) n))
+    (new-kept size ps spec registration k g f (subst (λ m. KeepsNothing m k) n h))

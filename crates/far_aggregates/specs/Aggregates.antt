@@ -1,0 +1,41 @@
+-- The aggregates of a table by their numbers.
+use Rattle.std.specs.Prelude.{◌≡◌, ℕ, ◌+◌, ◌==◌, Bool, false, cond, List, [], ◌∷◌, Option, None, Some, slice_get, slice_set}
+use Rattle.std.specs.Option.{option_map_or}
+use Rattle.far_types.specs.declared.refusal.Refusal.{Refusal}
+use Rattle.far_types.specs.declared.refusal.Refusal.TheVariants as refusal
+use Rattle.far_types.specs.declared.answer.Answer.{Answer}
+use Rattle.far_types.specs.Answers.{answer_over}
+use Rattle.far_types.specs.Table.{Place, Registered, rows_of, is_unbuilt, left}
+use Rattle.far_aggregates.specs.Kept.{Slot, registered_of}
+
+abbrev pub joined : {A : Type 0} → Option (Option A) → Option A
+joined None = None
+joined (Some inner) = inner
+
+-- the lowest number, from one on, under which none is registered
+abbrev pub free_from : ℕ → List (Option Registered) → Option ℕ
+free_from a [] = None
+free_from a (None ∷ rest) = Some a
+free_from a (Some aggregate ∷ rest) = free_from (a + 1) rest
+
+-- the aggregate of a number
+abbrev pub aggregate_in : List Slot → ℕ → Option Registered
+aggregate_in slots a = joined (slice_get (registered_of slots) a)
+
+-- whether a row group is still to be built into an aggregate
+abbrev pub is_left : Option Registered → ℕ → Bool
+is_left aggregate g = option_map_or (λ r. is_unbuilt r.unbuilt g) aggregate false
+
+-- an aggregate answers where no row group is left to be built in
+abbrev pub ask_refusal : Option Registered → Option Refusal
+ask_refusal None = Some refusal.NoAggregate
+ask_refusal (Some aggregate) = cond (left aggregate.unbuilt == 0) None (Some (refusal.Building (left aggregate.unbuilt)))
+
+-- a row group less is left to be built in
+abbrev pub built_in : ℕ → Registered → Registered
+built_in g aggregate = record aggregate { unbuilt = slice_set aggregate.unbuilt g false }
+
+-- this is the answer of an aggregate over the rows of these places, and nothing is left to be built in
+abbrev pub Answers : List Place → Option Registered → Answer → Type 0
+Answers places None answer = ⊥
+Answers places (Some aggregate) answer = (left aggregate.unbuilt ≡ 0) × (answer ≡ answer_over aggregate.spec (rows_of places))

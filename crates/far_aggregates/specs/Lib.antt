@@ -1,0 +1,12 @@
+pub mod Aggregates
+pub mod Changed
+pub mod Changes
+pub mod Coming
+pub mod Going
+pub mod Kept
+pub mod Lending
+pub mod Pending
+pub mod Readings
+pub mod Rooms
+pub mod Scans
+pub mod Until

@@ -1,0 +1,303 @@
+// The aggregates of a table.
+ghost use Rattle.std.specs.Prelude.{◌≡◌, ◌<◌, ◌≤◌, ◌+◌, ◌/◌, ◌^◌, ℕ, List, None, Some, false, true, length, map, replicate, option_map, slice_get, slice_set, IsSome, IfOk, IfErr, IfSome, IfNone, OnOk, OnErr};
+ghost use Rattle.std.specs.Option.{option_copied};
+ghost use Rattle.far_types.specs.declared.cell.Cell.{Cell};
+ghost use Rattle.far_types.specs.declared.edit.Edit.TheVariants as edit;
+ghost use Rattle.far_types.specs.Cells.{cells_of};
+ghost use Rattle.far_types.specs.Edits.{places_after};
+ghost use Rattle.far_types.specs.Lent.{lent_cell};
+ghost use Rattle.far_types.specs.MayRefuse.{MayRefuse};
+ghost use Rattle.far_types.specs.Table.{Place, groups, in_group};
+
+use super::aggregate::Aggregate;
+use super::answers::answer;
+use super::changed::Changed;
+use super::changes::changes;
+use super::coming::{back_all, come_in};
+use super::going::take_all;
+use super::lend_group::LendGroup;
+use super::pending::Pending;
+use super::readings::{first_unbuilt, plain};
+use super::registrations::{aggregate_at, forget, free_number, register};
+use super::rooms::make_rooms;
+use super::scans::build_at;
+use far_types::{Answer, CellRef, LendCells, Refusal, Spec};
+use std::alloc::Global;
+use std::marker::Model;
+
+/// The aggregates of a table, under their numbers: at most 32. An edit of the rows has three parts: what comes of the new row
+/// is brought in, which may be refused; the rows are changed, which may be refused too; and then what the old row gave goes
+/// out, which cannot fail. Contracts see what stands under each number that was ever used.
+#[derive(Drop)]
+pub struct Aggregates {
+    slots: Vec<Option<Aggregate>>,
+}
+
+impl Model for Aggregates {
+    ghost use Rattle.std.specs.Prelude.{List, Option, length, ◌≤◌};
+    ghost use Rattle.std.specs.Coded.{codes};
+    ghost use Rattle.far_groups.specs.Live.{coded_live as coded_totals_live};
+    ghost use Rattle.far_extrema.specs.Live.{coded_live as coded_extrema_live};
+    ghost use Rattle.far_aggregates.specs.Kept.{Slot};
+
+    ghost Value = { List Slot };
+
+    ghost coded = { Prim.hlevel (codes, coded_totals_live, coded_extrema_live) };
+
+    ghost view = { λ aggregates. aggregates.slots.items };
+
+    ghost invariant = { λ aggregates. length aggregates.slots.items ≤ 32 };
+}
+
+impl Aggregates {
+    ghost use Rattle.far_aggregates.specs.Aggregates.{free_from, aggregate_in, is_left, ask_refusal, Answers};
+    ghost use Rattle.far_aggregates.specs.Kept.{Keeps, PlacesFit, registered_of};
+    ghost use Rattle.far_aggregates.specs.Lending.{SlotIsServed, AreServed};
+    ghost use Rattle.far_aggregates.specs.Readings.{plain_in};
+    ghost use Rattle.far_aggregates.specs.Scans.{built_slot};
+    ghost use Rattle.far_aggregates.specs.Pending.{AreKept, KeepsAsBefore, IsAliveAt, MayGoBack, gone_back, GoesBack, MayGoOn, gone_on, GoesOn};
+
+    /// No aggregate. Takes no memory.
+    pub fn new(alloc: Global) -> Aggregates
+        ensures registered { registered_of result ≡ replicate 32 None }
+        ensures kept { (size : ℕ) → (places : List Place) → Keeps size places result }
+    {
+        Aggregates {
+            slots: Vec::new(alloc),
+        }
+    }
+
+    /// The lowest number under which no aggregate is registered, or `None` where 32 are. Takes no memory.
+    pub fn free_number(&self) -> Option<u32>
+        ensures number { result ≡ free_from 0 (registered_of self.now) }
+        ensures within { IfSome result (λ a. a < 32) }
+    {
+        free_number(self.slots.as_slice())
+    }
+
+    /// Registers an aggregate under the lowest free number, over so many places: all row groups that hold one are still to be
+    /// built in. Refused with `NoMemory` (1) alone, and then nothing is changed.
+    pub fn register(
+        &mut self,
+        alloc: Global,
+        a: u32,
+        spec: Spec,
+        registration: u64,
+        size: u32,
+        places: usize,
+    ) -> Result<(), Refusal>
+        requires size { 0 < size }
+        requires few { places ≤ 2 ^ 24 }
+        requires free { free_from 0 (registered_of self.old) ≡ Some a }
+        ensures registered { OnOk result (registered_of self.new ≡ slice_set (registered_of self.old) a (Some (record { spec = spec; registration = registration; unbuilt = replicate (groups size places) true }))) }
+        ensures kept { (all : List Place) → length all ≡ places → Keeps size all self.old → Keeps size all self.new }
+        ensures unchanged { OnErr result (self.new ≡ self.old) }
+        ensures memory { IfErr result (λ e. e ≡ Refusal.NoMemory) }
+    {
+        register(alloc, &mut self.slots, a, spec, registration, size, places)
+    }
+
+    /// No aggregate is under the number any more; there was one. Takes no memory.
+    pub fn forget(&mut self, a: u32)
+        requires { IsSome (aggregate_in self.old a) }
+        ensures registered { registered_of self.new ≡ slice_set (registered_of self.old) a None }
+        ensures kept { KeepsAsBefore self.old self.new }
+    {
+        forget(&mut self.slots, a);
+    }
+
+    /// What the aggregate of a number computes, or `None` where there is none. Takes no memory.
+    pub fn spec(&self, a: u32) -> Option<&Spec>
+        ensures { option_copied result ≡ option_map (λ aggregate. aggregate.spec) (aggregate_in self.now a) }
+    {
+        let aggregate = aggregate_at(self.slots.as_slice(), a)?;
+        Some(&aggregate.spec)
+    }
+
+    /// How many registrations were made before that of a number, or `None` where there is none. Takes no memory.
+    pub fn registration(&self, a: u32) -> Option<u64>
+        ensures { result ≡ option_map (λ aggregate. aggregate.registration) (aggregate_in self.now a) }
+    {
+        let aggregate = aggregate_at(self.slots.as_slice(), a)?;
+        Some(aggregate.registration)
+    }
+
+    /// Whether a row group is still to be built into the aggregate of a number: false where there is none. Takes no memory.
+    pub fn is_left(&self, a: u32, group: u32) -> bool
+        ensures { result ≡ is_left (aggregate_in self.now a) group }
+    {
+        match aggregate_at(self.slots.as_slice(), a) {
+            Some(aggregate) => aggregate.unbuilt.has(group as usize),
+            None => false,
+        }
+    }
+
+    /// An aggregate and a row group that is still to be built into it, or `None` where there is none. Takes no memory.
+    pub fn first_unbuilt(&self) -> Option<(u32, u32)>
+        ensures some { IfSome result (λ at. is_left (aggregate_in self.now at.0) at.1 ≡ true) }
+        ensures none { IfNone result ((a : ℕ) → (g : ℕ) → is_left (aggregate_in self.now a) g ≡ false) }
+    {
+        first_unbuilt(self.slots.as_slice())
+    }
+
+    /// What the aggregate of a number answers over the rows for which all are kept. Refused with `NoAggregate` (12) exactly
+    /// where there is none, with `Building` (15) and how many row groups are left exactly where that is not 0, else with
+    /// `NoMemory` (1) alone.
+    pub fn answer(&self, alloc: Global, a: u32) -> Result<Answer, Refusal>
+        ensures ok { IfOk result (λ answer. (size : ℕ) → (places : List Place) → 0 < size → Keeps size places self.now → Answers places (aggregate_in self.now a) answer) }
+        ensures err { IfErr result (λ e. (size : ℕ) → (places : List Place) → Keeps size places self.now → MayRefuse (ask_refusal (aggregate_in self.now a)) true e) }
+    {
+        let Some(aggregate) = aggregate_at(self.slots.as_slice(), a) else {
+            return Err(Refusal::NoAggregate);
+        };
+        answer(alloc, aggregate)
+    }
+
+    /// How many rows the aggregate of a number folds, and the sum of their values, where it is of totals without key column:
+    /// `None` for another, and where row groups are still to be built in. Takes no memory.
+    pub fn plain(&self, a: u32) -> Option<(u64, i128)>
+        ensures { (size : ℕ) → (places : List Place) → Keeps size places self.now → result ≡ plain_in places (aggregate_in self.now a) }
+    {
+        let aggregate = aggregate_at(self.slots.as_slice(), a)?;
+        plain(aggregate)
+    }
+
+    /// Builds the rows of a row group into the aggregate of a number into which they are still to be built. Refused with
+    /// `NoMemory` (1) alone, and then all answer as before.
+    pub fn build_at<G: LendGroup>(
+        &mut self,
+        alloc: Global,
+        a: u32,
+        group: &G,
+        size: u32,
+        number: u32,
+    ) -> Result<(), Refusal>
+        requires size { 0 < size }
+        requires unbuilt { is_left (aggregate_in self.old a) number ≡ true }
+        requires served { SlotIsServed (G.has group.now) (aggregate_in self.old a) }
+        requires kept { (places : List Place) × (G.places group.now ≡ in_group size number places) × AreKept size places self.old }
+        ensures registered { OnOk result (registered_of self.new ≡ slice_set (registered_of self.old) a (built_slot number (aggregate_in self.old a))) }
+        ensures kept { (places : List Place) → G.places group.now ≡ in_group size number places → Keeps size places self.old → Keeps size places self.new }
+        ensures unchanged { OnErr result (registered_of self.new ≡ registered_of self.old) }
+        ensures memory { IfErr result (λ e. e ≡ Refusal.NoMemory) }
+    {
+        build_at(alloc, &mut self.slots, a, group, size, number)
+    }
+
+    /// Brings in what comes of a row that is to be appended at a place, the first that is not there yet. Once the rows have
+    /// it nothing is left to do; where they refuse it, `back` undoes this. Refused with `NoMemory` (1) alone, and then
+    /// all answer as before.
+    pub fn come_in<R: LendCells>(
+        &mut self,
+        alloc: Global,
+        row: &R,
+        size: u32,
+        place: usize,
+    ) -> Result<Pending, Refusal>
+        requires size { 0 < size }
+        requires few { place ≤ 2 ^ 24 }
+        requires kept { (places : List Place) × AreKept size places self.old }
+        ensures came { OnOk result ((places : List Place) → (cells : List Cell) → length places ≡ place → R.cells row.now ≡ cells_of cells → Keeps size places self.old → Keeps size (places_after (edit.Insert cells) places) self.new) }
+        ensures back { IfOk result (GoesBack self.old self.new) }
+        ensures unchanged { OnErr result (KeepsAsBefore self.old self.new) }
+        ensures registered { registered_of self.new ≡ registered_of self.old }
+        ensures memory { IfErr result (λ e. e ≡ Refusal.NoMemory) }
+    {
+        let group = (place / size as usize) as u32;
+        let slots = self.slots.as_mut_slice();
+        make_rooms(slots, group);
+        let came = come_in(alloc, slots, row, size, place)?;
+        Ok(Pending {
+            group,
+            came,
+            gone: Vec::new(alloc),
+        })
+    }
+
+    /// Brings in what comes of a place's row with another cell in a column, which the row has, beside what the row gives as
+    /// it is. Once the rows have the cell, `take` takes that; where they refuse it, `back` undoes this. Refused with
+    /// `NoMemory` (1) alone, and then all answer as before.
+    pub fn change_in<R: LendCells>(
+        &mut self,
+        alloc: Global,
+        row: &R,
+        column: u32,
+        cell: CellRef<'_>,
+        size: u32,
+        place: usize,
+    ) -> Result<Pending, Refusal>
+        requires size { 0 < size }
+        requires few { place ≤ 2 ^ 24 }
+        requires column { IsSome (R.cells row.now column) }
+        requires kept { (places : List Place) × AreKept size places self.old }
+        ensures goes { IfOk result (λ pending. (places : List Place) → IsAliveAt (R.cells row.now) place places → AreKept size places self.old → PlacesFit (places_after (edit.Set place column (lent_cell cell.entry)) places) → GoesOn size (place / size) (places_after (edit.Set place column (lent_cell cell.entry)) places) self.new pending) }
+        ensures back { IfOk result (GoesBack self.old self.new) }
+        ensures unchanged { OnErr result (KeepsAsBefore self.old self.new) }
+        ensures registered { registered_of self.new ≡ registered_of self.old }
+        ensures memory { IfErr result (λ e. e ≡ Refusal.NoMemory) }
+    {
+        let group = (place / size as usize) as u32;
+        let slots = self.slots.as_mut_slice();
+        make_rooms(slots, group);
+        let gone = changes(alloc, slots, row, size, place)?;
+        let changed = Changed { row, column, cell };
+        let came = come_in(alloc, slots, &changed, size, place)?;
+        Ok(Pending { group, came, gone })
+    }
+
+    /// Looks up what the row of a place that is to be removed gives. Once the place is dead, `take` takes that; where it
+    /// stays alive there is nothing to undo. Refused with `NoMemory` (1) alone. All answer as before.
+    pub fn leave<R: LendCells>(
+        &mut self,
+        alloc: Global,
+        row: &R,
+        size: u32,
+        place: usize,
+    ) -> Result<Pending, Refusal>
+        requires size { 0 < size }
+        requires few { place ≤ 2 ^ 24 }
+        ensures goes { IfOk result (λ pending. (places : List Place) → IsAliveAt (R.cells row.now) place places → AreKept size places self.old → GoesOn size (place / size) (places_after (edit.Remove place) places) self.new pending) }
+        ensures unchanged { KeepsAsBefore self.old self.new }
+        ensures registered { registered_of self.new ≡ registered_of self.old }
+        ensures memory { IfErr result (λ e. e ≡ Refusal.NoMemory) }
+    {
+        let group = (place / size as usize) as u32;
+        let slots = self.slots.as_mut_slice();
+        make_rooms(slots, group);
+        let gone = changes(alloc, slots, row, size, place)?;
+        Ok(Pending {
+            group,
+            came: Vec::new(alloc),
+            gone,
+        })
+    }
+
+    /// Takes back what an edit brought in that the rows refused. Takes no memory.
+    pub fn back(&mut self, pending: Pending)
+        requires { MayGoBack self.old pending }
+        ensures back { self.new ≡ gone_back self.old pending }
+        ensures registered { registered_of self.new ≡ registered_of self.old }
+    {
+        back_all(
+            self.slots.as_mut_slice(),
+            pending.group,
+            pending.came.as_slice(),
+        );
+    }
+
+    /// Takes out what the row gave before an edit, which the rows have: the row group lends its columns as they are now. Its
+    /// rows are looked at only where the least or the greatest value of a key went. Takes no memory.
+    pub fn take<G: LendGroup>(&mut self, group: &G, pending: Pending)
+        requires may { MayGoOn (G.places group.now) self.old pending }
+        requires served { AreServed (G.has group.now) (registered_of self.old) }
+        ensures taken { self.new ≡ gone_on (G.places group.now) self.old pending }
+        ensures registered { registered_of self.new ≡ registered_of self.old }
+    {
+        take_all(
+            self.slots.as_mut_slice(),
+            group,
+            pending.group,
+            pending.gone.as_slice(),
+        );
+    }
+}

@@ -1,0 +1,27 @@
+// What lends the columns of a row group.
+ghost use Rattle.std.specs.Prelude.{◌≡◌, ℕ, Bool, List, true, map, IsSome, IfSome};
+ghost use Rattle.far_types.specs.Table.{Place};
+ghost use Rattle.far_aggregates.specs.Lending.{IsOfPlaces};
+
+use far_offload::Column;
+
+/// What has columns of one row group at hand: aggregates are built, and extrema narrowed, from what it lends, wherever the
+/// columns lie.
+pub trait LendGroup {
+    /// The places of the row group, in order.
+    ghost places: { Self → List Place };
+
+    /// Whether the column of a number is at hand.
+    ghost has: { Self → ℕ → Bool };
+
+    /// The column of a number, read where it lies, or `None` where it is not at hand. Its first cells are those of the
+    /// places; others may stand behind them. Takes no memory.
+    fn column(&self, number: u32) -> Option<Column<'_>>
+        ensures there { has self.now number ≡ true → IsSome result }
+        ensures number { IfSome result (λ column. column.0 ≡ number) }
+        ensures cells { IfSome result (IsOfPlaces (places self.now)) };
+
+    /// For each place whether it is alive. Takes no memory.
+    fn alive(&self) -> &[bool]
+        ensures { result.now ≡ map (λ place. place.alive) (places self.now) };
+}

@@ -1,0 +1,25 @@
+#![tactic(auto)]
+//! What a table keeps for its aggregates, up to date under every edit. It knows neither how rows are kept nor where their
+//! columns lie: an edit brings its row, and whoever has the columns of a row group at hand lends them.
+
+mod aggregate;
+pub mod aggregates;
+mod answers;
+mod changed;
+mod changes;
+mod coming;
+mod going;
+pub mod laws;
+pub mod lend_group;
+mod needed;
+pub mod pending;
+mod readings;
+mod registrations;
+mod rooms;
+mod scans;
+mod unbuilt;
+
+pub use aggregates::Aggregates;
+pub use lend_group::LendGroup;
+pub use pending::Pending;
+pub use registrations::group_count;

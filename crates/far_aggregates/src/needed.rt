@@ -1,0 +1,52 @@
+// The columns that an aggregate needs of a row group.
+ghost use Rattle.std.specs.Prelude.{◌≡◌, true, IfSome, option_map, slice_get};
+ghost use Rattle.far_offload.specs.AtHand.{AreAtHand};
+ghost use Rattle.far_types.specs.Bounds.{column_of};
+ghost use Rattle.far_aggregates.specs.Lending.{IsLent, IsServed};
+
+use super::lend_group::LendGroup;
+use far_offload::Column;
+use far_types::Spec;
+
+/// The column of the test of an aggregate, if it has so many tests.
+fn test_column(spec: &Spec, test: usize) -> Option<u32>
+    ensures { result ≡ option_map column_of (slice_get spec.now.filter test) }
+{
+    match spec.filter.as_slice().get(test) {
+        Some(test) => Some(test.column()),
+        None => None,
+    }
+}
+
+/// The column of a number, which the row group has at hand. Where no number is asked for, a column without a value, which
+/// has another's number.
+fn lent<'a, G: LendGroup>(group: &'a G, number: Option<u32>, other: u32) -> Column<'a>
+    requires { IfSome number (λ n. G.has group.now n ≡ true) }
+    ensures { IsLent (G.places group.now) other number result }
+{
+    match number {
+        Some(number) => match group.column(number) {
+            Some(column) => column,
+            None => unreachable!(),
+        },
+        None => Column::of_numbers(other, &[]),
+    }
+}
+
+/// The columns that an aggregate needs: that of its value, that of its key and those of its tests, of which there are at
+/// most 4. They lie in an array, so that an extreme is narrowed without memory. What is left of it has the number of the
+/// value's column, which stands first, so that it is never found. Takes no memory.
+pub fn needed_columns<'a, G: LendGroup>(spec: &Spec, group: &'a G) -> [Column<'a>; 6]
+    requires { IsServed (G.has group.now) spec.now }
+    ensures { AreAtHand spec.now result (G.places group.now) }
+{
+    let value = spec.value;
+    [
+        lent(group, Some(value), value),
+        lent(group, spec.key, value),
+        lent(group, test_column(spec, 0), value),
+        lent(group, test_column(spec, 1), value),
+        lent(group, test_column(spec, 2), value),
+        lent(group, test_column(spec, 3), value),
+    ]
+}

@@ -1,0 +1,12 @@
+// What an edit has begun in the aggregates.
+use super::changes::Pair;
+use super::coming::Coming;
+
+/// What an edit brought into the aggregates, and what is still to go out of them once the rows are changed. An edit that the
+/// rows refuse after all hands it to `Aggregates::back`, one that changed them to `Aggregates::take`.
+#[derive(Drop)]
+pub struct Pending {
+    pub(crate) group: u32,
+    pub(crate) came: Vec<Option<Coming>>,
+    pub(crate) gone: Vec<Option<Pair>>,
+}

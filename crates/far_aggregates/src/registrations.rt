@@ -1,0 +1,140 @@
+// Aggregates under their numbers.
+ghost use Rattle.std.specs.Prelude.{◌≡◌, ◌<◌, ◌≤◌, ◌+◌, ◌^◌, ℕ, List, Some, None, true, length, replicate, slice_get, slice_set, IfOk, IfErr, IfSome, OnOk, OnErr};
+ghost use Rattle.std.specs.Option.{option_copied};
+ghost use Rattle.far_types.specs.Table.{Place, groups, is_unbuilt};
+ghost use Rattle.far_aggregates.specs.Kept.{Keeps, KeepsSlot, KeepsNothing, fold_of, registered_in, registered_of};
+ghost use Rattle.far_aggregates.specs.Aggregates.{free_from, joined};
+
+use super::aggregate::{Aggregate, Kept};
+use super::unbuilt::Unbuilt;
+use far_extrema::LiveExtrema;
+use far_groups::LiveTotals;
+use far_types::{Fold, Refusal, Spec};
+use std::alloc::Global;
+
+/// The lowest number under which no aggregate is registered.
+pub fn free_number(slots: &[Option<Aggregate>]) -> Option<u32>
+    requires { length slots.now ≤ 32 }
+    ensures value { result ≡ free_from 0 (registered_of slots.now) }
+    ensures within { IfSome result (λ a. a ≤ length slots.now) }
+    ensures number { IfSome result (λ a. a < 32) }
+{
+    for i in 0..slots.len() {
+        if slots[i].is_none() {
+            return Some(i as u32);
+        }
+    }
+    if slots.len() < 32 {
+        return Some(slots.len() as u32);
+    }
+    None
+}
+
+/// The aggregate of a number, if there is one.
+pub fn aggregate_at(slots: &[Option<Aggregate>], a: u32) -> Option<&Aggregate>
+    ensures { option_copied result ≡ joined (slice_get slots.now a) }
+{
+    match slots.get(a as usize) {
+        Some(Some(aggregate)) => Some(aggregate),
+        _ => None,
+    }
+}
+
+/// How many row groups hold a place.
+pub fn group_count(size: u32, places: usize) -> usize
+    requires size { 0 < size }
+    requires few { places ≤ 2 ^ 24 }
+    ensures value { result ≡ groups size places }
+    ensures few { result < 2 ^ 32 }
+{
+    (places + size as usize - 1) / size as usize
+}
+
+/// Nothing is in, and as many row groups are left.
+fn nothing_kept(alloc: Global, fold: Fold, left: u32) -> Kept
+    ensures fold { fold_of result ≡ fold }
+    ensures nothing { KeepsNothing left result }
+{
+    match fold {
+        Fold::Totals => Kept::Totals(LiveTotals::new(alloc, left)),
+        Fold::Extrema => Kept::Extrema(LiveExtrema::new(alloc, left)),
+    }
+}
+
+/// An aggregate with nothing built in: all row groups that hold one of so many places are left.
+pub fn new_aggregate(
+    alloc: Global,
+    spec: Spec,
+    registration: u64,
+    size: u32,
+    places: usize,
+) -> Result<Aggregate, Refusal>
+    requires size { 0 < size }
+    requires few { places ≤ 2 ^ 24 }
+    ensures registered { IfOk result (λ a. registered_in (Some a) ≡ Some (record { spec = spec; registration = registration; unbuilt = replicate (groups size places) true })) }
+    ensures kept { IfOk result (λ a. (all : List Place) → length all ≡ places → KeepsSlot size all (Some a)) }
+    ensures memory { IfErr result (λ e. e ≡ Refusal.NoMemory) }
+{
+    let groups = group_count(size, places);
+    let unbuilt = Unbuilt::all(alloc, groups)?;
+    Ok(Aggregate {
+        registration,
+        unbuilt,
+        kept: nothing_kept(alloc, spec.fold, groups as u32),
+        spec,
+    })
+}
+
+/// Puts an aggregate under a number, which is free.
+pub fn put(slots: &mut Vec<Option<Aggregate>>, a: u32, aggregate: Aggregate) -> Result<(), Refusal>
+    requires number { a < 32 }
+    requires within { a ≤ length slots.old.items }
+    requires numbers { length slots.old.items ≤ 32 }
+    ensures registered { OnOk result (registered_of slots.new.items ≡ slice_set (registered_of slots.old.items) a (registered_in (Some aggregate))) }
+    ensures kept { (size : ℕ) → (places : List Place) → Keeps size places slots.old.items → KeepsSlot size places (Some aggregate) → Keeps size places slots.new.items }
+    ensures numbers { length slots.new.items ≤ 32 }
+    ensures unchanged { OnErr result (slots.new.items ≡ slots.old.items) }
+    ensures memory { IfErr result (λ e. e ≡ Refusal.NoMemory) }
+{
+    if a as usize == slots.len() {
+        slots.push(Some(aggregate))?;
+    } else {
+        slots[a as usize] = Some(aggregate);
+    }
+    Ok(())
+}
+
+/// Registers an aggregate over so many places under a number, which is free.
+pub fn register(
+    alloc: Global,
+    slots: &mut Vec<Option<Aggregate>>,
+    a: u32,
+    spec: Spec,
+    registration: u64,
+    size: u32,
+    places: usize,
+) -> Result<(), Refusal>
+    requires size { 0 < size }
+    requires few { places ≤ 2 ^ 24 }
+    requires number { a < 32 }
+    requires within { a ≤ length slots.old.items }
+    requires numbers { length slots.old.items ≤ 32 }
+    ensures registered { OnOk result (registered_of slots.new.items ≡ slice_set (registered_of slots.old.items) a (Some (record { spec = spec; registration = registration; unbuilt = replicate (groups size places) true }))) }
+    ensures kept { (all : List Place) → length all ≡ places → Keeps size all slots.old.items → Keeps size all slots.new.items }
+    ensures numbers { length slots.new.items ≤ 32 }
+    ensures unchanged { OnErr result (slots.new.items ≡ slots.old.items) }
+    ensures memory { IfErr result (λ e. e ≡ Refusal.NoMemory) }
+{
+    let aggregate = new_aggregate(alloc, spec, registration, size, places)?;
+    put(slots, a, aggregate)
+}
+
+/// No aggregate is under the number any more.
+pub fn forget(slots: &mut Vec<Option<Aggregate>>, a: u32)
+    requires { a < length slots.old.items }
+    ensures registered { registered_of slots.new.items ≡ slice_set (registered_of slots.old.items) a None }
+    ensures kept { (size : ℕ) → (places : List Place) → Keeps size places slots.old.items → Keeps size places slots.new.items }
+    ensures numbers { length slots.new.items ≡ length slots.old.items }
+{
+    slots[a as usize] = None;
+}

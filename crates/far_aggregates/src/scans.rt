@@ -1,0 +1,96 @@
+// A row group that is built into an aggregate.
+ghost use Rattle.std.specs.Prelude.{◌≡◌, ◌<◌, ◌≤◌, ◌^◌, ℕ, List, true, length, slice_get, slice_set, OnOk, OnErr, IfErr};
+ghost use Rattle.far_types.specs.Table.{Place, in_group};
+ghost use Rattle.far_aggregates.specs.Kept.{KeepsSlot, Keeps, fold_of, registered_in, registered_of};
+ghost use Rattle.far_aggregates.specs.Lending.{IsServed, SlotIsServed};
+ghost use Rattle.far_aggregates.specs.Scans.{built_slot, has_unbuilt, IsScanned, IsSame, KeptMayScan, SlotMayBuild};
+ghost use Rattle.far_aggregates.specs.Aggregates.{joined};
+
+use super::aggregate::{Aggregate, Kept};
+use super::lend_group::LendGroup;
+use super::needed::needed_columns;
+use far_offload::{PartialDone, fold};
+use far_types::{Refusal, Spec};
+use std::alloc::Global;
+
+/// The rows of a row group are in too. Refused with `NoMemory` (1) alone, and then what is in stays the same.
+fn scan<G: LendGroup>(
+    alloc: Global,
+    kept: &mut Kept,
+    spec: &Spec,
+    group: &G,
+    number: u32,
+) -> Result<(), Refusal>
+    requires few { length (G.places group.now) ≤ 2 ^ 24 }
+    requires served { IsServed (G.has group.now) spec.now }
+    requires fold { fold_of kept.old ≡ spec.now.fold }
+    requires may_scan { KeptMayScan spec.now number (G.places group.now) kept.old }
+    ensures ok { OnOk result (IsScanned spec.now number (G.places group.now) kept.old kept.new) }
+    ensures err { OnErr result (IsSame kept.old kept.new) }
+    ensures memory { IfErr result (λ e. e ≡ Refusal.NoMemory) }
+{
+    let columns = needed_columns(spec, group);
+    let partial = fold(alloc, spec, &columns, group.alive())?;
+    match kept {
+        Kept::Totals(live) => match partial {
+            PartialDone::Totals(totals) => live.merge(&totals),
+            PartialDone::Extrema(_) => unreachable!(),
+        },
+        Kept::Extrema(live) => match partial {
+            PartialDone::Totals(_) => unreachable!(),
+            PartialDone::Extrema(extrema) => {
+                live.make_room_for(number, &extrema)?;
+                live.merge(number, extrema);
+                Ok(())
+            }
+        },
+    }
+}
+
+/// Builds the rows of a row group into an aggregate into which they are still to be built. Refused with `NoMemory` (1)
+/// alone, and then it answers as before.
+fn build_in<G: LendGroup>(
+    alloc: Global,
+    slot: &mut Option<Aggregate>,
+    group: &G,
+    size: u32,
+    number: u32,
+) -> Result<(), Refusal>
+    requires size { 0 < size }
+    requires unbuilt { has_unbuilt number slot.old ≡ true }
+    requires served { SlotIsServed (G.has group.now) (registered_in slot.old) }
+    requires may { SlotMayBuild size number (G.places group.now) slot.old }
+    ensures registered { OnOk result (registered_in slot.new ≡ built_slot number (registered_in slot.old)) }
+    ensures kept { (places : List Place) → G.places group.now ≡ in_group size number places → KeepsSlot size places slot.old → KeepsSlot size places slot.new }
+    ensures unchanged { OnErr result (registered_in slot.new ≡ registered_in slot.old) }
+    ensures memory { IfErr result (λ e. e ≡ Refusal.NoMemory) }
+{
+    if let Some(aggregate) = slot {
+        scan(alloc, &mut aggregate.kept, &aggregate.spec, group, number)?;
+        aggregate.unbuilt.clear(number as usize);
+    }
+    Ok(())
+}
+
+/// Builds the rows of a row group into the aggregate of a number. Refused with `NoMemory` (1) alone, and then it answers
+/// as before.
+pub fn build_at<G: LendGroup>(
+    alloc: Global,
+    slots: &mut Vec<Option<Aggregate>>,
+    a: u32,
+    group: &G,
+    size: u32,
+    number: u32,
+) -> Result<(), Refusal>
+    requires size { 0 < size }
+    requires unbuilt { has_unbuilt number (joined (slice_get slots.old.items a)) ≡ true }
+    requires served { SlotIsServed (G.has group.now) (registered_in (joined (slice_get slots.old.items a))) }
+    requires may { SlotMayBuild size number (G.places group.now) (joined (slice_get slots.old.items a)) }
+    ensures registered { OnOk result (registered_of slots.new.items ≡ slice_set (registered_of slots.old.items) a (built_slot number (registered_in (joined (slice_get slots.old.items a))))) }
+    ensures kept { (places : List Place) → G.places group.now ≡ in_group size number places → Keeps size places slots.old.items → Keeps size places slots.new.items }
+    ensures unchanged { OnErr result (registered_of slots.new.items ≡ registered_of slots.old.items) }
+    ensures memory { IfErr result (λ e. e ≡ Refusal.NoMemory) }
+{
+    build_in(alloc, &mut slots[a as usize], group, size, number)?;
+    Ok(())
+}

@@ -1,0 +1,31 @@
+-- Which object of rows goes away first.
+use Rattle.std.specs.Prelude.{ℕ, ◌*◌, nat_le, Bool, cond, Option, option_map}
+use Rattle.std.specs.Option.{option_and_then, option_or}
+use Rattle.far_types.specs.declared.name.Name.{Name}
+use Rattle.far_log.specs.Room.{space_of, capacity_of}
+use Rattle.far_scopes.specs.Coldest.{coldest as coldest_in}
+use Rattle.far_scopes.specs.Movement.{Movement, entry_of, pins_of}
+use Rattle.far_rows.specs.declared.object.Object.{Object}
+use Rattle.far_rows.specs.declared.object.Object.TheVariants as object
+use Rattle.far_rows.specs.Rows.{Rows}
+
+-- the name that the coldest of some objects bears
+abbrev pub coldest_name : {X K : Type 0} → Movement X K → Option Name
+coldest_name m = option_and_then (λ o. option_map (λ entry. entry.name) (entry_of m o)) (coldest_in m)
+
+module _ {K : Type 0} (r : Rows K) where
+  -- whether the objects of numbers have no more space, in proportion to their capacity, than those of texts
+  abbrev pub numbers_go_first : Bool
+  numbers_go_first =
+      let numbers = r.number_objects.memory.room in
+      let texts = r.text_objects.memory.room in
+      nat_le (space_of numbers * capacity_of texts) (space_of texts * capacity_of numbers)
+
+  -- the name of the coldest object of the kind with less space; where that kind has none, of the other
+  abbrev pub coldest : Option Name
+  coldest = cond numbers_go_first (option_or (coldest_name r.number_objects) (coldest_name r.text_objects)) (option_or (coldest_name r.text_objects) (coldest_name r.number_objects))
+
+  -- how many pins an object has
+  abbrev pub pins_at : Object → ℕ
+  pins_at (object.Number o) = pins_of r.number_objects o
+  pins_at (object.Text o) = pins_of r.text_objects o

@@ -1,0 +1,15 @@
+-- Objects when they are opened.
+use Rattle.std.specs.Prelude.{ℕ, [], replicate}
+use Rattle.far_scopes.specs.declared.limits.ObjectLimits.{ObjectLimits}
+use Rattle.far_scopes.specs.Movement.{Movement}
+
+-- no object, under this number of a frame and within these limits: all segments are without parts
+abbrev pub no_objects : {X K : Type 0} → ℕ → ObjectLimits → Movement X K
+no_objects number limits = record {
+  number = number;
+  changes = limits.changes;
+  leavings = limits.leavings;
+  memory = record { words = []; room = replicate limits.segments record { parts = []; size = limits.size } };
+  entries = [];
+  order = [];
+}

@@ -1,0 +1,206 @@
+-- What a table with aggregates is once an edit is made, and why one is refused.
+use Rattle.std.proofs.Common.{◌≡◌, ℕ, zero, suc, ◌/◌, ◌<◌, Bool, true, false, not, List, map, length, replicate, Option, None, Some, refl, sym, ap, subst, ◌∙◌, arith}
+use Rattle.std.specs.Prelude.{IsSome, ◌≤◌, is_none, is_some, option_map, slice_get}
+use Rattle.std.proofs.lemmas.List.{length-map}
+use Rattle.std.proofs.lemmas.Option.{same_Some, slice_get_within}
+use Rattle.far_types.specs.declared.cell.Cell.{Cell}
+use Rattle.far_types.specs.declared.cell.Kind.{Kind}
+use Rattle.far_types.specs.declared.edit.Edit.{Edit}
+use Rattle.far_types.specs.declared.edit.Edit.TheVariants as edit
+use Rattle.far_types.specs.declared.limits.Limits.{Limits}
+use Rattle.far_types.specs.declared.refusal.Refusal.{Refusal}
+use Rattle.far_types.specs.declared.refusal.Refusal.TheVariants as refusal
+use Rattle.far_types.specs.Edits.{edit_faults, edited, is_dead, is_of_other_kind, places_after, removed, with_cell}
+use Rattle.far_types.specs.Bounds.{AreLimits}
+use Rattle.far_types.specs.Cells.{is_too_long}
+use Rattle.far_types.specs.FirstOf.{first_of}
+use Rattle.far_types.specs.MayRefuse.{MayRefuse}
+use Rattle.far_types.specs.Table.{Place, Registered}
+use Rattle.far_rows.specs.declared.new_cell.NewCell.{NewCell}
+use Rattle.far_rows.specs.Slots.{Values, kind_of, row_of}
+use Rattle.far_rows.specs.Rows.{Rows, cells_of}
+use Rattle.far_rows.specs.Effects.{IsPushed}
+use Rattle.far_rows.specs.Places.{places_in}
+use Rattle.far_rows.specs.Refusing.{absents}
+use Rattle.far_rows.specs.Setting.{cell_of}
+use Rattle.far_aggregates.specs.Changes.{alive_with}
+use Rattle.far_aggregates.specs.declared.pending.Pending.{Pending}
+use Rattle.far_aggregates.specs.Kept.{Slot, Keeps, PlacesFit, registered_of}
+use Rattle.far_aggregates.specs.Pending.{AreKept, GoesOn}
+use Rattle.far_aggregates.proofs.GroupLaws.{length-changed}
+use Rattle.far_table.specs.State.{State, AreChecked}
+use Rattle.far_table.specs.TableRows.{TableRows, asked}
+use Rattle.far_table.specs.Edits.{edit_due, IsMade, IsAppended, IsPut}
+use Rattle.far_table.specs.Live.{IsLive, IsEdited, Refuses, state_of}
+use Rattle.far_table.proofs.First.{free-head}
+use Rattle.far_table.proofs.Faultless.{remove-right, faultless, all-here}
+use Rattle.far_table.proofs.Places.{flag-there, cells-get}
+use Rattle.far_table.proofs.DueSet.{found-at}
+
+abbrev no_aggregate : Option Registered
+no_aggregate = None
+
+-- nothing is registered
+pub none-checked : (schema : List Kind) (n : ℕ) → AreChecked schema (replicate n no_aggregate)
+none-checked schema zero = tt
+none-checked schema (suc n) = (tt, none-checked schema n)
+
+module _ {K : Type 0} where
+  -- aggregates that are shown alike
+  pub shown-same : (t : TableRows K) (r : ℕ) (was now : List Slot) → registered_of now ≡ registered_of was → state_of t r now ≡ state_of t r was
+  shown-same t r was now same = λ i. record { table = record { schema = t.schema; limits = t.limits; places = t.places; edits = t.edits; registrations = r; aggregates = same i }; rows = t.held }
+
+  pub same-live : (t : TableRows K) (r : ℕ) (was now : List Slot) → registered_of now ≡ registered_of was → IsLive t r was → Keeps t.limits.group t.places now → IsLive t r now
+  same-live t r was now same live kept = record { registrations_few = live.registrations_few; kept = kept; checked = subst (AreChecked t.schema) (sym same) live.checked }
+
+  -- another row is taken
+  pub taken-state : (old new : TableRows K) (r : ℕ) (slots : List Slot) → new ≡ record old { coming = new.coming } → state_of new r slots ≡ state_of old r slots
+  taken-state old new r slots stays = ap (λ (t : TableRows K). state_of t r slots) stays
+
+  pub taken-live : (old new : TableRows K) (r : ℕ) (slots : List Slot) → new ≡ record old { coming = new.coming } → IsLive old r slots → IsLive new r slots
+  taken-live old new r slots stays live = subst (λ (t : TableRows K). IsLive t r slots) (sym stays) record { registrations_few = live.registrations_few; kept = live.kept; checked = live.checked }
+
+  -- a call is refused with what is due, and the state that is seen stays
+  pub refuses-due : (shown seen after : State K) (e : Edit) (r : Refusal) → shown ≡ seen → after ≡ shown → Some r ≡ edit_due shown e → Refuses (edit_due seen e) true seen r after
+  refuses-due shown seen after e r same stays is = (stays ∙ same, subst (λ (s : State K). MayRefuse (edit_due s e) true r) same (subst (λ (o : Option Refusal). MayRefuse o true r) is refl))
+
+  -- likewise where nothing is due, for want of memory
+  pub refuses-memory : (shown seen after : State K) (e : Edit) (r : Refusal) → shown ≡ seen → after ≡ shown → None ≡ edit_due shown e → r ≡ refusal.NoMemory → Refuses (edit_due seen e) true seen r after
+  refuses-memory shown seen after e r same stays free is = (stays ∙ same, subst (λ (s : State K). MayRefuse (edit_due s e) true r) same (subst (λ (o : Option Refusal). MayRefuse o true r) free (is, refl)))
+
+  -- what is kept is that of the places, as the aggregates' calls ask for it
+  pub kept-fit : (t : TableRows K) (r : ℕ) (slots : List Slot) (limits : Limits) → limits ≡ t.limits → AreLimits t.limits → length t.places ≤ t.limits.places → PlacesFit t.places → IsLive t r slots → AreKept limits.group t.places slots
+  kept-fit t r slots limits same bounds few fit live = record { kept = subst (λ (l : Limits). Keeps l.group t.places slots) (sym same) live.kept; few = omega (arith, few, bounds.places_high); fit = fit }
+
+  -- an edit is made
+  pub made-table : (old new : TableRows K) (e : Edit) (r : ℕ) (was now : List Slot) → IsMade old new e → registered_of now ≡ registered_of was → (state_of new r now).table ≡ edited e (state_of old r was).table
+  made-table old new e r was now made same = λ i. record { schema = made.schema i; limits = made.limits i; places = made.places i; edits = made.edits i; registrations = r; aggregates = same i }
+
+  pub made-checked : (old new : TableRows K) (e : Edit) (r : ℕ) (was now : List Slot) → IsMade old new e → registered_of now ≡ registered_of was → IsLive old r was → AreChecked new.schema (registered_of now)
+  made-checked old new e r was now made same live = subst (λ (kinds : List Kind). AreChecked kinds (registered_of now)) (sym made.schema) (subst (AreChecked old.schema) (sym same) live.checked)
+
+  pub made-live : (old new : TableRows K) (e : Edit) (r : ℕ) (was now : List Slot) → IsMade old new e → registered_of now ≡ registered_of was → IsLive old r was → Keeps new.limits.group new.places now → IsLive new r now
+  made-live old new e r was now made same live kept = record { registrations_few = live.registrations_few; kept = kept; checked = made-checked old new e r was now made same live }
+
+  -- what is to go out goes out of what is kept of the new places
+  pub goes-after : (old new : TableRows K) (e : Edit) (p : ℕ) (limits : Limits) (now : List Slot) (pending : Pending) → limits ≡ old.limits → IsMade old new e → GoesOn limits.group (p / limits.group) (places_after e old.places) now pending → GoesOn new.limits.group (p / new.limits.group) new.places now pending
+  goes-after old new e p limits now pending same made goes =
+      let bounds : limits ≡ new.limits = same ∙ sym made.limits in
+      subst (λ (l : Limits). GoesOn l.group (p / l.group) new.places now pending) bounds (subst (λ (ps : List Place). GoesOn limits.group (p / limits.group) ps now pending) (sym made.places) goes)
+
+-- the row that was taken is appended
+module _ {K : Type 0} (content : K → List ℕ) (old mid new : TableRows K) (row : List Cell) (stays : mid ≡ record old { coming = mid.coming }) (taken : row_of mid.held.slots mid.coming ≡ row) (appended : IsAppended content mid new) where
+  made : IsMade mid new (edit.Insert row)
+  made = subst (λ (cells : List Cell). IsMade mid new (edit.Insert cells)) taken appended.made
+
+  pub inserted : (r : ℕ) (was now : List Slot) → None ≡ edit_due (asked old) (edit.Insert row) → registered_of now ≡ registered_of was → IsEdited content (state_of old r was) (edit.Insert row) (state_of new r now)
+  inserted r was now free same = record {
+    due = sym free;
+    table = made-table mid new (edit.Insert row) r was now made same ∙ ap (λ (s : State K). edited (edit.Insert row) s.table) (taken-state old mid r was stays);
+    rows = subst (λ (t : TableRows K). (values : Values) × (row_of t.held.slots values ≡ row) × IsPushed content t.held values new.held) stays (mid.coming, taken, appended.held);
+  }
+
+  pub inserted-live : (r : ℕ) (was now : List Slot) → registered_of now ≡ registered_of was → IsLive old r was → Keeps mid.limits.group (places_after (edit.Insert row) mid.places) now → IsLive new r now
+  inserted-live r was now same live kept =
+      let bounds : Keeps new.limits.group (places_after (edit.Insert row) mid.places) now = subst (λ (l : Limits). Keeps l.group (places_after (edit.Insert row) mid.places) now) (sym made.limits) kept in
+      made-live mid new (edit.Insert row) r was now made same (taken-live old mid r was stays live) (subst (λ (ps : List Place). Keeps new.limits.group ps now) (sym made.places) bounds)
+
+-- a value is put in a column of a place
+module _ {K : Type 0} (old new : TableRows K) (p c : ℕ) where
+  pub made-with : (one other : Cell) → one ≡ other → IsMade old new (edit.Set p c one) → IsMade old new (edit.Set p c other)
+  made-with one other same made = subst (λ (cell : Cell). IsMade old new (edit.Set p c cell)) same made
+
+  pub set-inside : (cell : Cell) → IsMade old new (edit.Set p c cell) → p < length old.places → p < length new.places
+  set-inside cell made below = let same = ap length made.places ∙ length-changed (with_cell c cell) p old.places in omega (arith, below, same)
+
+  pub put : (content : K → List ℕ) (cell : Cell) (value : NewCell) (r : ℕ) (was now : List Slot) → cell_of value ≡ cell → IsPut content old new c p value → None ≡ edit_due (asked old) (edit.Set p c cell) → registered_of now ≡ registered_of was → IsEdited content (state_of old r was) (edit.Set p c cell) (state_of new r now)
+  put content cell value r was now is changed free same = record {
+    due = sym free;
+    table = made-table old new (edit.Set p c cell) r was now (made-with (cell_of value) cell is changed.made) same;
+    rows = (value, is, changed.held);
+  }
+
+is-true : (b : Bool) → not b ≡ false → b ≡ true
+is-true true is = refl
+is-true false is = absurd cc
+
+-- a place that is there and not dead
+alive-row : (at : Option Place) (row : List Cell) → is_none at ≡ false → is_dead at ≡ false → option_map (λ (place : Place). place.cells) at ≡ Some row → at ≡ Some (alive_with row)
+alive-row None row there living is = absurd cc
+alive-row (Some place) row there living is =
+    let cells : place.cells ≡ row = same_Some place.cells row is in
+    let alive : place.alive ≡ true = is-true place.alive living in
+    λ i. Some (record { cells = cells i; alive = alive i })
+
+-- a place of which no removal is refused
+remove-alive : (schema : List Kind) (limits : Limits) (places : List Place) (p : ℕ) (row : List Cell) → first_of (edit_faults schema limits places (edit.Remove p)) ≡ None → option_map (λ (place : Place). place.cells) (slice_get places p) ≡ Some row → slice_get places p ≡ Some (alive_with row)
+remove-alive schema limits places p row free is =
+    let there = free-head (is_none (slice_get places p)) refusal.NoRow _ free in
+    let living = free-head (is_dead (slice_get places p)) refusal.RemovedRow _ there.1 in
+    alive-row (slice_get places p) row there.0 living.0 is
+
+-- a place, and a column, of which no set is refused
+set-behind : (schema : List Kind) (limits : Limits) (places : List Place) (p c : ℕ) (cell : Cell) → first_of (edit_faults schema limits places (edit.Set p c cell)) ≡ None → (is_none (slice_get schema c) ≡ false) × (first_of (edit_faults schema limits places (edit.Remove p)) ≡ None)
+set-behind schema limits places p c cell free =
+    let column = free-head (is_none (slice_get schema c)) refusal.NoColumn _ free in
+    let kind = free-head (is_of_other_kind (slice_get schema c) cell) refusal.WrongKind _ column.1 in
+    let short = free-head (is_too_long cell) refusal.TextTooLong _ kind.1 in
+    (column.0, short.1)
+
+found-some : {A : Type 0} (found : Option A) → is_none found ≡ false → (x : A) × (found ≡ Some x)
+found-some None is = absurd cc
+found-some (Some x) is = (x, refl)
+
+there-below : (places : List Place) (p : ℕ) → is_none (slice_get places p) ≡ false → p < length places
+there-below places p is = let found = found-some (slice_get places p) is in slice_get_within places p found.0 found.1
+
+-- a row has a cell in each column of the schema
+module _ {K : Type 0} (content : K → List ℕ) (schema : List Kind) (held : Rows K) (kinds : map kind_of held.slots ≡ schema) where
+  row-width : (p : ℕ) (row : List Cell) → slice_get (places_in content held) p ≡ Some (alive_with row) → length row ≡ length schema
+  row-width p row at =
+      let columns : List (List Cell) = cells_of content held in
+      let flag = flag-there columns held.alive p (alive_with row) at in
+      let same : Some row ≡ Some _ = sym (ap (option_map (λ (place : Place). place.cells)) at) ∙ cells-get columns held.alive p true flag in
+      ap length (same_Some row _ same) ∙ length-map columns _ ∙ length-map held.slots _ ∙ sym (length-map held.slots kind_of) ∙ ap length kinds
+
+  pub column-there : (places : List Place) → places ≡ places_in content held → (p c : ℕ) (row : List Cell) → slice_get places p ≡ Some (alive_with row) → is_none (slice_get schema c) ≡ false → IsSome (slice_get row c)
+  column-there places same p c row at column =
+      let kind = found-some (slice_get schema c) column in
+      let below = slice_get_within schema c kind.0 kind.1 in
+      let width = row-width p row (ap (λ (ps : List Place). slice_get ps p) (sym same) ∙ at) in
+      let found = found-at row c (omega (arith, below, width)) in
+      ap is_some found.1
+
+-- the place of a removal that is not refused
+module _ {K : Type 0} (t : TableRows K) (p : ℕ) (free : None ≡ edit_due (asked t) (edit.Remove p)) where
+  right : first_of (edit_faults t.schema t.limits t.places (edit.Remove p)) ≡ None
+  right = faultless (asked t) (edit.Remove p) (sym free)
+
+  pub remove-below : p < length t.places
+  remove-below = there-below t.places p (remove-right t.schema t.limits t.places p right)
+
+  pub remove-row : (row : List Cell) → option_map (λ (place : Place). place.cells) (slice_get t.places p) ≡ Some row → slice_get t.places p ≡ Some (alive_with row)
+  remove-row row is = remove-alive t.schema t.limits t.places p row right is
+
+  pub remove-here : first_of (absents t.held (p / t.limits.group)) ≡ None
+  remove-here = all-here (asked t) (edit.Remove p) (sym free)
+
+  pub remove-inside : (new : TableRows K) → IsMade t new (edit.Remove p) → p < length new.places
+  remove-inside new made = let same = ap length made.places ∙ length-changed removed p t.places in omega (arith, remove-below, same)
+
+-- the place and the column of a set that is not refused
+module _ {K : Type 0} (t : TableRows K) (p c : ℕ) (cell : Cell) (free : None ≡ edit_due (asked t) (edit.Set p c cell)) where
+  behind : (is_none (slice_get t.schema c) ≡ false) × (first_of (edit_faults t.schema t.limits t.places (edit.Remove p)) ≡ None)
+  behind = set-behind t.schema t.limits t.places p c cell (faultless (asked t) (edit.Set p c cell) (sym free))
+
+  pub set-below : p < length t.places
+  set-below = there-below t.places p (remove-right t.schema t.limits t.places p behind.1)
+
+  pub set-row : (row : List Cell) → option_map (λ (place : Place). place.cells) (slice_get t.places p) ≡ Some row → slice_get t.places p ≡ Some (alive_with row)
+  set-row row is = remove-alive t.schema t.limits t.places p row behind.1 is
+
+  pub set-column : (content : K → List ℕ) → t.places ≡ places_in content t.held → map kind_of t.held.slots ≡ t.schema → (row : List Cell) → option_map (λ (place : Place). place.cells) (slice_get t.places p) ≡ Some row → IsSome (slice_get row c)
+  set-column content places kinds row is = column-there content t.schema t.held kinds t.places places p c row (set-row row is) behind.0
+
+  pub set-here : first_of (absents t.held (p / t.limits.group)) ≡ None
+  set-here = all-here (asked t) (edit.Set p c cell) (sym free)

@@ -1,0 +1,83 @@
+use Rattle.std.proofs.Common.{◌∙◌, ap, sym, subst, List}
+use Rattle.std.proofs.lemmas.Result.{err_from_is_err_and}
+use Rattle.far_types.specs.declared.edit.Edit.TheVariants as edit
+use Rattle.far_types.specs.declared.limits.Limits.{Limits}
+use Rattle.far_types.specs.Cells.{cells_of}
+use Rattle.far_types.specs.Edits.{places_after}
+use Rattle.far_aggregates.specs.Kept.{Slot, Keeps}
+use Rattle.far_table.specs.State.{State}
+use Rattle.far_table.specs.TableRows.{TableRows}
+use Rattle.far_table.specs.Live.{IsLive, IsEdited, state_of}
+use Rattle.far_table.proofs.LiveEdits.{refuses-due, refuses-memory, kept-fit, shown-same, same-live, taken-state, taken-live, inserted, inserted-live}
+use Rattle.far_table.proofs.live_table.LiveTable.insert.Goals as goal
+
+pub returns-in_err-may_insert-clause-err : goal.returns-in_err-may_insert-clause-err
+returns-in_err-may_insert-clause-err g c =
+    let p = err_from_is_err_and c.from_residual.result c.from_residual.ensures.1 in
+    let rows = c.self.inside.rows in
+    let n = c.self.inside.registrations in
+    let slots = c.self.inside.aggregates in
+    let e = c.in_err-may_insert.ensures in
+    rw (p.1, p.2) (refuses-due (state_of rows n slots) c.args.self.now (state_of c.may_insert.new.self n slots) (edit.Insert c.args.row) c.in_err-may_insert.field-0.0 c.self.view_is (taken-state rows c.may_insert.new.self n slots e.stays) e.refused)
+
+pub come_in-requires-clause-kept : goal.come_in-requires-clause-kept
+come_in-requires-clause-kept g c =
+    let t = c.may_insert.new.self in
+    let n = c.self.inside.registrations in
+    let slots = c.self.inside.aggregates in
+    let live = taken-live c.self.inside.rows t n slots c.in_ok-may_insert.ensures.stays c.self.invariant in
+    (t.places, kept-fit t n slots c.limits.result.now c.limits.ensures.same c.limits.ensures.bounds c.len-place.ensures.few c.len-place.ensures.fit live)
+
+pub invariant_of-self-in_err-pending : goal.invariant_of-self-in_err-pending
+invariant_of-self-in_err-pending g c =
+    let t = c.may_insert.new.self in
+    let n = c.self.inside.registrations in
+    let slots = c.self.inside.aggregates in
+    let live = taken-live c.self.inside.rows t n slots c.in_ok-may_insert.ensures.stays c.self.invariant in
+    let e = c.in_err-pending.ensures in
+    same-live t n slots c.come_in.new.self e.registered live (e.unchanged t.limits.group t.places live.kept)
+
+pub returns-in_err-pending-clause-err : goal.returns-in_err-pending-clause-err
+returns-in_err-pending-clause-err g c =
+    let p = err_from_is_err_and c.from_residual-in_err-pending.result c.from_residual-in_err-pending.ensures.1 in
+    let rows = c.self.inside.rows in
+    let n = c.self.inside.registrations in
+    let slots = c.self.inside.aggregates in
+    let e = c.in_err-pending.ensures in
+    rw (p.1, p.2) (refuses-memory (state_of rows n slots) c.args.self.now (state_of c.may_insert.new.self n c.come_in.new.self) (edit.Insert c.args.row) c.in_err-pending.field-0.0 c.self.view_is
+    (shown-same c.may_insert.new.self n slots c.come_in.new.self e.registered ∙ taken-state rows c.may_insert.new.self n slots c.in_ok-may_insert.ensures.stays)
+    c.in_ok-may_insert.ensures.refused e.memory)
+
+pub invariant_of-self-in-Err : goal.invariant_of-self-in-Err
+invariant_of-self-in-Err g c =
+    let t = c.may_insert.new.self in
+    let n = c.self.inside.registrations in
+    let slots = c.self.inside.aggregates in
+    let live = taken-live c.self.inside.rows t n slots c.in_ok-may_insert.ensures.stays c.self.invariant in
+    let e = c.in_ok-pending.ensures in
+    let kept = subst (λ (now : List Slot). Keeps t.limits.group t.places now) (sym c.back.ensures.back) (e.back.kept t.limits.group t.places live.kept) in
+    subst (λ (rows : TableRows g.row.S-Ticket.Denot). IsLive rows n c.back.new.self) (sym c.in-Err.ensures.err)
+    (same-live t n slots c.back.new.self (c.back.ensures.registered ∙ e.registered) live kept)
+
+pub invariant_of-self-in_default : goal.invariant_of-self-in_default
+invariant_of-self-in_default g c =
+    let t = c.may_insert.new.self in
+    let rows = c.self.inside.rows in
+    let n = c.self.inside.registrations in
+    let slots = c.self.inside.aggregates in
+    let taken = c.in_ok-may_insert.ensures in
+    let live = taken-live rows t n slots taken.stays c.self.invariant in
+    let e = c.in_ok-pending.ensures in
+    let before = subst (λ (l : Limits). Keeps l.group t.places slots) (sym c.limits.ensures.same) live.kept in
+    let came = e.came t.places c.args.row (sym c.len-place.ensures.len) (ap cells_of (c.coming.ensures ∙ taken.taken)) before in
+    let kept = subst (λ (l : Limits). Keeps l.group (places_after (edit.Insert c.args.row) t.places) c.come_in.new.self) c.limits.ensures.same came in
+    inserted-live g.S.FarTickets.content rows t c.push.new.self c.args.row taken.stays taken.taken c.in_default.ensures.appended n slots c.come_in.new.self e.registered c.self.invariant kept
+
+pub returns-clause-ok : goal.returns-clause-ok
+returns-clause-ok g c =
+    let n = c.self.inside.registrations in
+    let slots = c.self.inside.aggregates in
+    let taken = c.in_ok-may_insert.ensures in
+    let content = g.S.FarTickets.content in
+    subst (λ (s : State g.row.S-Ticket.Denot). IsEdited content s (edit.Insert c.args.row) (state_of c.push.new.self n c.come_in.new.self)) c.self.view_is
+    (inserted content c.self.inside.rows c.may_insert.new.self c.push.new.self c.args.row taken.stays taken.taken c.in_default.ensures.appended n slots c.come_in.new.self taken.refused c.in_ok-pending.ensures.registered)

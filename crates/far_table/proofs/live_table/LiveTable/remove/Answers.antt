@@ -1,0 +1,44 @@
+use Rattle.std.proofs.Common.{◌/◌, ◌∙◌, ap, refl}
+use Rattle.far_types.specs.declared.edit.Edit.TheVariants as edit
+use Rattle.far_types.specs.declared.limits.Limits.{Limits}
+use Rattle.far_types.specs.FirstOf.{first_of}
+use Rattle.far_rows.specs.Refusing.{absents}
+use Rattle.far_table.proofs.LiveEdits.{kept-fit, same-live, made-checked, made-live, goes-after, remove-here, remove-row, remove-inside}
+use Rattle.far_table.proofs.LiveTaking.{absents-cleared}
+use Rattle.far_table.proofs.live_table.LiveTable.remove.Goals as goal
+
+pub invariant_of-self : goal.invariant_of-self
+invariant_of-self g c =
+    let t = c.self.inside.rows in
+    let n = c.self.inside.registrations in
+    let e = c.in_err-pending.ensures in
+    same-live t n c.self.inside.aggregates c.leave.new.self e.registered c.self.invariant (e.unchanged t.limits.group t.places c.self.invariant.kept)
+
+pub take_out-requires-clause-inside : goal.take_out-requires-clause-inside
+take_out-requires-clause-inside g c κs within = remove-inside c.self.inside.rows c.args.place c.in_ok-row.ensures.refused c.remove.new.self c.remove.ensures.made
+
+pub take_out-requires-clause-here : goal.take_out-requires-clause-here
+take_out-requires-clause-here g c κs within =
+    let old = c.self.inside.rows in
+    let new = c.remove.new.self in
+    let bounds = c.remove.ensures.made.limits in
+    ap (λ (l : Limits). first_of (absents new.held (c.args.place / l.group))) bounds
+    ∙ ap first_of (absents-cleared old.held _ new.held (c.args.place / old.limits.group) c.remove.ensures.held)
+    ∙ remove-here old c.args.place c.in_ok-row.ensures.refused
+
+pub take_out-requires-clause-checked : goal.take_out-requires-clause-checked
+take_out-requires-clause-checked g c κs within = made-checked c.self.inside.rows c.remove.new.self (edit.Remove c.args.place) c.self.inside.registrations c.self.inside.aggregates c.leave.new.self c.remove.ensures.made c.in_ok-pending.ensures.registered c.self.invariant
+
+pub take_out-requires-clause-goes : goal.take_out-requires-clause-goes
+take_out-requires-clause-goes g c κs within =
+    let old = c.self.inside.rows in
+    let e = c.in_ok-pending.ensures in
+    let row = remove-row old c.args.place c.in_ok-row.ensures.refused c.in_ok-row.row c.in_ok-row.ensures.row in
+    let kept = kept-fit old c.self.inside.registrations c.self.inside.aggregates c.limits.result.now c.limits.ensures.same c.limits.ensures.bounds c.len-len.ensures.few c.len-len.ensures.fit c.self.invariant in
+    goes-after old c.remove.new.self (edit.Remove c.args.place) c.args.place c.limits.result.now c.leave.new.self c.in_ok-pending.pending c.limits.ensures.same c.remove.ensures.made
+    (e.goes old.places (c.in_ok-row.row, refl, row) kept)
+
+pub invariant_of-self-2 : goal.invariant_of-self-2
+invariant_of-self-2 g c =
+    made-live c.self.inside.rows c.remove.new.self (edit.Remove c.args.place) c.self.inside.registrations c.self.inside.aggregates c.take_out.new.aggregates c.remove.ensures.made
+    (c.take_out.ensures.registered ∙ c.in_ok-pending.ensures.registered) c.self.invariant c.take_out.ensures.kept

@@ -1,0 +1,33 @@
+use Rattle.std.proofs.Common.{◌/◌, ◌∙◌, ap, sym, subst, List}
+use Rattle.far_types.specs.Table.{Place}
+use Rattle.far_aggregates.specs.Kept.{Slot, Keeps, registered_of}
+use Rattle.far_aggregates.specs.Lending.{AreServed}
+use Rattle.far_aggregates.specs.Pending.{MayGoOn, gone_on}
+use Rattle.far_table.specs.Groups.{GroupRows, has_column, places_here}
+use Rattle.far_table.proofs.LiveTaking.{lent-is, places-here, served-here}
+use Rattle.far_table.proofs.live_table.take_out.Goals as goal
+
+pub take-requires-clause-may : goal.take-requires-clause-may
+take-requires-clause-may g c =
+    let t = c.args.rows.now in
+    let content = g.S.FarTickets.content in
+    let lent = lent-is t c.group.result c.limits.result.now c.args.place c.limits.ensures.same c.group.ensures in
+    let here = ap (places_here content) lent ∙ places-here content t c.held-held.ensures.places c.held-held.ensures.size (c.args.place / t.limits.group) in
+    subst (λ (ps : List Place). MayGoOn ps c.args.aggregates.now c.args.pending) (sym here) c.requires.goes.may
+
+pub take-requires-clause-served : goal.take-requires-clause-served
+take-requires-clause-served g c =
+    let t = c.args.rows.now in
+    let content = g.S.FarTickets.content in
+    let lent = lent-is t c.group.result c.limits.result.now c.args.place c.limits.ensures.same c.group.ensures in
+    subst (λ (rows : GroupRows g.row.S-Ticket.Denot). AreServed (has_column rows) (registered_of c.args.aggregates.now)) (sym lent)
+    (served-here content t c.held-held.ensures.places c.held-held.ensures.size c.an_aggregate_is_served_by_the_columns_of_its_schema.ensures c.held-held.ensures.rows c.held-held.ensures.kinds c.args.place c.requires.inside c.requires.here (registered_of c.args.aggregates.now) c.requires.checked)
+
+pub returns-clause-kept : goal.returns-clause-kept
+returns-clause-kept g c =
+    let t = c.args.rows.now in
+    let content = g.S.FarTickets.content in
+    let lent = lent-is t c.group.result c.limits.result.now c.args.place c.limits.ensures.same c.group.ensures in
+    let here = ap (places_here content) lent ∙ places-here content t c.held-held.ensures.places c.held-held.ensures.size (c.args.place / t.limits.group) in
+    let gone = c.take.ensures.taken ∙ ap (λ (ps : List Place). gone_on ps c.args.aggregates.now c.args.pending) here in
+    subst (λ (slots : List Slot). Keeps t.limits.group t.places slots) (sym gone) c.requires.goes.kept

@@ -1,0 +1,82 @@
+-- Why an edit of rows over objects is refused, and what it does.
+use Rattle.std.specs.Prelude.{◌≡◌, ℕ, ◌+◌, ◌/◌, ◌==◌, ◌&&◌, not, Bool, false, List, [], ◌∷◌, ◌++◌, map, length, Option, None, Some, option_map, slice_get, slice_set}
+use Rattle.far_types.specs.declared.edit.Edit.{Edit}
+use Rattle.far_types.specs.declared.edit.Edit.TheVariants as edit
+use Rattle.far_types.specs.declared.refusal.Refusal.{Refusal}
+use Rattle.far_types.specs.declared.refusal.Refusal.TheVariants as refusal
+use Rattle.far_types.specs.Bounds.{is_text}
+use Rattle.far_types.specs.Edits.{edit_faults, overfills, text_object_length, places_after}
+use Rattle.far_types.specs.FirstOf.{first_of}
+use Rattle.far_log.specs.Room.{fits_in}
+use Rattle.far_rows.specs.declared.new_cell.NewCell.{NewCell}
+use Rattle.far_rows.specs.Slots.{kind_of, row_of}
+use Rattle.far_rows.specs.Refusing.{absents, no_room_for_texts, no_room_for_numbers, push_refusal}
+use Rattle.far_rows.specs.Effects.{IsPushed, IsSet}
+use Rattle.far_rows.specs.Setting.{cell_of, kind_in, set_refusal}
+use Rattle.far_table.specs.State.{State}
+use Rattle.far_table.specs.TableRows.{TableRows, asked}
+
+module _ {K : Type 0} (s : State K) where
+  -- the row group that an edit writes
+  abbrev pub group_of : Edit → ℕ
+  group_of (edit.Insert row) = length s.table.places / s.table.limits.group
+  group_of (edit.Set p c cell) = p / s.table.limits.group
+  group_of (edit.Remove p) = p / s.table.limits.group
+
+  -- how long the text object of a column is that the edit writes
+  abbrev pub length_after : Edit → ℕ → ℕ
+  length_after e column = text_object_length s.table.limits column (group_of e) (places_after e s.table.places)
+
+  -- what the edit writes finds no room beside all that is there: an insert places the texts of all columns and then, where a
+  -- row group begins, numbers; a set places its text
+  abbrev pub no_room : Edit → List (Bool × Refusal)
+  no_room (edit.Insert row) = no_room_for_texts s.rows (map (λ c. length_after (edit.Insert row) c.column) s.rows.texts) ∷ no_room_for_numbers s.rows ∷ []
+  no_room (edit.Set p c cell) = (is_text (slice_get s.table.schema c) && not (fits_in s.rows.text_objects.memory.room (length_after (edit.Set p c cell) c)), refusal.RegionFull) ∷ []
+  no_room (edit.Remove p) = []
+
+  -- what may stand in the way of an edit that has no fault of its own: the object of some column is away; a text object would be
+  -- too long; there is no room; the edits are used up
+  abbrev pub obstacles : Edit → List (Bool × Refusal)
+  obstacles e = absents s.rows (group_of e) ++ ((overfills s.table.schema s.table.limits e s.table.places, refusal.ChunkFull) ∷ (no_room e ++ (s.table.edits == s.table.limits.edits, refusal.EditsUsedUp) ∷ []))
+
+  -- why an edit is refused, want of memory aside: the first that applies
+  abbrev pub edit_due : Edit → Option Refusal
+  edit_due e = first_of (edit_faults s.table.schema s.table.limits s.table.places e ++ obstacles e)
+
+module _ {K : Type 0} (old new : TableRows K) where
+  -- the edit is made: the places are those of the plain table, and it counts. The row that was taken stays where it is
+  pub record IsMade (e : Edit) : Type 0 where
+    pub schema : new.schema ≡ old.schema
+    pub limits : new.limits ≡ old.limits
+    pub places : new.places ≡ places_after e old.places
+    pub edits : new.edits ≡ old.edits + 1
+    pub coming : new.coming ≡ old.coming
+
+module _ {K : Type 0} (content : K → List ℕ) where
+  -- the row that was taken may be appended: nothing refuses it, and its objects say the same
+  pub record MayPush (t : TableRows K) : Type 0 where
+    pub due : edit_due (asked t) (edit.Insert (row_of t.held.slots t.coming)) ≡ None
+    pub objects : push_refusal content t.held t.coming ≡ None
+
+  -- a value may be put in a column of a place
+  pub record MayPut (t : TableRows K) (column place : ℕ) (value : NewCell) : Type 0 where
+    pub of_kind : option_map kind_of (slice_get t.held.slots column) ≡ Some (kind_in value)
+    pub due : edit_due (asked t) (edit.Set place column (cell_of value)) ≡ None
+    pub objects : set_refusal content t.held column place value ≡ None
+
+  module _ (old new : TableRows K) where
+    -- the row that was taken is appended
+    pub record IsAppended : Type 0 where
+      pub made : IsMade old new (edit.Insert (row_of old.held.slots old.coming))
+      pub held : IsPushed content old.held old.coming new.held
+
+    -- a value is put in a column of a place; the same objects are away
+    pub record IsPut (column place : ℕ) (value : NewCell) : Type 0 where
+      pub made : IsMade old new (edit.Set place column (cell_of value))
+      pub held : IsSet content old.held column place value new.held
+      pub here : (g : ℕ) → absents new.held g ≡ absents old.held g
+
+-- a place is dead
+pub record IsCleared {K : Type 0} (old new : TableRows K) (place : ℕ) : Type 0 where
+  pub made : IsMade old new (edit.Remove place)
+  pub held : new.held ≡ record old.held { alive = slice_set old.held.alive place false }

@@ -1,0 +1,6 @@
+pub mod State
+pub mod TableRows
+pub mod Edits
+pub mod Groups
+pub mod Live
+pub mod Watching

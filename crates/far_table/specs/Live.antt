@@ -1,0 +1,46 @@
+-- How a table's calls change it, and why they are refused.
+use Rattle.std.specs.Prelude.{◌≡◌, ℕ, ◌≤◌, ◌^◌, Bool, List, None, Option, slice_set, false}
+use Rattle.far_types.specs.declared.edit.Edit.{Edit}
+use Rattle.far_types.specs.declared.edit.Edit.TheVariants as edit
+use Rattle.far_types.specs.declared.refusal.Refusal.{Refusal}
+use Rattle.far_types.specs.Edits.{edited}
+use Rattle.far_types.specs.MayRefuse.{MayRefuse}
+use Rattle.far_aggregates.specs.Kept.{Slot, Keeps, registered_of}
+use Rattle.far_rows.specs.declared.new_cell.NewCell.{NewCell}
+use Rattle.far_rows.specs.Slots.{Values, row_of}
+use Rattle.far_rows.specs.Rows.{Rows}
+use Rattle.far_rows.specs.Effects.{IsPushed, IsSet}
+use Rattle.far_rows.specs.Setting.{cell_of}
+use Rattle.far_table.specs.State.{State, AreChecked}
+use Rattle.far_table.specs.TableRows.{TableRows}
+use Rattle.far_table.specs.Edits.{edit_due}
+
+module _ {K : Type 0} where
+  -- the table of these rows and aggregates
+  abbrev pub state_of : TableRows K → ℕ → List Slot → State K
+  state_of t registrations slots = record {
+    table = record { schema = t.schema; limits = t.limits; places = t.places; edits = t.edits; registrations = registrations; aggregates = registered_of slots };
+    rows = t.held;
+  }
+
+  -- what always holds of a table's parts: what is kept is that of its places as they are now
+  pub record IsLive (t : TableRows K) (registrations : ℕ) (slots : List Slot) : Type 0 where
+    pub registrations_few : registrations ≤ 2 ^ 32
+    pub kept : Keeps t.limits.group t.places slots
+    pub checked : AreChecked t.schema (registered_of slots)
+
+  -- a call is refused: nothing changes, and this was due, or memory was wanted
+  abbrev pub Refuses : Option Refusal → Bool → State K → Refusal → State K → Type 0
+  Refuses due grows old given new = (new ≡ old) × MayRefuse due grows given
+
+  -- how the rows change by an edit
+  abbrev pub Moves : (K → List ℕ) → Rows K → Edit → Rows K → Type 0
+  Moves content old (edit.Insert row) new = (values : Values) × (row_of old.slots values ≡ row) × IsPushed content old values new
+  Moves content old (edit.Set p c cell) new = (value : NewCell) × (cell_of value ≡ cell) × IsSet content old c p value new
+  Moves content old (edit.Remove p) new = new ≡ record old { alive = slice_set old.alive p false }
+
+  -- an edit is made
+  pub record IsEdited (content : K → List ℕ) (old : State K) (e : Edit) (new : State K) : Type 0 where
+    pub due : edit_due old e ≡ None
+    pub table : new.table ≡ edited e old.table
+    pub rows : Moves content old.rows e new.rows

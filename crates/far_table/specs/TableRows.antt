@@ -1,0 +1,60 @@
+-- The rows of a table in the plain table's words, and the objects in which they lie.
+use Rattle.std.specs.Prelude.{◌≡◌, ℕ, ◌≤◌, List, [], map, length}
+use Rattle.far_types.specs.declared.cell.Kind.{Kind}
+use Rattle.far_types.specs.declared.limits.Limits.{Limits}
+use Rattle.far_types.specs.Bounds.{AreLimits}
+use Rattle.far_types.specs.Cells.{RowFits}
+use Rattle.far_types.specs.Table.{Place}
+use Rattle.far_table.specs.State.{State}
+use Rattle.far_scopes.specs.Movement.{Movement, version_of}
+use Rattle.far_aggregates.specs.Kept.{PlacesFit}
+use Rattle.far_rows.specs.Slots.{Values, kind_of, row_of}
+use Rattle.far_rows.specs.Rows.{Rows}
+use Rattle.far_rows.specs.Places.{AreOf, places_in}
+use Rattle.far_rows.specs.Opening.{empty_rows}
+
+-- the columns' kinds, the limits, the places, how many edits were accepted, the row that was taken last and may be appended,
+-- and the rows over objects that hold the places
+pub record TableRows (K : Type 0) : Type 0 where
+  pub schema : List Kind
+  pub limits : Limits
+  pub places : List Place
+  pub edits : ℕ
+  pub coming : Values
+  pub held : Rows K
+
+module _ {K : Type 0} where
+  -- the places are those that the rows hold, local or away
+  abbrev pub rows_in : (K → List ℕ) → List Kind → Limits → Rows K → Values → ℕ → TableRows K
+  rows_in content schema limits held coming edits = record { schema = schema; limits = limits; places = places_in content held; edits = edits; coming = coming; held = held }
+
+  -- a table of which only what an edit's refusal looks at is told
+  abbrev pub asked : TableRows K → State K
+  asked t = record { table = record { schema = t.schema; limits = t.limits; places = t.places; edits = t.edits; registrations = 0; aggregates = [] }; rows = t.held }
+
+  -- objects may be written as often as the table may be edited, and none was written more often than the table was edited
+  pub record AreWritten {X : Type 0} (limits : Limits) (edits : ℕ) (m : Movement X K) : Type 0 where
+    pub changes : m.changes ≡ limits.edits
+    pub versions : (o : ℕ) → version_of m o ≤ edits
+
+  -- what always holds of the parts of such rows
+  pub record AreKept (content : K → List ℕ) (schema : List Kind) (limits : Limits) (held : Rows K) (coming : Values) (edits : ℕ) : Type 0 where
+    pub bounds : AreLimits limits
+    pub kinds : map kind_of held.slots ≡ schema
+    pub laid : AreOf limits held
+    pub few : length held.alive ≤ limits.places
+    pub edits_few : edits ≤ limits.edits
+    pub numbers_written : AreWritten limits edits held.number_objects
+    pub texts_written : AreWritten limits edits held.text_objects
+    pub numbers : length coming.numbers ≡ length held.numbers
+    pub texts : length coming.texts ≡ length held.texts
+    pub fit : PlacesFit (places_in content held)
+    pub coming_fit : RowFits (row_of held.slots coming)
+
+  -- rows of a table as it is opened
+  pub record AreOpened (kinds : List Kind) (bounds : Limits) (number : ℕ) (t : TableRows K) : Type 0 where
+    pub schema : t.schema ≡ kinds
+    pub limits : t.limits ≡ bounds
+    pub places : t.places ≡ []
+    pub edits : t.edits ≡ 0
+    pub held : t.held ≡ empty_rows kinds bounds number

@@ -1,0 +1,84 @@
+-- The aggregates of a table over objects: which are registered, forgotten, built in and asked, and why that is refused.
+use Rattle.std.specs.Prelude.{◌≡◌, ℕ, ◌+◌, ◌^◌, ◌==◌, ◌&&◌, not, Bool, nat_lt, List, [], ◌∷◌, length, Option, None, Some, is_none, slice_get, slice_set}
+use Rattle.std.specs.Option.{option_or}
+use Rattle.far_types.specs.declared.spec.Spec.{Spec}
+use Rattle.far_types.specs.declared.refusal.Refusal.{Refusal}
+use Rattle.far_types.specs.declared.refusal.Refusal.TheVariants as refusal
+use Rattle.far_types.specs.Bounds.{needs, spec_refusal}
+use Rattle.far_types.specs.FirstOf.{first_of}
+use Rattle.far_types.specs.Table.{Table, Registered, groups, all_unbuilt, is_unbuilt}
+use Rattle.far_aggregates.specs.Aggregates.{joined, free_from}
+use Rattle.far_aggregates.specs.Scans.{built_slot}
+use Rattle.far_rows.specs.declared.slot.Slot.{Slot}
+use Rattle.far_rows.specs.Rows.{Rows}
+use Rattle.far_rows.specs.Refusing.{told_at}
+use Rattle.far_table.specs.State.{State}
+
+-- the aggregate that is registered under a number
+abbrev pub aggregate_at : Table → ℕ → Option Registered
+aggregate_at table a = joined (slice_get table.aggregates a)
+
+-- the lowest number under which none is registered
+abbrev pub lowest_free : Table → Option ℕ
+lowest_free table = free_from 0 table.aggregates
+
+-- how many row groups have a place
+abbrev pub group_count : Table → ℕ
+group_count table = groups table.limits.group (length table.places)
+
+abbrev pub watch_refusal : Table → Spec → Option Refusal
+watch_refusal table spec = option_or (spec_refusal table.schema spec) (first_of (
+    (is_none (lowest_free table), refusal.TooManyAggregates)
+    ∷ (table.registrations == 2 ^ 32, refusal.TooManyAggregates)
+    ∷ []))
+
+abbrev pub unwatch_refusal : Option Registered → Option Refusal
+unwatch_refusal None = Some refusal.NoAggregate
+unwatch_refusal (Some aggregate) = None
+
+module _ {K : Type 0} where
+  -- the columns that an aggregate needs, among those of these slots, of which the first is the n-th of the table: the object of
+  -- the row group is away
+  abbrev pub needed_from : Rows K → Spec → ℕ → ℕ → List Slot → List (Bool × Refusal)
+  needed_from r spec g n [] = []
+  needed_from r spec g n (s ∷ slots) = (needs spec n && (told_at r g s).0, refusal.Absent n g) ∷ needed_from r spec g (n + 1) slots
+
+  -- a row group is built in where it has a place, is still to be built in, and the columns that the aggregate needs are local
+  abbrev pub scan_refusal : State K → Option Registered → ℕ → Option Refusal
+  scan_refusal s None g = Some refusal.NoAggregate
+  scan_refusal s (Some aggregate) g = first_of (
+      (not (nat_lt g (group_count s.table)), refusal.OutOfRange)
+      ∷ (not (is_unbuilt aggregate.unbuilt g), refusal.StaleJob)
+      ∷ needed_from s.rows aggregate.spec g 0 s.rows.slots)
+
+-- something stands under a number, or nothing
+abbrev pub with_aggregate : ℕ → Option Registered → Table → Table
+with_aggregate a aggregate table = record table { aggregates = slice_set table.aggregates a aggregate }
+
+-- an aggregate that is registered now
+abbrev pub registered_now : Spec → Table → Registered
+registered_now spec table = record { spec = spec; registration = table.registrations; unbuilt = all_unbuilt table.limits.group table.places }
+
+abbrev pub registered_at : ℕ → Spec → Table → Table
+registered_at a spec table = record (with_aggregate a (Some (registered_now spec table)) table) { registrations = table.registrations + 1 }
+
+-- a row group less is left to be built into the aggregate of a number
+abbrev pub scanned_at : ℕ → ℕ → Table → Table
+scanned_at a g table = with_aggregate a (built_slot g (aggregate_at table a)) table
+
+module _ {K : Type 0} (old new : State K) where
+  -- an aggregate is registered under the lowest free number
+  pub record IsWatched (spec : Spec) (a : ℕ) : Type 0 where
+    pub due : watch_refusal old.table spec ≡ None
+    pub number : lowest_free old.table ≡ Some a
+    pub state : new ≡ record old { table = registered_at a spec old.table }
+
+  -- the aggregate of a number is forgotten
+  pub record IsUnwatched (a : ℕ) : Type 0 where
+    pub due : unwatch_refusal (aggregate_at old.table a) ≡ None
+    pub state : new ≡ record old { table = with_aggregate a None old.table }
+
+  -- a row group is built into the aggregate of a number
+  pub record IsScanned (a g : ℕ) : Type 0 where
+    pub due : scan_refusal old (aggregate_at old.table a) g ≡ None
+    pub state : new ≡ record old { table = scanned_at a g old.table }

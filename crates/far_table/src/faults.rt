@@ -1,0 +1,109 @@
+// What is wrong with an edit itself, whichever objects are local: the first of refusals 4 to 10, in their order. Nothing here
+// takes memory.
+ghost use Rattle.std.specs.Prelude.{◌≡◌, ◌∷◌, [], ℕ, List, Option, is_none, length, option_map, slice_get};
+ghost use Rattle.std.specs.List.{list_any};
+ghost use Rattle.far_types.specs.declared.edit.Edit.TheVariants as edit;
+ghost use Rattle.far_types.specs.Cells.{is_of_kind, is_too_long};
+ghost use Rattle.far_types.specs.declared.limits.Limits.{Limits};
+ghost use Rattle.far_types.specs.Edits.{edit_faults, kinds_fit, is_dead};
+ghost use Rattle.far_types.specs.FirstOf.{first_of};
+ghost use Rattle.far_types.specs.Table.{Place};
+ghost use Rattle.far_scopes.specs.Refusing.{refusal_in};
+
+use far_types::{Cell, Kind, Limits, Refusal, Row, Schema};
+
+/// Whether a cell may stand in a column of this kind.
+fn is_of_kind(kind: Kind, cell: &Cell) -> bool
+    ensures { result ≡ is_of_kind kind cell.now }
+{
+    match (kind, cell) {
+        (Kind::Int, Cell::Text(_)) => false,
+        (Kind::Text, Cell::Int(_)) => false,
+        _ => true,
+    }
+}
+
+/// Whether a cell is a text of more than 4,096 bytes.
+fn is_too_long(cell: &Cell) -> bool
+    ensures { result ≡ is_too_long cell.now }
+{
+    match cell {
+        Cell::Text(text) => text.len() > 4096,
+        _ => false,
+    }
+}
+
+/// Whether the kinds are right at the columns that schema and row both have.
+fn kinds_fit(schema: &Schema, row: &Row) -> bool
+    ensures { result ≡ kinds_fit schema.now row.now }
+{
+    schema
+        .as_slice()
+        .iter()
+        .zip(row.as_slice())
+        .all(|(kind, cell)| is_of_kind(*kind, cell))
+}
+
+fn has_too_long(row: &Row) -> bool
+    ensures { result ≡ list_any is_too_long row.now }
+{
+    row.as_slice().iter().any(|cell| is_too_long(cell))
+}
+
+/// What is wrong with a row that is to be the next of so many: `WrongKind` (5), `RowWidth` (6), `TextTooLong` (7) or
+/// `TableFull` (10).
+pub(crate) fn row_faults(
+    schema: &Schema,
+    limits: &Limits,
+    len: usize,
+    row: &Row,
+) -> Result<(), Refusal>
+    ensures { (places : List Place) → length places ≡ len → refusal_in result ≡ first_of (edit_faults schema.now limits.now places (edit.Insert row.now)) }
+{
+    if !kinds_fit(schema, row) {
+        return Err(Refusal::WrongKind);
+    }
+    if row.len() != schema.len() {
+        return Err(Refusal::RowWidth);
+    }
+    if has_too_long(row) {
+        return Err(Refusal::TextTooLong);
+    }
+    if len == limits.places as usize {
+        return Err(Refusal::TableFull);
+    }
+    Ok(())
+}
+
+/// What is wrong with a cell that is to stand in a column, at a place that is alive, dead or not there: `NoColumn` (4),
+/// `WrongKind` (5), `TextTooLong` (7), `NoRow` (8) or `RemovedRow` (9).
+pub(crate) fn cell_faults(
+    schema: &Schema,
+    column: u32,
+    alive: Option<bool>,
+    cell: &Cell,
+) -> Result<(), Refusal>
+    ensures { (limits : Limits) → (places : List Place) → (place : ℕ) → option_map (λ p. p.alive) (slice_get places place) ≡ alive → refusal_in result ≡ first_of (edit_faults schema.now limits places (edit.Set place column cell.now)) }
+{
+    let Some(kind) = schema.get(column as usize) else {
+        return Err(Refusal::NoColumn);
+    };
+    if !is_of_kind(kind, cell) {
+        return Err(Refusal::WrongKind);
+    }
+    if is_too_long(cell) {
+        return Err(Refusal::TextTooLong);
+    }
+    living(alive)
+}
+
+/// What is wrong with a place that is alive, dead or not there: `NoRow` (8) or `RemovedRow` (9).
+pub(crate) fn living(alive: Option<bool>) -> Result<(), Refusal>
+    ensures { (at : Option Place) → option_map (λ p. p.alive) at ≡ alive → refusal_in result ≡ first_of ((is_none at, Refusal.NoRow) ∷ (is_dead at, Refusal.RemovedRow) ∷ []) }
+{
+    match alive {
+        None => Err(Refusal::NoRow),
+        Some(true) => Ok(()),
+        Some(false) => Err(Refusal::RemovedRow),
+    }
+}

@@ -1,0 +1,12 @@
+#![tactic(auto)]
+//! The rows of a table as the plain table has them, over objects that may be away: which edits they take and why one is
+//! refused, and what an edit makes of them.
+
+mod faults;
+mod live_table;
+mod row_group;
+mod table_rows;
+
+pub use live_table::LiveTable;
+pub use row_group::RowGroup;
+pub use table_rows::TableRows;

@@ -1,0 +1,160 @@
+// A table over objects, with its aggregates.
+ghost use Rattle.std.specs.Prelude.{◌≡◌, ◌<◌, ◌/◌, ◌⊎◌, true, None, length, IfOk, IfErr, OnOk};
+ghost use Rattle.far_types.specs.declared.edit.Edit.TheVariants as edit;
+ghost use Rattle.far_types.specs.Bounds.{AreLimits};
+ghost use Rattle.far_types.specs.FirstOf.{first_of};
+ghost use Rattle.far_rows.specs.Refusing.{absents};
+ghost use Rattle.far_aggregates.specs.Kept.{Keeps, registered_of};
+ghost use Rattle.far_aggregates.specs.Pending.{GoesOn};
+ghost use Rattle.far_table.specs.State.{AreChecked, empty_state};
+ghost use Rattle.far_table.specs.Edits.{edit_due};
+ghost use Rattle.far_table.specs.Live.{IsEdited, Refuses};
+
+mod watching;
+
+use super::table_rows::TableRows;
+use far_aggregates::laws::an_aggregate_is_served_by_the_columns_of_its_schema;
+use far_aggregates::{Aggregates, Pending};
+use far_store::FarTickets;
+use far_types::{Cell, Limits, Refusal, Row, Schema};
+use std::alloc::Global;
+use std::marker::Model;
+
+/// A table whose rows lie in objects that are local or away, and whose aggregates are kept up to date under every edit.
+/// Contracts see the plain table and the rows that hold its places.
+#[derive(Drop)]
+pub struct LiveTable<S: FarTickets> {
+    alloc: Global,
+    rows: TableRows<S>,
+    registrations: u64,
+    aggregates: Aggregates,
+}
+
+impl<S: FarTickets> Model for LiveTable<S> {
+    ghost use Rattle.far_table.specs.State.{State};
+    ghost use Rattle.far_table.specs.Live.{IsLive, state_of};
+
+    ghost Value = { State S.Ticket };
+
+    ghost view = { λ t. state_of t.rows t.registrations t.aggregates };
+
+    ghost invariant = { λ t. IsLive t.rows t.registrations t.aggregates };
+}
+
+impl<S: FarTickets> LiveTable<S> {
+    /// An empty table. The number tells the jobs of its objects from those of other tables.
+    ///
+    /// Refused with `BadSchema` (2) exactly where the limits are not what a table may have, else with `NoMemory` (1) alone.
+    pub fn open(
+        alloc: Global,
+        schema: Schema,
+        limits: Limits,
+        number: u32,
+    ) -> Result<LiveTable<S>, Refusal>
+        ensures ok { IfOk result (λ table. table ≡ empty_state schema limits number) }
+        ensures limits { OnOk result (AreLimits limits) }
+        ensures bad { IfErr result (λ e. ((e ≡ Refusal.BadSchema) × ¬ (AreLimits limits)) ⊎ ((e ≡ Refusal.NoMemory) × AreLimits limits)) }
+    {
+        limits.check()?;
+        let rows = TableRows::new(alloc, schema, limits, number)?;
+        Ok(LiveTable {
+            alloc,
+            rows,
+            registrations: 0,
+            aggregates: Aggregates::new(alloc),
+        })
+    }
+
+    /// Appends a row and gives its place. Refused as `TableRows::may_insert` says, else with `NoMemory` (1) alone; then nothing
+    /// is changed.
+    pub fn insert(&mut self, row: Row) -> Result<u32, Refusal>
+        ensures ok { OnOk result (IsEdited S.content self.old (edit.Insert row) self.new) }
+        ensures place { IfOk result (λ place. place ≡ length self.old.table.places) }
+        ensures err { IfErr result (λ e. Refuses (edit_due self.old (edit.Insert row)) true self.old e self.new) }
+    {
+        self.rows.may_insert(row)?;
+        let place = self.rows.len();
+        let group = self.rows.limits().group;
+        let pending = self
+            .aggregates
+            .come_in(self.alloc, &self.rows.coming(), group, place)?;
+        if let Err(refusal) = self.rows.push(self.alloc) {
+            // the rows are as they were, and so is again what is kept
+            self.aggregates.back(pending);
+            return Err(refusal);
+        }
+        Ok(place as u32)
+    }
+
+    /// Puts a cell in a place's column; the same cell again counts as an edit too. Refused as `TableRows::may_set` says, else
+    /// with `NoMemory` (1) alone; then nothing is changed.
+    pub fn set(&mut self, column: u32, place: u32, cell: Cell) -> Result<(), Refusal>
+        ensures ok { OnOk result (IsEdited S.content self.old (edit.Set place column cell) self.new) }
+        ensures err { IfErr result (λ e. Refuses (edit_due self.old (edit.Set place column cell)) true self.old e self.new) }
+    {
+        let value = self.rows.may_set(column, place, cell)?;
+        let size = self.rows.limits().group;
+        // They tell how many places there are, and that their rows have all columns.
+        let _before = self.rows.len();
+        let _held = self.rows.held();
+        let Ok(row) = self.rows.row(place as usize) else {
+            unreachable!()
+        };
+        let pending = self.aggregates.change_in(
+            self.alloc,
+            &row,
+            column,
+            value.lend(),
+            size,
+            place as usize,
+        )?;
+        if let Err(refusal) = self.rows.set(self.alloc, column, place, &value) {
+            // the rows are as they were, and so is again what is kept
+            self.aggregates.back(pending);
+            return Err(refusal);
+        }
+        // It tells that the numbers of the places are those of 64 bits.
+        let _after = self.rows.len();
+        take_out(&self.rows, &mut self.aggregates, place, pending);
+        Ok(())
+    }
+
+    /// Marks a place dead; its cells stay. Refused as `TableRows::may_remove` says, else with `NoMemory` (1) alone; then nothing
+    /// is changed.
+    pub fn remove(&mut self, place: u32) -> Result<(), Refusal>
+        ensures ok { OnOk result (IsEdited S.content self.old (edit.Remove place) self.new) }
+        ensures err { IfErr result (λ e. Refuses (edit_due self.old (edit.Remove place)) true self.old e self.new) }
+    {
+        let row = self.rows.may_remove(place)?;
+        let size = self.rows.limits().group;
+        // It tells how many places there are, and that their numbers are those of 64 bits.
+        let _len = self.rows.len();
+        let pending = self
+            .aggregates
+            .leave(self.alloc, &row, size, place as usize)?;
+        self.rows.remove(place);
+        take_out(&self.rows, &mut self.aggregates, place, pending);
+        Ok(())
+    }
+}
+
+// Takes out what the row of a place gave before an edit, which the rows have.
+fn take_out<S: FarTickets>(
+    rows: &TableRows<S>,
+    aggregates: &mut Aggregates,
+    place: u32,
+    pending: Pending,
+)
+    requires inside { place < length rows.now.places }
+    requires here { first_of (absents rows.now.held (place / rows.now.limits.group)) ≡ None }
+    requires checked { AreChecked rows.now.schema (registered_of aggregates.old) }
+    requires goes { GoesOn rows.now.limits.group (place / rows.now.limits.group) rows.now.places aggregates.old pending }
+    ensures kept { Keeps rows.now.limits.group rows.now.places aggregates.new }
+    ensures registered { registered_of aggregates.new ≡ registered_of aggregates.old }
+{
+    // It tells what the rows are.
+    let _held = rows.held();
+    let size = rows.limits().group;
+    an_aggregate_is_served_by_the_columns_of_its_schema();
+    aggregates.take(&rows.group(place / size), pending);
+}

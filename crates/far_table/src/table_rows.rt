@@ -1,0 +1,186 @@
+// The rows of a table as the plain table has them.
+ghost use Rattle.std.specs.Prelude.{◌≡◌, ◌<◌, ◌≤◌, ◌/◌, ℕ, Some, length, map, option_map, slice_get, IfOk, IfErr};
+ghost use Rattle.far_types.specs.Bounds.{AreLimits};
+ghost use Rattle.far_types.specs.FirstOf.{first_of};
+ghost use Rattle.far_types.specs.Table.{groups};
+ghost use Rattle.far_scopes.specs.Refusing.{refusal_in};
+ghost use Rattle.far_rows.specs.Slots.{kind_of, row_of};
+ghost use Rattle.far_rows.specs.Refusing.{absents};
+ghost use Rattle.far_rows.specs.Rows.{AreRows};
+ghost use Rattle.far_rows.specs.Opening.{numbers_from, texts_from};
+ghost use Rattle.far_rows.specs.Places.{places_in};
+ghost use Rattle.far_aggregates.specs.Kept.{PlacesFit};
+ghost use Rattle.far_table.specs.TableRows.{AreOpened};
+
+mod asking;
+mod editing;
+
+use super::row_group::RowGroup;
+use far_rows::{NewRow, Rows};
+use far_store::FarTickets;
+use far_types::{Kind, LentRow, Limits, Refusal, Schema};
+use std::alloc::Global;
+use std::marker::Model;
+
+/// The rows of a table under its limits, over objects that are local or away, and how many edits were accepted.
+///
+/// An insert takes its row first, into values that are made once, when the table is opened; `coming` lends it until it is
+/// appended. Contracts see the places as the plain table has them (`specs/TableRows.antt`), and the rows that hold them.
+#[derive(Drop)]
+pub struct TableRows<S: FarTickets> {
+    schema: Schema,
+    limits: Limits,
+    rows: Rows<S>,
+    coming: NewRow,
+    edits: u64,
+}
+
+impl<S: FarTickets> Model for TableRows<S> {
+    ghost use Rattle.far_table.specs.TableRows.{TableRows, AreKept, rows_in};
+
+    ghost Value = { TableRows S.Ticket };
+
+    ghost view = { λ t. rows_in S.content t.schema t.limits t.rows t.coming t.edits };
+
+    ghost invariant = { λ t. AreKept S.content t.schema t.limits t.rows t.coming t.edits };
+}
+
+impl<S: FarTickets> TableRows<S> {
+    /// No rows, of a table with this schema and these limits. The number tells the jobs of its objects from those of other
+    /// tables. All memory for elements is taken here.
+    ///
+    /// Refused with `NoMemory` (1) alone.
+    pub fn new(
+        alloc: Global,
+        schema: Schema,
+        limits: Limits,
+        number: u32,
+    ) -> Result<TableRows<S>, Refusal>
+        requires { AreLimits limits }
+        ensures opened { IfOk result (AreOpened schema limits number) }
+        ensures memory { IfErr result (λ e. e ≡ Refusal.NoMemory) }
+    {
+        let rows = Rows::new(alloc, &schema, &limits, number)?;
+        let widths = widths_of(&schema);
+        Ok(TableRows {
+            coming: NewRow::new(alloc, widths.numbers, widths.texts)?,
+            schema,
+            limits,
+            rows,
+            edits: 0,
+        })
+    }
+
+    /// The kinds of the columns. Takes no memory.
+    pub fn schema(&self) -> &Schema
+        ensures { result.now ≡ self.now.schema }
+    {
+        &self.schema
+    }
+
+    /// The limits of the table. Takes no memory.
+    pub fn limits(&self) -> &Limits
+        ensures same { result.now ≡ self.now.limits }
+        ensures bounds { AreLimits self.now.limits }
+    {
+        &self.limits
+    }
+
+    /// How many edits were accepted. Takes no memory.
+    pub fn edits(&self) -> u64
+        ensures { result ≡ self.now.edits }
+    {
+        self.edits
+    }
+
+    /// How many places there are, dead ones too. Takes no memory.
+    pub fn len(&self) -> usize
+        ensures len { result ≡ length self.now.places }
+        ensures few { length self.now.places ≤ self.now.limits.places }
+        ensures fit { PlacesFit self.now.places }
+    {
+        self.rows.len()
+    }
+
+    /// How many row groups have a place. Takes no memory.
+    pub fn groups(&self) -> usize
+        ensures { result ≡ groups self.now.limits.group (length self.now.places) }
+    {
+        let size = self.limits.group as usize;
+        (self.rows.len() + size - 1) / size
+    }
+
+    /// Whether a place is alive; `None` where there is no such place. Takes no memory.
+    pub fn is_alive(&self, place: usize) -> Option<bool>
+        ensures { result ≡ option_map (λ p. p.alive) (slice_get self.now.places place) }
+    {
+        self.rows.is_alive(place)
+    }
+
+    /// The row of a place, each cell lent in place. Takes no memory.
+    ///
+    /// Refused with `Absent` (16) exactly where an object of the place's row group is away, naming the first in the order of
+    /// the columns.
+    pub fn row(&self, place: usize) -> Result<LentRow<'_>, Refusal>
+        requires { place < length self.now.places }
+        ensures row { IfOk result (λ row. option_map (λ p. p.cells) (slice_get self.now.places place) ≡ Some row) }
+        ensures refused { refusal_in result ≡ first_of (absents self.now.held (place / self.now.limits.group)) }
+    {
+        self.rows.row(place)
+    }
+
+    /// A row group, as it is lent to aggregates. Takes no memory.
+    pub fn group(&self, number: u32) -> RowGroup<'_, S>
+        ensures { result ≡ record { rows = self.now.held; group = number } }
+    {
+        RowGroup::new(&self.rows, number)
+    }
+
+    /// The rows over objects that hold the places. Takes no memory.
+    pub fn held(&self) -> &Rows<S>
+        ensures held { result.now ≡ self.now.held }
+        ensures rows { AreRows S.content self.now.held }
+        ensures kinds { map kind_of self.now.held.slots ≡ self.now.schema }
+        ensures places { self.now.places ≡ places_in S.content self.now.held }
+        ensures size { self.now.held.size ≡ self.now.limits.group }
+    {
+        // It tells what the rows are.
+        let _len = self.rows.len();
+        &self.rows
+    }
+
+    /// The row that was taken last, each cell lent in place. Takes no memory.
+    pub fn coming(&self) -> LentRow<'_>
+        ensures { result ≡ row_of self.now.held.slots self.now.coming }
+    {
+        // They tell how many slots there are, and that each is that of a column.
+        let _len = self.rows.len();
+        let _columns = self.schema.len();
+        self.coming.lend(self.rows.slots())
+    }
+}
+
+// How many columns of numbers and of texts there are.
+#[derive(Clone, Copy)]
+struct Widths {
+    numbers: usize,
+    texts: usize,
+}
+
+// How many columns of each kind a schema has.
+fn widths_of(schema: &Schema) -> Widths
+    ensures numbers { (size : ℕ) → result.numbers ≡ length (numbers_from size 0 schema.now) }
+    ensures texts { (size limit : ℕ) → result.texts ≡ length (texts_from size limit 0 schema.now) }
+{
+    let mut widths = Widths {
+        numbers: 0,
+        texts: 0,
+    };
+    for kind in schema.as_slice() {
+        match kind {
+            Kind::Int => widths.numbers += 1,
+            Kind::Text => widths.texts += 1,
+        }
+    }
+    widths
+}

@@ -1,0 +1,105 @@
+// Whether an edit may be made.
+ghost use Rattle.std.specs.Prelude.{◌≡◌, ◌==◌, ◌<◌, ◌*◌, ◌∷◌, [], length, Some, option_map, slice_get, OnOk, IfOk};
+ghost use Rattle.far_types.specs.declared.edit.Edit.TheVariants as edit;
+ghost use Rattle.far_types.specs.FirstOf.{first_of};
+ghost use Rattle.far_scopes.specs.Refusing.{refusal_in};
+ghost use Rattle.far_rows.specs.Slots.{row_of};
+ghost use Rattle.far_rows.specs.Setting.{cell_of};
+ghost use Rattle.far_table.specs.TableRows.{asked};
+ghost use Rattle.far_table.specs.Edits.{edit_due, MayPush, MayPut};
+ghost use Rattle.far_table.specs.Watching.{needed_from};
+
+use super::TableRows;
+use crate::faults::{cell_faults, living, row_faults};
+use far_rows::NewCell;
+use far_store::FarTickets;
+use far_types::{Cell, LentRow, Refusal, Row, Spec};
+
+impl<S: FarTickets> TableRows<S> {
+    /// Takes a row, if it may be appended. Takes no memory.
+    ///
+    /// Refused with `WrongKind` (5), `RowWidth` (6), `TextTooLong` (7), `TableFull` (10); `Absent` (16) where the last row group
+    /// is begun and an object of it is away, naming the first in the order of the columns; `ChunkFull` (11), `RegionFull`
+    /// (17) and `EditsUsedUp` (24): the first of these that applies. Where it is not refused, `push` can be refused with
+    /// `NoMemory` (1) alone.
+    pub fn may_insert(&mut self, row: Row) -> Result<(), Refusal>
+        ensures refused { refusal_in result ≡ edit_due (asked self.old) (edit.Insert row) }
+        ensures taken { OnOk result (row_of self.new.held.slots self.new.coming ≡ row) }
+        ensures free { OnOk result (MayPush S.content self.new) }
+        ensures stays { self.new ≡ record self.old { coming = self.new.coming } }
+    {
+        // They tell what the rows are, and that the row's numbers are those of 64 bits.
+        let len = self.rows.len();
+        let _cells = row.as_slice();
+        row_faults(&self.schema, &self.limits, len, &row)?;
+        self.coming.fill(self.rows.slots(), row);
+        self.rows.may_push(&self.coming)?;
+        self.may_count()
+    }
+
+    /// Whether a cell may be put in a column of a place, and the value that it is there. Takes no memory.
+    ///
+    /// Refused with `NoColumn` (4), `WrongKind` (5), `TextTooLong` (7), `NoRow` (8), `RemovedRow` (9); `Absent` (16) where an
+    /// object of the place's row group is away, naming the first in the order of the columns; `ChunkFull` (11), `RegionFull`
+    /// (17) and `EditsUsedUp` (24): the first of these that applies. Where it is not refused, `set` can be refused with
+    /// `NoMemory` (1) alone.
+    pub fn may_set(&self, column: u32, place: u32, cell: Cell) -> Result<NewCell, Refusal>
+        ensures refused { refusal_in result ≡ edit_due (asked self.now) (edit.Set place column cell) }
+        ensures cell { IfOk result (λ value. cell_of value ≡ cell) }
+        ensures free { IfOk result (MayPut S.content self.now column place) }
+    {
+        // It tells what the rows are.
+        let _len = self.rows.len();
+        cell_faults(&self.schema, column, self.is_alive(place as usize), &cell)?;
+        let Some(kind) = self.schema.get(column as usize) else {
+            unreachable!()
+        };
+        let value = NewCell::new(kind, cell);
+        self.rows.may_set(column as usize, place as usize, &value)?;
+        self.may_count()?;
+        Ok(value)
+    }
+
+    /// Whether a place may be removed, and its row, lent in place. Takes no memory.
+    ///
+    /// Refused with `NoRow` (8), `RemovedRow` (9); `Absent` (16) where an object of the place's row group is away, naming the
+    /// first in the order of the columns; and `EditsUsedUp` (24): the first of these that applies.
+    pub fn may_remove(&self, place: u32) -> Result<LentRow<'_>, Refusal>
+        ensures refused { refusal_in result ≡ edit_due (asked self.now) (edit.Remove place) }
+        ensures row { IfOk result (λ row. option_map (λ p. p.cells) (slice_get self.now.places place) ≡ Some row) }
+    {
+        // It tells what always holds of the rows.
+        let _len = self.rows.len();
+        living(self.is_alive(place as usize))?;
+        let row = self.row(place as usize)?;
+        self.may_count()?;
+        Ok(row)
+    }
+
+    /// Whether the columns that an aggregate needs are local in a row group, which has a place. Takes no memory.
+    ///
+    /// Refused with `Absent` (16) exactly where one is away, naming the first in the order of the columns.
+    pub fn may_scan(&self, spec: &Spec, group: u32) -> Result<(), Refusal>
+        requires { group * self.now.limits.group < length self.now.places }
+        ensures { refusal_in result ≡ first_of (needed_from self.now.held spec.now group 0 self.now.held.slots) }
+    {
+        // It tells what the rows are.
+        let _len = self.rows.len();
+        for column in 0..self.schema.len() {
+            if spec.needs(column as u32) {
+                self.rows.group_column(column, group)?;
+            }
+        }
+        Ok(())
+    }
+
+    // Whether one more edit is counted.
+    fn may_count(&self) -> Result<(), Refusal>
+        ensures { refusal_in result ≡ first_of ((self.now.edits == self.now.limits.edits, Refusal.EditsUsedUp) ∷ []) }
+    {
+        if self.edits == self.limits.edits {
+            return Err(Refusal::EditsUsedUp);
+        }
+        Ok(())
+    }
+}
