@@ -1,25 +1,2 @@
-pub mod AnswerLaws
-pub mod AskLaws
-pub mod BuiltLaws
-pub mod ColumnLaws
-pub mod ComingLaws
-pub mod CountLaws
-pub mod EditLaws
-pub mod ExtremaLaws
-pub mod FillLaws
-pub mod FormLaws
-pub mod GroupLaws
-pub mod KeepLaws
-pub mod ListLaws
-pub mod OverfillLaws
-pub mod PairLaws
-pub mod PlaceLaws
-pub mod ReadLaws
-pub mod RegisterLaws
-pub mod RoomLaws
-pub mod RowsLaws
-pub mod RunLaws
-pub mod ScanLaws
-pub mod UnderLaws
-pub mod UntilLaws
-pub mod Writes
+mod RunLaws
+mod ViewLaws

@@ -1,14 +1,3 @@
-pub mod Aggregates
-pub mod Changes
-pub mod Columns
-pub mod Coming
-pub mod Fills
-pub mod Going
-pub mod Kept
-pub mod Readings
-pub mod Rooms
-pub mod Rows
-pub mod Runs
-pub mod Scans
 pub mod Steps
-pub mod Until
+pub mod Runs
+pub mod Views

@@ -1,44 +1,60 @@
 // A table under lists of steps.
-ghost use Rattle.std.specs.Prelude.{◌≡◌, IfOk, IfErr, OnErr};
-ghost use Rattle.far_frame.specs.Steps.{IsStep, IsRun};
+ghost use Rattle.std.specs.Prelude.{◌≡◌, ◌×◌, IfOk, IfErr, OnErr, IsOk};
+ghost use Rattle.far_frame.specs.Steps.{Changes, IsStep, IsRun};
 
 use super::frame::Frame;
 use super::step::{Reply, Step};
+use far_store::{FarStore, Meter};
 use far_types::{Edit, Refusal, Spec};
 use std::marker::Model;
 
-/// A table, and all else that a step can see or change. Contracts see its state.
+/// A table, the store to which its objects go, and all else that a step can see or change.
 #[derive(Drop)]
-pub struct World {
-    frame: Frame,
+pub struct World<S: FarStore> {
+    frame: Frame<S>,
+    store: S,
+    meter: Meter,
 }
 
-impl Model for World {
-    ghost use Rattle.far_frame.specs.Steps.{State};
+impl<S: FarStore> Model for World<S> {
+    ghost use Rattle.far_frame.specs.Steps.{World};
 
-    ghost Value = { State };
+    ghost Value = { World S.Ticket };
 
-    ghost view = { λ world. world.frame };
+    ghost view = { λ world. record { state = world.frame; store = S.name world.store; faults = world.meter } };
 }
 
-impl World {
-    /// A world with this table. Takes no memory.
-    pub fn new(frame: Frame) -> World
-        ensures { result ≡ frame }
+impl<S: FarStore> World<S> {
+    /// A world with this table and this store, which met no fault yet. It takes no memory, so it is never refused: the frame and
+    /// the store are given back to those who match on both outcomes.
+    pub fn new(frame: Frame<S>, store: S) -> Result<World<S>, (Refusal, Frame<S>, S)>
+        ensures made { IsOk result }
+        ensures new { IfOk result (λ world. world ≡ record { state = frame; store = S.name store; faults = 0 }) }
     {
-        World { frame }
+        Ok(World {
+            frame,
+            store,
+            meter: Meter::new(),
+        })
     }
 
-    /// The table.
-    pub fn frame(&self) -> &Frame
-        ensures { result.now ≡ self.now }
+    /// The table. Takes no memory.
+    pub fn frame(&self) -> &Frame<S>
+        ensures { result.now ≡ self.now.state }
     {
         &self.frame
     }
 
+    /// The store to which the table's objects go. Takes no memory.
+    pub fn store(&self) -> &S
+        ensures { S.name result.now ≡ self.now.store }
+    {
+        &self.store
+    }
+
     /// Serves one step. There is a reply always; where it is a refusal, nothing was changed.
     pub fn serve(&mut self, step: Step) -> Reply
-        ensures { IsStep self.old step result self.new }
+        ensures { IsStep S.content self.old step result self.new }
     {
         match step {
             Step::Edit(edit) => serve_edit(&mut self.frame, edit),
@@ -60,8 +76,8 @@ impl World {
 }
 
 /// Serves an edit.
-fn serve_edit(frame: &mut Frame, edit: Edit) -> Reply
-    ensures { IsStep frame.old (Step.Edit edit) result frame.new }
+fn serve_edit<S: FarStore>(frame: &mut Frame<S>, edit: Edit) -> Reply
+    ensures { Changes S.content frame.old (Step.Edit edit) result frame.new }
 {
     match edit {
         Edit::Insert(row) => match frame.insert(row) {
@@ -84,8 +100,8 @@ fn serve_edit(frame: &mut Frame, edit: Edit) -> Reply
 }
 
 /// Serves a registration.
-fn serve_watch(frame: &mut Frame, spec: Spec) -> Reply
-    ensures { IsStep frame.old (Step.Watch spec) result frame.new }
+fn serve_watch<S: FarStore>(frame: &mut Frame<S>, spec: Spec) -> Reply
+    ensures { Changes S.content frame.old (Step.Watch spec) result frame.new }
 {
     match frame.watch(spec) {
         Ok(a) => Reply::Aggregate(a),
@@ -97,8 +113,8 @@ fn serve_watch(frame: &mut Frame, spec: Spec) -> Reply
 /// old one. So after any list of steps each aggregate that answers gives what folding it over the rows as they are
 /// gives, each edit's reply is the plain list's, and a refused step changes nothing. Refused with `NoMemory` (1) alone,
 /// before any step, and then nothing is changed.
-pub fn run(world: &mut World, steps: Vec<Step>) -> Result<Vec<Reply>, Refusal>
-    ensures run { IfOk result (λ replies. IsRun world.old steps.items replies.items world.new) }
+pub fn run<S: FarStore>(world: &mut World<S>, steps: Vec<Step>) -> Result<Vec<Reply>, Refusal>
+    ensures run { IfOk result (λ replies. IsRun S.content world.old steps.items replies.items world.new) }
     ensures unchanged { OnErr result (world.new ≡ world.old) }
     ensures memory { IfErr result (λ e. e ≡ Refusal.NoMemory) }
 {

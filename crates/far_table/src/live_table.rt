@@ -65,6 +65,16 @@ impl<S: FarTickets> LiveTable<S> {
         })
     }
 
+    /// The rows, and the limits that they are under. Takes no memory.
+    pub fn rows(&self) -> &TableRows<S>
+        ensures schema { result.now.schema ≡ self.now.table.schema }
+        ensures limits { result.now.limits ≡ self.now.table.limits }
+        ensures places { result.now.places ≡ self.now.table.places }
+        ensures held { result.now.held ≡ self.now.rows }
+    {
+        &self.rows
+    }
+
     /// Appends a row and gives its place. Refused as `TableRows::may_insert` says, else with `NoMemory` (1) alone; then nothing
     /// is changed.
     pub fn insert(&mut self, row: Row) -> Result<u32, Refusal>

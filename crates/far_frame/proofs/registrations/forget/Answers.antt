@@ -1,6 +1,0 @@
-use Rattle.std.proofs.Common.{None}
-use Rattle.far_frame.proofs.RegisterLaws.{registered-set}
-use Rattle.far_frame.proofs.registrations.forget.Goals as goal
-
-pub returns-clause-registered : goal.returns-clause-registered
-returns-clause-registered c = registered-set c.args.slots.now.items c.args.a None c.requires

@@ -1,7 +1,0 @@
-use Rattle.std.proofs.Common.{◌≡◌, ◌++◌, ◌-◌, drop, map, length, replicate, None}
-use Rattle.far_frame.specs.Aggregates.{free_from}
-use Rattle.far_frame.specs.Kept.{registered_in, registered_of}
-use Rattle.far_frame.proofs.registrations.free_number.Given as goal
-
-abbrev pub invariant-loop-i : goal.invariant-loop-i
-invariant-loop-i l = free_from l.i (map registered_in (drop l.i l.slots) ++ replicate (32 - length l.slots) None) ≡ free_from 0 (registered_of l.slots)

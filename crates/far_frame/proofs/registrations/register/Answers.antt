@@ -1,4 +1,0 @@
-use Rattle.far_frame.proofs.registrations.register.Goals as goal
-
-pub returns-clause-kept : goal.returns-clause-kept
-returns-clause-kept c = λ all count kept. c.put.ensures.kept c.args.size all kept (c.in_ok-aggregate.ensures.kept all count)
