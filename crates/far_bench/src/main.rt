@@ -8,6 +8,8 @@ use far_shell::run_script;
 use std::alloc::{AllocError, Global};
 use std::env;
 use std::io::{self, Write};
+use std::rt::Clock;
+use std::sync::Wait;
 use std::time::Instant;
 
 /// What a workload repeats.
@@ -77,7 +79,11 @@ fn script(alloc: Global, workload: Workload, lines: u32) -> Result<String, Alloc
 }
 
 /// Runs a workload, and says how long a line took, in nanoseconds.
-fn run(rt: &HostRuntime, workload: Workload, lines: u32) -> io::Result<u128> {
+fn run<R: Clock + Print + AllocGlobal + Sync + Wait>(
+    rt: &R,
+    workload: Workload,
+    lines: u32,
+) -> io::Result<u128> {
     let script = script(rt.alloc(), workload, lines)?;
     let start = Instant::now(rt)?;
     let outcome = run_script(rt, script.as_str().as_bytes(), &mut Nowhere);

@@ -3,6 +3,8 @@
 //! ends as it should. `NAME.txt` is a script and `NAME.out` what it prints.
 
 use far_shell::{ShellFault, run_script};
+use std::rt::Files;
+use std::sync::Wait;
 use std::{fs, io};
 
 /// Scripts that are run to their end.
@@ -63,7 +65,11 @@ const FAULTY_INPUTS: [&str; 3] = [
 ];
 
 /// Whether the script of this name prints its replies and ends with this fault, or with none.
-fn agrees(rt: &HostRuntime, name: &str, due: Option<ShellFault>) -> io::Result<bool> {
+fn agrees<R: Files + AllocGlobal + Sync + Wait>(
+    rt: &R,
+    name: &str,
+    due: Option<ShellFault>,
+) -> io::Result<bool> {
     let script = fs::read(rt, format!(in rt.alloc(); "{name}.txt")?.as_str())?;
     let replies = fs::read(rt, format!(in rt.alloc(); "{name}.out")?.as_str())?;
     let mut given = Vec::new(rt.alloc());
@@ -72,7 +78,11 @@ fn agrees(rt: &HostRuntime, name: &str, due: Option<ShellFault>) -> io::Result<b
 }
 
 /// Runs scripts that end with one fault, or with none.
-fn run_all(rt: &HostRuntime, names: &[&str], due: Option<ShellFault>) -> io::Result<()> {
+fn run_all<R: Files + Print + AllocGlobal + Sync + Wait>(
+    rt: &R,
+    names: &[&str],
+    due: Option<ShellFault>,
+) -> io::Result<()> {
     for name in names {
         if agrees(rt, name, due)? {
             println!(rt; "{name}: as written")?;

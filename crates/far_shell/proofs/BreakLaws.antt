@@ -75,11 +75,11 @@ cut-more fault.Input a b text f h = h
 cut-more fault.Output a b text f h = front-more a b text f h
 cut-more fault.Memory a b text f h = front-more a b text f h
 
-not-bad : (why : ShellFault) (at : At) {bytes text : List ℕ} → BreaksOff at why bytes text → why ≡ fault.BadStart → ⊥
-not-bad fault.BadStart at b e = b.cut
-not-bad fault.Input at b e = cc e
-not-bad fault.Output at b e = cc e
-not-bad fault.Memory at b e = cc e
+not-bad : {K : Type 0} (content : K → List ℕ) (why : ShellFault) (at : At K) {bytes text : List ℕ} → BreaksOff content at why bytes text → why ≡ fault.BadStart → ⊥
+not-bad content fault.BadStart at b e = b.cut
+not-bad content fault.Input at b e = cc e
+not-bad content fault.Output at b e = cc e
+not-bad content fault.Memory at b e = cc e
 
 pub prints-cut-none : (why : ShellFault) (answer : List ℕ → Type 0) (u v : Option (List ℕ)) (held left : List ℕ) → (why ≡ fault.BadStart → ⊥) → Prints u held [] v left → PrintsCut why answer u held v left
 prints-cut-none why answer u v held left other p = ([], p, cut-none why answer other)
@@ -196,106 +196,6 @@ module _ {R : Type 0} (read : Ghosts R) where
       stops-then before mid new line (λ behind. behind ≡ []) (HasNoTurn fails) p
       (λ behind h. inl (subst (λ (z : List ℕ). IsOneLine z) (sym (ap (λ (z : List ℕ). line ++ z) h ∙ append-nil line)) one)) (s.0, s.1, s.2, s.3, none)
 
-  -- how the lines of a script break off
-  abbrev pub Ending : Input R read → Input R read → Option (List ℕ) → Option (List ℕ) → List ℕ → List ℕ → At → ShellFault → Type 0
-  Ending first new a b h k old why = (all : List ℕ) × (rest : List ℕ) × (said : List ℕ) × Gives read why first new all rest × Prints a h said b k × BreaksOff old why all said
-
-  between : (first after new : Input R read) (a b : Option (List ℕ)) (h k : List ℕ) (old at : At) (bytes text : List ℕ) (why : ShellFault)
-      → IfInput why (Counts read first bytes new) → BreaksIn why at [] [] → Reads read first bytes after → Prints a h text b k → Answers old bytes text at → Ending first new a b h k old why
-  between first after new a b h k old at bytes text why counts cut p q r = (
-    bytes,
-    coming after,
-    text,
-    (starts first after bytes p, counts),
-    q,
-    record { before = bytes; printed = text; mid = at; answered = r; next = []; front = []; cut = cut; whole = sym (append-nil bytes); said = sym (append-nil text) },
-  )
-
-  -- no whole turn came behind
-  stopped : (first after new : Input R read) (a b : Option (List ℕ)) (h k : List ℕ) (old at : At) (bytes text : List ℕ)
-      → Reads read first bytes after → Prints a h text b k → Answers old bytes text at → Stops read (HasNoTurn (Fails at.state.table.schema)) after new → Ending first new a b h k old fault.Input
-  stopped first after new a b h k old at bytes text p q r s = (
-    bytes ++ s.0,
-    s.1,
-    text,
-    (starts-then first after bytes s.0 s.1 p s.2, counts-then first after new bytes s.0 p s.3),
-    q,
-    record { before = bytes; printed = text; mid = at; answered = r; next = s.0; front = []; cut = (refl, s.4); whole = refl; said = sym (append-nil text) },
-  )
-
-  -- a script breaks off between two lines
-  pub breaks-between : (first after new : Input R read) (a b : Option (List ℕ)) (h k : List ℕ) (old at : At) (bytes text : List ℕ) (why : ShellFault) → (why ≡ fault.BadStart → ⊥)
-      → Reads read first bytes after → Prints a h text b k → Answers old bytes text at → IfInput why (Stops read IsOneLine after new) → Ending first new a b h k old why
-  breaks-between first after new a b h k old at bytes text fault.BadStart other p q r s = absurd (other refl)
-  breaks-between first after new a b h k old at bytes text fault.Input other p q r s = stopped first after new a b h k old at bytes text p q r (s.0, s.1, s.2, s.3, inl s.4)
-  breaks-between first after new a b h k old at bytes text fault.Output other p q r s = between first after new a b h k old at bytes text fault.Output tt (refl, inl refl) p q r
-  breaks-between first after new a b h k old at bytes text fault.Memory other p q r s = between first after new a b h k old at bytes text fault.Memory tt (refl, inl refl) p q r
-
-  -- within a line
-  within-line : (first before mid new : Input R read) (a b c d : Option (List ℕ)) (h k l m : List ℕ) (old at : At) (raw bytes text front : List ℕ) (why : ShellFault)
-      → IfInput why (Counts read first (bytes ++ raw) new) → BreaksIn why at raw front
-      → Reads read first bytes before → Prints a h text b k → Answers old bytes text at → Reads read before (raw ++ 10 ∷ []) mid → Prints b k [] c l → Prints c l front d m → Ending first new a d h m old why
-  within-line first before mid new a b c d h k l m old at raw bytes text front why counts cut p q r s t u = (
-    bytes ++ raw,
-    10 ∷ coming mid,
-    text ++ front,
-    (
-      starts-split first (bytes ++ raw) (10 ∷ []) (coming mid)
-          (subst (λ (z : List ℕ). StartsWith read first z (coming mid)) (sym (append_assoc bytes raw (10 ∷ []))) (starts-then first before bytes (raw ++ 10 ∷ []) (coming mid) p (starts before mid (raw ++ 10 ∷ []) s))),
-      counts,
-    ),
-    prints-then a b d h text k front m q (prints-nothing-then b c d k l front m t u),
-    record { before = bytes; printed = text; mid = at; answered = r; next = raw; front = front; cut = cut; whole = refl; said = refl },
-  )
-
-  -- within the last line
-  within-last : (first before mid new : Input R read) (a b c d : Option (List ℕ)) (h k l m : List ℕ) (old at : At) (line bytes text front : List ℕ) (why : ShellFault)
-      → IfInput why (Counts read first (bytes ++ line) new) → BreaksIn why at line front
-      → Reads read first bytes before → Prints a h text b k → Answers old bytes text at → Reads read before line mid → Prints b k [] c l → Prints c l front d m → Ending first new a d h m old why
-  within-last first before mid new a b c d h k l m old at line bytes text front why counts cut p q r s t u = (
-    bytes ++ line,
-    coming mid,
-    text ++ front,
-    (starts-then first before bytes line (coming mid) p (starts before mid line s), counts),
-    prints-then a b d h text k front m q (prints-nothing-then b c d k l front m t u),
-    record { before = bytes; printed = text; mid = at; answered = r; next = line; front = front; cut = cut; whole = refl; said = refl },
-  )
-
-  nothing-printed : (a b c d : Option (List ℕ)) (h k l m text front : List ℕ) → Prints a h text b k → Prints b k [] c l → Prints c l front d m → front ≡ [] → Prints a h text d m
-  nothing-printed a b c d h k l m text front q t u none =
-      prints-then-nothing a b d h text k m q (prints-then-nothing b c d k [] l m t (subst (λ (z : List ℕ). Prints c l z d m) none u))
-
-  -- within the answer to a line
-  pub breaks-line : (first before mid new : Input R read) (a b c d : Option (List ℕ)) (h k l m : List ℕ) (old at : At) (line raw bytes text : List ℕ) (why : ShellFault)
-      → Reads read first bytes before → Prints a h text b k → Answers old bytes text at
-      → list_any (λ x. x == 10) raw ≡ false → line ≡ strip_last 13 raw → Reads read before (raw ++ 10 ∷ []) mid → Prints b k [] c l
-      → PrintsCut why (λ said. Lists at line said) c l d m → IfInput why (Stops read (λ behind. Fails at.state.table.schema line behind) mid new)
-      → Ending first new a d h m old why
-  breaks-line first before mid new a b c d h k l m old at line raw bytes text fault.BadStart p q r one stripped s t u v = absurd u.2
-  breaks-line first before mid new a b c d h k l m old at line raw bytes text fault.Input p q r one stripped s t u v =
-      stopped first before new a d h m old at bytes text p (nothing-printed a b c d h k l m text u.0 q t u.1 u.2) r (stops-line before mid new raw line (Fails at.state.table.schema) one stripped s v)
-  breaks-line first before mid new a b c d h k l m old at line raw bytes text fault.Output p q r one stripped s t u v =
-      within-line first before mid new a b c d h k l m old at raw bytes text u.0 fault.Output tt
-      (one, front-more (λ said. Lists at line said) (ListsNext at raw) u.0 (λ said n. inr (subst (λ (z : List ℕ). Lists at z said) stripped n)) u.2) p q r s t u.1
-  breaks-line first before mid new a b c d h k l m old at line raw bytes text fault.Memory p q r one stripped s t u v =
-      within-line first before mid new a b c d h k l m old at raw bytes text u.0 fault.Memory tt
-      (one, front-more (λ said. Lists at line said) (ListsNext at raw) u.0 (λ said n. inr (subst (λ (z : List ℕ). Lists at z said) stripped n)) u.2) p q r s t u.1
-
-  -- within the answer to the last line
-  pub breaks-last : (first before mid new : Input R read) (a b c d : Option (List ℕ)) (h k l m : List ℕ) (old at : At) (line bytes text : List ℕ) (why : ShellFault)
-      → Reads read first bytes before → Prints a h text b k → Answers old bytes text at
-      → list_any (λ x. x == 10) line ≡ false → Reads read before line mid → IsSpent read mid → Prints b k [] c l
-      → PrintsCut why (λ said. Lists at line said) c l d m → IfInput why (Stops read (λ behind. Fails at.state.table.schema line behind) mid new)
-      → Ending first new a d h m old why
-  breaks-last first before mid new a b c d h k l m old at line bytes text fault.BadStart p q r one s spent t u v = absurd u.2
-  breaks-last first before mid new a b c d h k l m old at line bytes text fault.Input p q r one s spent t u v =
-      stopped first before new a d h m old at bytes text p (nothing-printed a b c d h k l m text u.0 q t u.1 u.2) r
-      (stops-last before mid new line (Fails at.state.table.schema) (λ behind. Fails at.state.table.schema line behind) one s spent v)
-  breaks-last first before mid new a b c d h k l m old at line bytes text fault.Output p q r one s spent t u v =
-      within-last first before mid new a b c d h k l m old at line bytes text u.0 fault.Output tt (one, front-more (λ said. Lists at line said) (ListsNext at line) u.0 (λ said n. inl n) u.2) p q r s t u.1
-  breaks-last first before mid new a b c d h k l m old at line bytes text fault.Memory p q r one s spent t u v =
-      within-last first before mid new a b c d h k l m old at line bytes text u.0 fault.Memory tt (one, front-more (λ said. Lists at line said) (ListsNext at line) u.0 (λ said n. inl n) u.2) p q r s t u.1
-
   -- a line that came is no text
   pub no-text-line : (before mid : Input R read) (raw line : List ℕ) → list_any (λ x. x == 10) raw ≡ false → line ≡ strip_last 13 raw → Reads read before (raw ++ 10 ∷ []) mid → (IsUtf8 line → ⊥)
       → Stops read (HasNoTurn (λ line behind. ¬ (IsUtf8 line))) before mid
@@ -305,33 +205,139 @@ module _ {R : Type 0} (read : Ghosts R) where
       → Stops read (HasNoTurn (λ line behind. ¬ (IsUtf8 line))) before mid
   no-text-last before mid line one p spent h = stops-last before mid mid line (λ line behind. ¬ (IsUtf8 line)) (λ behind. ¬ (IsUtf8 line)) one p spent (stops-here mid mid (λ behind. ¬ (IsUtf8 line)) refl h)
 
+  pub no-line : (why : ShellFault) (before new : Input R read) → IfInput why (Stops read IsOneLine before new) → IfInput why (Stops read (HasNoTurn (λ line behind. ¬ (IsUtf8 line))) before new)
+  no-line why before new h =
+      if-input why (Stops read IsOneLine before new) (Stops read (HasNoTurn (λ line behind. ¬ (IsUtf8 line))) before new)
+      (λ s. stops-more before new IsOneLine (HasNoTurn (λ line behind. ¬ (IsUtf8 line))) (λ bytes one. inl one) s) h
+
+nothing-printed : (a b c d : Option (List ℕ)) (h k l m text front : List ℕ) → Prints a h text b k → Prints b k [] c l → Prints c l front d m → front ≡ [] → Prints a h text d m
+nothing-printed a b c d h k l m text front q t u none =
+    prints-then-nothing a b d h text k m q (prints-then-nothing b c d k [] l m t (subst (λ (z : List ℕ). Prints c l z d m) none u))
+
+module _ {R : Type 0} (read : Ghosts R) {K : Type 0} (content : K → List ℕ) where
+  -- how the lines of a script break off
+  abbrev pub Ending : Input R read → Input R read → Option (List ℕ) → Option (List ℕ) → List ℕ → List ℕ → At K → ShellFault → Type 0
+  Ending first new a b h k old why = (all : List ℕ) × (rest : List ℕ) × (said : List ℕ) × Gives read why first new all rest × Prints a h said b k × BreaksOff content old why all said
+
+  between : (first after new : Input R read) (a b : Option (List ℕ)) (h k : List ℕ) (old at : At K) (bytes text : List ℕ) (why : ShellFault)
+      → IfInput why (Counts read first bytes new) → BreaksIn why at [] [] → Reads read first bytes after → Prints a h text b k → Answers content old bytes text at → Ending first new a b h k old why
+  between first after new a b h k old at bytes text why counts cut p q r = (
+    bytes,
+    coming read after,
+    text,
+    (starts read first after bytes p, counts),
+    q,
+    record { before = bytes; printed = text; mid = at; answered = r; next = []; front = []; cut = cut; whole = sym (append-nil bytes); said = sym (append-nil text) },
+  )
+
+  -- no whole turn came behind
+  stopped : (first after new : Input R read) (a b : Option (List ℕ)) (h k : List ℕ) (old at : At K) (bytes text : List ℕ)
+      → Reads read first bytes after → Prints a h text b k → Answers content old bytes text at → Stops read (HasNoTurn (Fails at.world.state.table.schema)) after new → Ending first new a b h k old fault.Input
+  stopped first after new a b h k old at bytes text p q r s = (
+    bytes ++ s.0,
+    s.1,
+    text,
+    (starts-then read first after bytes s.0 s.1 p s.2, counts-then read first after new bytes s.0 p s.3),
+    q,
+    record { before = bytes; printed = text; mid = at; answered = r; next = s.0; front = []; cut = (refl, s.4); whole = refl; said = sym (append-nil text) },
+  )
+
+  -- a script breaks off between two lines
+  pub breaks-between : (first after new : Input R read) (a b : Option (List ℕ)) (h k : List ℕ) (old at : At K) (bytes text : List ℕ) (why : ShellFault) → (why ≡ fault.BadStart → ⊥)
+      → Reads read first bytes after → Prints a h text b k → Answers content old bytes text at → IfInput why (Stops read IsOneLine after new) → Ending first new a b h k old why
+  breaks-between first after new a b h k old at bytes text fault.BadStart other p q r s = absurd (other refl)
+  breaks-between first after new a b h k old at bytes text fault.Input other p q r s = stopped first after new a b h k old at bytes text p q r (s.0, s.1, s.2, s.3, inl s.4)
+  breaks-between first after new a b h k old at bytes text fault.Output other p q r s = between first after new a b h k old at bytes text fault.Output tt (refl, inl refl) p q r
+  breaks-between first after new a b h k old at bytes text fault.Memory other p q r s = between first after new a b h k old at bytes text fault.Memory tt (refl, inl refl) p q r
+
+  -- within a line
+  within-line : (first before mid new : Input R read) (a b c d : Option (List ℕ)) (h k l m : List ℕ) (old at : At K) (raw bytes text front : List ℕ) (why : ShellFault)
+      → IfInput why (Counts read first (bytes ++ raw) new) → BreaksIn why at raw front
+      → Reads read first bytes before → Prints a h text b k → Answers content old bytes text at → Reads read before (raw ++ 10 ∷ []) mid → Prints b k [] c l → Prints c l front d m → Ending first new a d h m old why
+  within-line first before mid new a b c d h k l m old at raw bytes text front why counts cut p q r s t u = (
+    bytes ++ raw,
+    10 ∷ coming read mid,
+    text ++ front,
+    (
+      starts-split read first (bytes ++ raw) (10 ∷ []) (coming read mid)
+          (subst (λ (z : List ℕ). StartsWith read first z (coming read mid)) (sym (append_assoc bytes raw (10 ∷ []))) (starts-then read first before bytes (raw ++ 10 ∷ []) (coming read mid) p (starts read before mid (raw ++ 10 ∷ []) s))),
+      counts,
+    ),
+    prints-then a b d h text k front m q (prints-nothing-then b c d k l front m t u),
+    record { before = bytes; printed = text; mid = at; answered = r; next = raw; front = front; cut = cut; whole = refl; said = refl },
+  )
+
+  -- within the last line
+  within-last : (first before mid new : Input R read) (a b c d : Option (List ℕ)) (h k l m : List ℕ) (old at : At K) (line bytes text front : List ℕ) (why : ShellFault)
+      → IfInput why (Counts read first (bytes ++ line) new) → BreaksIn why at line front
+      → Reads read first bytes before → Prints a h text b k → Answers content old bytes text at → Reads read before line mid → Prints b k [] c l → Prints c l front d m → Ending first new a d h m old why
+  within-last first before mid new a b c d h k l m old at line bytes text front why counts cut p q r s t u = (
+    bytes ++ line,
+    coming read mid,
+    text ++ front,
+    (starts-then read first before bytes line (coming read mid) p (starts read before mid line s), counts),
+    prints-then a b d h text k front m q (prints-nothing-then b c d k l front m t u),
+    record { before = bytes; printed = text; mid = at; answered = r; next = line; front = front; cut = cut; whole = refl; said = refl },
+  )
+
+  -- within the answer to a line
+  pub breaks-line : (first before mid new : Input R read) (a b c d : Option (List ℕ)) (h k l m : List ℕ) (old at : At K) (line raw bytes text : List ℕ) (why : ShellFault)
+      → Reads read first bytes before → Prints a h text b k → Answers content old bytes text at
+      → list_any (λ x. x == 10) raw ≡ false → line ≡ strip_last 13 raw → Reads read before (raw ++ 10 ∷ []) mid → Prints b k [] c l
+      → PrintsCut why (λ said. Lists at line said) c l d m → IfInput why (Stops read (λ behind. Fails at.world.state.table.schema line behind) mid new)
+      → Ending first new a d h m old why
+  breaks-line first before mid new a b c d h k l m old at line raw bytes text fault.BadStart p q r one stripped s t u v = absurd u.2
+  breaks-line first before mid new a b c d h k l m old at line raw bytes text fault.Input p q r one stripped s t u v =
+      stopped first before new a d h m old at bytes text p (nothing-printed a b c d h k l m text u.0 q t u.1 u.2) r (stops-line read before mid new raw line (Fails at.world.state.table.schema) one stripped s v)
+  breaks-line first before mid new a b c d h k l m old at line raw bytes text fault.Output p q r one stripped s t u v =
+      within-line first before mid new a b c d h k l m old at raw bytes text u.0 fault.Output tt
+      (one, front-more (λ said. Lists at line said) (ListsNext at raw) u.0 (λ said n. inr (subst (λ (z : List ℕ). Lists at z said) stripped n)) u.2) p q r s t u.1
+  breaks-line first before mid new a b c d h k l m old at line raw bytes text fault.Memory p q r one stripped s t u v =
+      within-line first before mid new a b c d h k l m old at raw bytes text u.0 fault.Memory tt
+      (one, front-more (λ said. Lists at line said) (ListsNext at raw) u.0 (λ said n. inr (subst (λ (z : List ℕ). Lists at z said) stripped n)) u.2) p q r s t u.1
+
+  -- within the answer to the last line
+  pub breaks-last : (first before mid new : Input R read) (a b c d : Option (List ℕ)) (h k l m : List ℕ) (old at : At K) (line bytes text : List ℕ) (why : ShellFault)
+      → Reads read first bytes before → Prints a h text b k → Answers content old bytes text at
+      → list_any (λ x. x == 10) line ≡ false → Reads read before line mid → IsSpent read mid → Prints b k [] c l
+      → PrintsCut why (λ said. Lists at line said) c l d m → IfInput why (Stops read (λ behind. Fails at.world.state.table.schema line behind) mid new)
+      → Ending first new a d h m old why
+  breaks-last first before mid new a b c d h k l m old at line bytes text fault.BadStart p q r one s spent t u v = absurd u.2
+  breaks-last first before mid new a b c d h k l m old at line bytes text fault.Input p q r one s spent t u v =
+      stopped first before new a d h m old at bytes text p (nothing-printed a b c d h k l m text u.0 q t u.1 u.2) r
+      (stops-last read before mid new line (Fails at.world.state.table.schema) (λ behind. Fails at.world.state.table.schema line behind) one s spent v)
+  breaks-last first before mid new a b c d h k l m old at line bytes text fault.Output p q r one s spent t u v =
+      within-last first before mid new a b c d h k l m old at line bytes text u.0 fault.Output tt (one, front-more (λ said. Lists at line said) (ListsNext at line) u.0 (λ said n. inl n) u.2) p q r s t u.1
+  breaks-last first before mid new a b c d h k l m old at line bytes text fault.Memory p q r one s spent t u v =
+      within-last first before mid new a b c d h k l m old at line bytes text u.0 fault.Memory tt (one, front-more (λ said. Lists at line said) (ListsNext at line) u.0 (λ said n. inl n) u.2) p q r s t u.1
+
 -- a script of which nothing is printed
 pub starts-none : (known : Option (List ℕ)) → IfSome known (λ script. script ≡ [] ++ unwrap_or known [])
 starts-none None = tt
 starts-none (Some xs) = refl
 
-broken-first : (why : ShellFault) (line text bytes rest : List ℕ) → Rejection why line text → (IsRejected line text → Rejects bytes (rest ≡ []) text) → IsBroken why bytes rest text
-broken-first fault.BadStart line text bytes rest h f = f h
-broken-first fault.Input line text bytes rest h f = absurd h
-broken-first fault.Output line text bytes rest h f = absurd h
-broken-first fault.Memory line text bytes rest h f = inl h
+broken-first : {K : Type 0} (content : K → List ℕ) (why : ShellFault) (line text bytes rest : List ℕ) → Rejection why line text → (IsRejected line text → Rejects bytes (rest ≡ []) text) → IsBroken content why bytes rest text
+broken-first content fault.BadStart line text bytes rest h f = f h
+broken-first content fault.Input line text bytes rest h f = absurd h
+broken-first content fault.Output line text bytes rest h f = absurd h
+broken-first content fault.Memory line text bytes rest h f = inl h
 
-broken-later : (why : ShellFault) (bytes rest text : List ℕ) → (why ≡ fault.BadStart → ⊥) → BreaksLater why bytes rest text → IsBroken why bytes rest text
-broken-later fault.BadStart bytes rest text other h = absurd (other refl)
-broken-later fault.Input bytes rest text other h = inr h
-broken-later fault.Output bytes rest text other h = inr h
-broken-later fault.Memory bytes rest text other h = inr h
+broken-later : {K : Type 0} (content : K → List ℕ) (why : ShellFault) (bytes rest text : List ℕ) → (why ≡ fault.BadStart → ⊥) → BreaksLater content why bytes rest text → IsBroken content why bytes rest text
+broken-later content fault.BadStart bytes rest text other h = absurd (other refl)
+broken-later content fault.Input bytes rest text other h = inr h
+broken-later content fault.Output bytes rest text other h = inr h
+broken-later content fault.Memory bytes rest text other h = inr h
 
-ends-by : (why : ShellFault) (bytes rest text lost : List ℕ) → IsBroken why bytes rest text → lost ≡ [] → EndsBy why bytes rest text lost
-ends-by fault.BadStart bytes rest text lost h none = (h, none)
-ends-by fault.Input bytes rest text lost h none = (h, none)
-ends-by fault.Output bytes rest text lost h none = inr (fault.Output, h)
-ends-by fault.Memory bytes rest text lost h none = (h, none)
+ends-by : {K : Type 0} (content : K → List ℕ) (why : ShellFault) (bytes rest text lost : List ℕ) → IsBroken content why bytes rest text → lost ≡ [] → EndsBy content why bytes rest text lost
+ends-by content fault.BadStart bytes rest text lost h none = (h, none)
+ends-by content fault.Input bytes rest text lost h none = (h, none)
+ends-by content fault.Output bytes rest text lost h none = inr (fault.Output, h)
+ends-by content fault.Memory bytes rest text lost h none = (h, none)
 
-module _ {R : Type 0} (read : Ghosts R) where
+module _ {R : Type 0} (read : Ghosts R) {K : Type 0} (content : K → List ℕ) where
   -- how the first command of a script breaks off
   abbrev pub Starting : Input R read → Input R read → Option (List ℕ) → Option (List ℕ) → List ℕ → List ℕ → ShellFault → Type 0
-  Starting first new a b h k why = (bytes : List ℕ) × (rest : List ℕ) × (text : List ℕ) × Gives read why first new bytes rest × Prints a h text b k × IsBroken why bytes rest text
+  Starting first new a b h k why = (bytes : List ℕ) × (rest : List ℕ) × (text : List ℕ) × Gives read why first new bytes rest × Prints a h text b k × IsBroken content why bytes rest text
 
   -- no command was read yet
   pub breaks-first : (first before new : Input R read) (a b : Option (List ℕ)) (h k blank : List ℕ) (blanks : List (List ℕ)) (why : ShellFault) → (why ≡ fault.BadStart → ⊥)
@@ -348,11 +354,6 @@ module _ {R : Type 0} (read : Ghosts R) where
   breaks-first first before new a b h k blank blanks fault.Output other p empty q s = ([], coming read first, [], (starts read first first [] (reads-none read first first refl), tt), q, inl refl)
   breaks-first first before new a b h k blank blanks fault.Memory other p empty q s = ([], coming read first, [], (starts read first first [] (reads-none read first first refl), tt), q, inl refl)
 
-  pub no-line : (why : ShellFault) (before new : Input R read) → IfInput why (Stops read IsOneLine before new) → IfInput why (Stops read (HasNoTurn (λ line behind. ¬ (IsUtf8 line))) before new)
-  no-line why before new h =
-      if-input why (Stops read IsOneLine before new) (Stops read (HasNoTurn (λ line behind. ¬ (IsUtf8 line))) before new)
-      (λ s. stops-more read before new IsOneLine (HasNoTurn (λ line behind. ¬ (IsUtf8 line))) (λ bytes one. inl one) s) h
-
   -- the first command, a whole line, opens no table
   pub rejects-line : (old before mid : Input R read) (u v w : Option (List ℕ)) (held k l left bytes raw line given text : List ℕ) (blanks : List (List ℕ)) (why : ShellFault)
       → Reads read old bytes before → Prints u held [] v k → Blank bytes blanks
@@ -365,7 +366,7 @@ module _ {R : Type 0} (read : Ghosts R) where
     text,
     (starts-then read old before bytes (raw ++ 10 ∷ []) (coming read mid) p (starts read before mid (raw ++ 10 ∷ []) s), rejected-input why given text (Counts read old (bytes ++ (raw ++ 10 ∷ [])) mid) h),
     prints-nothing-then u v w held k text left q (prints-nothing-then v w w k l text left t (prints w l text left e)),
-    broken-first why given text (bytes ++ (raw ++ 10 ∷ [])) (coming read mid) h (λ rejected. record {
+    broken-first content why given text (bytes ++ (raw ++ 10 ∷ [])) (coming read mid) h (λ rejected. record {
       blanks = blanks;
       blank = bytes;
       empty = b;
@@ -389,7 +390,7 @@ module _ {R : Type 0} (read : Ghosts R) where
     text,
     (starts-then read old before bytes line (coming read mid) p (starts read before mid line s), rejected-input why given text (Counts read old (bytes ++ line) mid) h),
     prints-nothing-then u v w held k text left q (prints-nothing-then v w w k l text left t (prints w l text left e)),
-    broken-first why given text (bytes ++ line) (coming read mid) h (λ rejected. record {
+    broken-first content why given text (bytes ++ line) (coming read mid) h (λ rejected. record {
       blanks = blanks;
       blank = bytes;
       empty = b;
@@ -418,9 +419,9 @@ module _ {R : Type 0} (read : Ghosts R) where
   )
 
   -- behind the first command
-  pub breaks-later : (old mid new : Input R read) (u v w : Option (List ℕ)) (held k left first bytes rest text : List ℕ) (at : At) (why : ShellFault)
+  pub breaks-later : (old mid new : Input R read) (u v w : Option (List ℕ)) (held k left first bytes rest text : List ℕ) (at : At K) (why : ShellFault)
       → held ≡ [] → Reads read old first mid → Prints u held (codes "ok\n") v k → Opens first (IsSpent read mid) at
-      → Gives read why mid new bytes rest → Prints v k text w left → BreaksOff at why bytes text
+      → Gives read why mid new bytes rest → Prints v k text w left → BreaksOff content at why bytes text
       → Starting old new u w [] left why
   breaks-later old mid new u v w held k left first bytes rest text at why empty p q o g t b = (
     first ++ bytes,
@@ -428,34 +429,34 @@ module _ {R : Type 0} (read : Ghosts R) where
     codes "ok\n" ++ text,
     gives-then read old mid new first bytes rest why p g,
     subst (λ (z : List ℕ). Prints u z (codes "ok\n" ++ text) w left) empty (prints-then u v w held (codes "ok\n") k text left q t),
-    broken-later why (first ++ bytes) rest (codes "ok\n" ++ text) (not-bad why at b)
+    broken-later content why (first ++ bytes) rest (codes "ok\n" ++ text) (not-bad content why at b)
         (record { first = first; at = at; more = bytes; tail = text; opens = opens-then first (IsSpent read mid) (bytes ++ rest ≡ []) at g.0.1 o; breaks = b; whole = refl; said = refl }),
   )
 
 -- a script is broken off, and what was printed is written
-pub breaks-written : (splits : List ℕ → List ℕ → Type 0) (u v w : Option (List ℕ)) (why : ShellFault) (bytes rest text left : List ℕ) → splits bytes rest → Prints u [] text v left → IsBroken why bytes rest text
-    → Prints v left [] w [] → Breaks splits u w why
-breaks-written splits u v w why bytes rest text left begins p b q =
+pub breaks-written : {K : Type 0} (content : K → List ℕ) (splits : List ℕ → List ℕ → Type 0) (u v w : Option (List ℕ)) (why : ShellFault) (bytes rest text left : List ℕ) → splits bytes rest → Prints u [] text v left → IsBroken content why bytes rest text
+    → Prints v left [] w [] → Breaks content splits u w why
+breaks-written content splits u v w why bytes rest text left begins p b q =
     let all = prints-then-nothing u v w [] text left [] p q in
-    record { bytes = bytes; rest = rest; begins = begins; text = text; sent = all.0; lost = []; written = all.1; said = all.2; ends = ends-by why bytes rest text [] b refl }
+    record { bytes = bytes; rest = rest; begins = begins; text = text; sent = all.0; lost = []; written = all.1; said = all.2; ends = ends-by content why bytes rest text [] b refl }
 
 -- a script is broken off, and then a write fails
-pub breaks-unwritten : (splits : List ℕ → List ℕ → Type 0) (u v w : Option (List ℕ)) (why : ShellFault) (bytes rest text left lost : List ℕ) → splits bytes rest → Prints u [] text v left → IsBroken why bytes rest text
-    → Prints v left [] w lost → Breaks splits u w fault.Output
-breaks-unwritten splits u v w why bytes rest text left lost begins p b q =
+pub breaks-unwritten : {K : Type 0} (content : K → List ℕ) (splits : List ℕ → List ℕ → Type 0) (u v w : Option (List ℕ)) (why : ShellFault) (bytes rest text left lost : List ℕ) → splits bytes rest → Prints u [] text v left → IsBroken content why bytes rest text
+    → Prints v left [] w lost → Breaks content splits u w fault.Output
+breaks-unwritten content splits u v w why bytes rest text left lost begins p b q =
     let all = prints-then-nothing u v w [] text left lost p q in
     record { bytes = bytes; rest = rest; begins = begins; text = text; sent = all.0; lost = lost; written = all.1; said = all.2; ends = inr (why, b) }
 
 -- a whole script is answered, and then a write fails
-pub whole-unwritten : (splits : List ℕ → List ℕ → Type 0) (u v w : Option (List ℕ)) (script rest text left lost : List ℕ) → splits script rest → Prints u [] text v left → IsScript script text → Prints v left [] w lost
-    → Breaks splits u w fault.Output
-whole-unwritten splits u v w script rest text left lost begins p s q =
+pub whole-unwritten : {K : Type 0} (content : K → List ℕ) (splits : List ℕ → List ℕ → Type 0) (u v w : Option (List ℕ)) (script rest text left lost : List ℕ) → splits script rest → Prints u [] text v left → IsScript content script text → Prints v left [] w lost
+    → Breaks content splits u w fault.Output
+whole-unwritten content splits u v w script rest text left lost begins p s q =
     let all = prints-then-nothing u v w [] text left lost p q in
     record { bytes = script; rest = rest; begins = begins; text = text; sent = all.0; lost = lost; written = all.1; said = all.2; ends = inl s }
 
 -- the same of another split
-pub breaks-as : (splits others : List ℕ → List ℕ → Type 0) (u v : Option (List ℕ)) (why : ShellFault) → ((bytes rest : List ℕ) → splits bytes rest → others bytes rest) → Breaks splits u v why → Breaks others u v why
-breaks-as splits others u v why f b =
+pub breaks-as : {K : Type 0} (content : K → List ℕ) (splits others : List ℕ → List ℕ → Type 0) (u v : Option (List ℕ)) (why : ShellFault) → ((bytes rest : List ℕ) → splits bytes rest → others bytes rest) → Breaks content splits u v why → Breaks content others u v why
+breaks-as content splits others u v why f b =
     record { bytes = b.bytes; rest = b.rest; begins = f b.bytes b.rest b.begins; text = b.text; sent = b.sent; lost = b.lost; written = b.written; said = b.said; ends = b.ends }
 
 module _ {R : Type 0} (read : Ghosts R) where
@@ -467,6 +468,6 @@ module _ {R : Type 0} (read : Ghosts R) where
       (subst (λ (z : List ℕ). IfSome (read.remaining input.source.reader) (λ script. z ++ script ≡ bytes ++ rest)) none g.0.0)
 
 -- nothing was read
-pub breaks-none : (known u : Option (List ℕ)) → Breaks (λ bytes rest. IfSome known (λ script. script ≡ bytes ++ rest)) u u fault.Memory
-breaks-none known u =
+pub breaks-none : {K : Type 0} (content : K → List ℕ) (known u : Option (List ℕ)) → Breaks content (λ bytes rest. IfSome known (λ script. script ≡ bytes ++ rest)) u u fault.Memory
+breaks-none content known u =
     record { bytes = []; rest = unwrap_or known []; begins = starts-none known; text = []; sent = []; lost = []; written = Appends-nil u; said = refl; ends = (inl refl, refl) }

@@ -10,7 +10,7 @@ use Rattle.far_shell.specs.declared.command.Command.{Command}
 use Rattle.far_shell.specs.declared.command.Command.TheVariants as command
 use Rattle.far_shell.specs.Commands.{command_of}
 use Rattle.far_shell.specs.Flow.{Prints}
-use Rattle.far_shell.specs.Listings.{dump_text}
+use Rattle.far_shell.specs.Listings.{listing_of}
 use Rattle.far_shell.specs.Openings.{Opened, opening_of}
 use Rattle.far_shell.specs.Printing.{refusal_text}
 use Rattle.far_shell.specs.Progress.{At}
@@ -31,14 +31,6 @@ CutOff fault.Memory answer text = IsFront answer text
 abbrev pub PrintsCut : ShellFault → (List ℕ → Type 0) → Option (List ℕ) → List ℕ → Option (List ℕ) → List ℕ → Type 0
 PrintsCut why answer old held new left = (text : List ℕ) × Prints old held text new left × CutOff why answer text
 
--- a line asks for a dump, and this is what is listed
-abbrev pub Lists : At → List ℕ → List ℕ → Type 0
-Lists at line text = (command_of at.state.table.schema line ≡ Some command.Dump) × (text ≡ dump_text at.state.table)
-
--- the same of a line that may have lost a carriage return
-abbrev pub ListsNext : At → List ℕ → List ℕ → Type 0
-ListsNext at bytes text = Lists at bytes text ⊎ Lists at (without_return bytes) text
-
 -- a load whose bytes did not all come, or are no text
 abbrev pub FailsBy : Option Command → List ℕ → Type 0
 FailsBy asked behind = (count : ℕ) × (asked ≡ Some (command.Load count)) × ((length behind < count) ⊎ ¬ (IsUtf8 (take count behind)))
@@ -51,26 +43,6 @@ Fails kinds line behind = ¬ (IsUtf8 line) ⊎ FailsBy (command_of kinds line) b
 abbrev pub HasNoTurn : (List ℕ → List ℕ → Type 0) → List ℕ → Type 0
 HasNoTurn fails bytes = IsOneLine bytes
     ⊎ ((line : List ℕ) × (behind : List ℕ) × IsOneLine line × (bytes ≡ line ++ 10 ∷ behind) × fails (without_return line) behind)
-
--- what follows the lines that were answered, and what is printed for it. Of an input at fault it is all that came: no whole
--- turn. Else it is a line, and where it asks for a dump, a front of it may be printed
-abbrev pub BreaksIn : ShellFault → At → List ℕ → List ℕ → Type 0
-BreaksIn fault.BadStart at next front = ⊥
-BreaksIn fault.Input at next front = (front ≡ []) × HasNoTurn (Fails at.state.table.schema) next
-BreaksIn fault.Output at next front = IsOneLine next × IsFront (ListsNext at next) front
-BreaksIn fault.Memory at next front = IsOneLine next × IsFront (ListsNext at next) front
-
--- behind the first command a script breaks off: whole lines are answered, and then no more
-pub record BreaksOff (old : At) (why : ShellFault) (bytes text : List ℕ) : Type 0 where
-  pub before : List ℕ
-  pub printed : List ℕ
-  pub mid : At
-  pub answered : Answers old before printed mid
-  pub next : List ℕ
-  pub front : List ℕ
-  pub cut : BreaksIn why mid next front
-  pub whole : bytes ≡ before ++ next
-  pub said : text ≡ printed ++ front
 
 -- a line opens no table, and this is printed for it
 abbrev pub IsRejected : List ℕ → List ℕ → Type 0
@@ -100,17 +72,6 @@ pub record Rejects (bytes : List ℕ) (spent : Type 0) (text : List ℕ) : Type 
   pub rejected : RejectsLine line first spent text
   pub whole : bytes ≡ blank ++ first
 
--- a script breaks off behind its first command
-pub record BreaksLater (why : ShellFault) (bytes rest text : List ℕ) : Type 0 where
-  pub first : List ℕ
-  pub at : At
-  pub more : List ℕ
-  pub tail : List ℕ
-  pub opens : Opens first (more ++ rest ≡ []) at
-  pub breaks : BreaksOff at why more tail
-  pub whole : bytes ≡ first ++ more
-  pub said : text ≡ codes "ok\n" ++ tail
-
 -- no first command came: behind empty lines none has its end, or the first is no text
 pub record HasNoStart (bytes : List ℕ) : Type 0 where
   pub blanks : List (List ℕ)
@@ -120,29 +81,70 @@ pub record HasNoStart (bytes : List ℕ) : Type 0 where
   pub none : HasNoTurn (λ line behind. ¬ (IsUtf8 line)) next
   pub whole : bytes ≡ blank ++ next
 
--- what these first bytes of a script, with the rest behind them, are answered up to a fault
-abbrev pub IsBroken : ShellFault → List ℕ → List ℕ → List ℕ → Type 0
-IsBroken fault.BadStart bytes rest text = Rejects bytes (rest ≡ []) text
-IsBroken fault.Input bytes rest text = (HasNoStart bytes × (text ≡ [])) ⊎ BreaksLater fault.Input bytes rest text
-IsBroken fault.Output bytes rest text = (text ≡ []) ⊎ BreaksLater fault.Output bytes rest text
-IsBroken fault.Memory bytes rest text = (text ≡ []) ⊎ BreaksLater fault.Memory bytes rest text
+module _ {K : Type 0} where
+  -- a line asks for a dump, and this is what is listed
+  abbrev pub Lists : At K → List ℕ → List ℕ → Type 0
+  Lists at line text = (command_of at.world.state.table.schema line ≡ Some command.Dump) × (text ≡ listing_of at.world.state)
 
--- the same, with what the writer did not take: all was written, unless the fault is the writer's
-abbrev pub EndsBy : ShellFault → List ℕ → List ℕ → List ℕ → List ℕ → Type 0
-EndsBy fault.BadStart bytes rest text lost = IsBroken fault.BadStart bytes rest text × (lost ≡ [])
-EndsBy fault.Input bytes rest text lost = IsBroken fault.Input bytes rest text × (lost ≡ [])
-EndsBy fault.Memory bytes rest text lost = IsBroken fault.Memory bytes rest text × (lost ≡ [])
-EndsBy fault.Output bytes rest text lost = IsScript bytes text ⊎ ((why : ShellFault) × IsBroken why bytes rest text)
+  -- the same of a line that may have lost a carriage return
+  abbrev pub ListsNext : At K → List ℕ → List ℕ → Type 0
+  ListsNext at bytes text = Lists at bytes text ⊎ Lists at (without_return bytes) text
 
--- a script ends early: of what its first bytes are answered a front was written. How it is split is told by the first
--- argument
-pub record Breaks (splits : List ℕ → List ℕ → Type 0) (old new : Option (List ℕ)) (why : ShellFault) : Type 0 where
-  pub bytes : List ℕ
-  pub rest : List ℕ
-  pub begins : splits bytes rest
-  pub text : List ℕ
-  pub sent : List ℕ
-  pub lost : List ℕ
-  pub written : Appends old new sent
-  pub said : text ≡ sent ++ lost
-  pub ends : EndsBy why bytes rest text lost
+  -- what follows the lines that were answered, and what is printed for it. Of an input at fault it is all that came: no whole
+  -- turn. Else it is a line, and where it asks for a dump, a front of it may be printed
+  abbrev pub BreaksIn : ShellFault → At K → List ℕ → List ℕ → Type 0
+  BreaksIn fault.BadStart at next front = ⊥
+  BreaksIn fault.Input at next front = (front ≡ []) × HasNoTurn (Fails at.world.state.table.schema) next
+  BreaksIn fault.Output at next front = IsOneLine next × IsFront (ListsNext at next) front
+  BreaksIn fault.Memory at next front = IsOneLine next × IsFront (ListsNext at next) front
+
+module _ {K : Type 0} (content : K → List ℕ) where
+  -- behind the first command a script breaks off: whole lines are answered, and then no more
+  pub record BreaksOff (old : At K) (why : ShellFault) (bytes text : List ℕ) : Type 0 where
+    pub before : List ℕ
+    pub printed : List ℕ
+    pub mid : At K
+    pub answered : Answers content old before printed mid
+    pub next : List ℕ
+    pub front : List ℕ
+    pub cut : BreaksIn why mid next front
+    pub whole : bytes ≡ before ++ next
+    pub said : text ≡ printed ++ front
+
+  -- a script breaks off behind its first command
+  pub record BreaksLater (why : ShellFault) (bytes rest text : List ℕ) : Type 0 where
+    pub first : List ℕ
+    pub at : At K
+    pub more : List ℕ
+    pub tail : List ℕ
+    pub opens : Opens first (more ++ rest ≡ []) at
+    pub breaks : BreaksOff at why more tail
+    pub whole : bytes ≡ first ++ more
+    pub said : text ≡ codes "ok\n" ++ tail
+
+  -- what these first bytes of a script, with the rest behind them, are answered up to a fault
+  abbrev pub IsBroken : ShellFault → List ℕ → List ℕ → List ℕ → Type 0
+  IsBroken fault.BadStart bytes rest text = Rejects bytes (rest ≡ []) text
+  IsBroken fault.Input bytes rest text = (HasNoStart bytes × (text ≡ [])) ⊎ BreaksLater fault.Input bytes rest text
+  IsBroken fault.Output bytes rest text = (text ≡ []) ⊎ BreaksLater fault.Output bytes rest text
+  IsBroken fault.Memory bytes rest text = (text ≡ []) ⊎ BreaksLater fault.Memory bytes rest text
+
+  -- the same, with what the writer did not take: all was written, unless the fault is the writer's
+  abbrev pub EndsBy : ShellFault → List ℕ → List ℕ → List ℕ → List ℕ → Type 0
+  EndsBy fault.BadStart bytes rest text lost = IsBroken fault.BadStart bytes rest text × (lost ≡ [])
+  EndsBy fault.Input bytes rest text lost = IsBroken fault.Input bytes rest text × (lost ≡ [])
+  EndsBy fault.Memory bytes rest text lost = IsBroken fault.Memory bytes rest text × (lost ≡ [])
+  EndsBy fault.Output bytes rest text lost = IsScript content bytes text ⊎ ((why : ShellFault) × IsBroken why bytes rest text)
+
+  -- a script ends early: of what its first bytes are answered a front was written. How it is split is told by the first
+  -- argument
+  pub record Breaks (splits : List ℕ → List ℕ → Type 0) (old new : Option (List ℕ)) (why : ShellFault) : Type 0 where
+    pub bytes : List ℕ
+    pub rest : List ℕ
+    pub begins : splits bytes rest
+    pub text : List ℕ
+    pub sent : List ℕ
+    pub lost : List ℕ
+    pub written : Appends old new sent
+    pub said : text ≡ sent ++ lost
+    pub ends : EndsBy why bytes rest text lost

@@ -6,8 +6,10 @@ use Rattle.csv.specs.Writing.{default_writer, field_text, row_text}
 use Rattle.far_types.specs.declared.cell.Cell.{Cell}
 use Rattle.far_types.specs.declared.cell.Cell.TheVariants as cell
 use Rattle.far_types.specs.Table.{Table, Place, rows_of}
+use Rattle.far_table.specs.State.{State}
+use Rattle.far_frame.specs.Views.{away}
 use Rattle.far_shell.specs.Fields.{missing_mark}
-use Rattle.far_shell.specs.Printing.{numbered_text, record_text, texts_of}
+use Rattle.far_shell.specs.Printing.{numbered_text, record_text, refusal_text, texts_of}
 
 -- what stands for a cell, before it is quoted
 abbrev pub cell_text : Cell → List ℕ
@@ -34,3 +36,7 @@ row_line cells = row_text default_writer (map cell_text cells)
 -- the live rows, and before them how many there are
 abbrev pub dump_text : Table → List ℕ
 dump_text table = numbered_text (codes "rows") (length (rows_of table.places)) ++ texts_of row_line (rows_of table.places)
+
+-- what a dump is answered: why an object of the rows is away, if one is, or else the live rows
+abbrev pub listing_of : {K : Type 0} → State K → List ℕ
+listing_of s = option_map_or refusal_text (away s) (dump_text s.table)

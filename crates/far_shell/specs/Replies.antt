@@ -8,11 +8,11 @@ use Rattle.far_frame.specs.declared.step.Step.{Step}
 use Rattle.far_frame.specs.declared.step.Step.TheVariants as step
 use Rattle.far_frame.specs.declared.step.Reply.{Reply}
 use Rattle.far_frame.specs.declared.step.Reply.TheVariants as reply
-use Rattle.far_frame.specs.Steps.{State, IsStep}
+use Rattle.far_frame.specs.Steps.{World, IsStep}
 use Rattle.far_shell.specs.declared.command.Command.{Command}
 use Rattle.far_shell.specs.declared.command.Command.TheVariants as command
 use Rattle.far_shell.specs.Fields.{cells_from}
-use Rattle.far_shell.specs.Listings.{dump_text}
+use Rattle.far_shell.specs.Listings.{listing_of}
 use Rattle.far_shell.specs.Printing.{numbered_text, answer_text, refusal_text}
 
 -- the line of a reply, or the lines of an answer
@@ -22,10 +22,6 @@ reply_text reply.Done = codes "ok\n"
 reply_text (reply.Aggregate a) = numbered_text (codes "aggregate") a
 reply_text (reply.Answer answer) = answer_text answer
 reply_text (reply.Refused refusal) = refusal_text refusal
-
--- a step is taken, and the text is its reply
-abbrev pub Takes : State → Step → List ℕ → State → Type 0
-Takes old s text new = (given : Reply) × IsStep old s given new × (text ≡ reply_text given)
 
 -- the insert of a record's fields
 abbrev pub insert_of_record : List Kind → List (List ℕ) → Step
@@ -39,24 +35,29 @@ AfterReply reply.Done ends goes = goes
 AfterReply (reply.Aggregate a) ends goes = goes
 AfterReply (reply.Answer answer) ends goes = goes
 
--- the records of a load are inserted in order, up to the first that is refused, behind as many as count
-abbrev pub Loads : ℕ → State → List (List (List ℕ)) → List ℕ → State → Type 0
-Loads count old [] text new = (new ≡ old) × (text ≡ numbered_text (codes "loaded") count)
-Loads count old (fields ∷ more) text new =
-    (given : Reply) × (mid : State) × IsStep old (insert_of_record old.table.schema fields) given mid
-    × AfterReply given (λ refusal. (new ≡ mid) × (text ≡ numbered_text (codes "loaded") count ++ refusal_text refusal)) (Loads (count + 1) mid more text new)
-
 -- the records of a text, as the csv reader reads them
 abbrev pub records_of : List ℕ → List (List (List ℕ))
 records_of text = records default_config (strip_bom text)
 
--- a command is answered; the rows are the bytes behind its line that belong to it
-abbrev pub Serves : State → Command → List ℕ → List ℕ → State → Type 0
-Serves old (command.Step s) rows text new = (rows ≡ []) × Takes old s text new
-Serves old (command.Load count) rows text new = (length rows ≡ count) × IsUtf8 rows × Loads 0 old (records_of rows) text new
-Serves old command.Dump rows text new = (rows ≡ []) × (text ≡ dump_text old.table) × (new ≡ old)
+module _ {K : Type 0} (content : K → List ℕ) where
+  -- a step is taken, and the text is its reply
+  abbrev pub Takes : World K → Step → List ℕ → World K → Type 0
+  Takes old s text new = (given : Reply) × IsStep content old s given new × (text ≡ reply_text given)
 
--- a line is answered; one that spells no command changes nothing
-abbrev pub ServesLine : ℕ → State → Option Command → List ℕ → List ℕ → State → Type 0
-ServesLine number old None rows text new = (rows ≡ []) × (text ≡ numbered_text (codes "syntax command") number) × (new ≡ old)
-ServesLine number old (Some asked) rows text new = Serves old asked rows text new
+  -- the records of a load are inserted in order, up to the first that is refused, behind as many as count
+  abbrev pub Loads : ℕ → World K → List (List (List ℕ)) → List ℕ → World K → Type 0
+  Loads count old [] text new = (new ≡ old) × (text ≡ numbered_text (codes "loaded") count)
+  Loads count old (fields ∷ more) text new =
+      (given : Reply) × (mid : World K) × IsStep content old (insert_of_record old.state.table.schema fields) given mid
+      × AfterReply given (λ refusal. (new ≡ mid) × (text ≡ numbered_text (codes "loaded") count ++ refusal_text refusal)) (Loads (count + 1) mid more text new)
+
+  -- a command is answered; the rows are the bytes behind its line that belong to it
+  abbrev pub Serves : World K → Command → List ℕ → List ℕ → World K → Type 0
+  Serves old (command.Step s) rows text new = (rows ≡ []) × Takes old s text new
+  Serves old (command.Load count) rows text new = (length rows ≡ count) × IsUtf8 rows × Loads 0 old (records_of rows) text new
+  Serves old command.Dump rows text new = (rows ≡ []) × (text ≡ listing_of old.state) × (new ≡ old)
+
+  -- a line is answered; one that spells no command changes nothing
+  abbrev pub ServesLine : ℕ → World K → Option Command → List ℕ → List ℕ → World K → Type 0
+  ServesLine number old None rows text new = (rows ≡ []) × (text ≡ numbered_text (codes "syntax command") number) × (new ≡ old)
+  ServesLine number old (Some asked) rows text new = Serves old asked rows text new

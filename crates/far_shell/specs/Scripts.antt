@@ -3,7 +3,7 @@ use Rattle.std.specs.Prelude.{◌≡◌, ◌⊎◌, ℕ, ◌+◌, Bool, false, �
 use Rattle.std.specs.List.{list_any, flat_map}
 use Rattle.std.specs.Io.BufRead.{strip_last}
 use Rattle.far_types.specs.Bounds.{IsSchema, AreLimits}
-use Rattle.far_frame.specs.Steps.{empty_state}
+use Rattle.far_table.specs.State.{empty_state}
 use Rattle.far_shell.specs.Openings.{Opened, opening_of}
 use Rattle.far_shell.specs.Commands.{command_of}
 use Rattle.far_shell.specs.Progress.{At}
@@ -22,20 +22,9 @@ is_line_feed c = c == 10
 abbrev pub without_return : List ℕ → List ℕ
 without_return line = strip_last 13 line
 
--- an empty line is no command; any other is text, and the next command
-abbrev pub AnswersLine : At → List ℕ → List ℕ → List ℕ → At → Type 0
-AnswersLine old [] rows text new = (rows ≡ []) × (text ≡ []) × (new ≡ old)
-AnswersLine old (c ∷ cs) rows text new =
-    IsUtf8 (c ∷ cs) × (new.number ≡ old.number + 1)
-    × ServesLine new.number old.state (command_of old.state.table.schema (c ∷ cs)) rows text new.state
-
 -- no line feed is within
 abbrev pub IsOneLine : List ℕ → Type 0
 IsOneLine line = list_any is_line_feed line ≡ false
-
--- one turn
-abbrev pub IsTurn : At → Turn → At → Type 0
-IsTurn old turn new = IsOneLine turn.line × AnswersLine old (without_return turn.line) turn.rows turn.text new
 
 -- the bytes of a turn
 abbrev pub bytes_of : Turn → List ℕ
@@ -44,54 +33,69 @@ bytes_of turn = turn.line ++ 10 ∷ turn.rows
 abbrev pub text_of : Turn → List ℕ
 text_of turn = turn.text
 
--- turns follow one another
-abbrev pub AreTurns : At → List Turn → At → Type 0
-AreTurns old [] new = new ≡ old
-AreTurns old (turn ∷ turns) new = (mid : At) × IsTurn old turn mid × AreTurns mid turns new
-
--- these bytes are whole lines and what belongs to them, and are answered by this text
-abbrev pub Answers : At → List ℕ → List ℕ → At → Type 0
-Answers old bytes text new = (turns : List Turn) × (bytes ≡ flat_map bytes_of turns) × (text ≡ flat_map text_of turns) × AreTurns old turns new
-
--- the rest of a script is answered: whole lines, and a last one, which lacks its end and may be empty
-pub record Ends (old : At) (script text : List ℕ) : Type 0 where
-  pub bytes : List ℕ
-  pub printed : List ℕ
-  pub mid : At
-  pub answered : Answers old bytes printed mid
-  pub last : List ℕ
-  pub line : IsOneLine last
-  pub tail : List ℕ
-  pub new : At
-  pub answers : AnswersLine mid last [] tail new
-  pub whole : script ≡ bytes ++ last
-  pub said : text ≡ printed ++ tail
-
--- a line opens an empty table of its columns and limits, which are what a table may have
-abbrev pub IsOpenedBy : List ℕ → At → Type 0
-IsOpenedBy line at = (opened : Opened) × (opening_of line ≡ Some opened) × IsSchema opened.0 × AreLimits opened.1 × (at ≡ record { state = empty_state opened.0 opened.1; number = 1 })
-
 -- lines without a byte
 abbrev pub Blank : List ℕ → List (List ℕ) → Type 0
 Blank bytes [] = bytes ≡ []
 Blank bytes (line ∷ lines) = (rest : List ℕ) × (without_return line ≡ []) × (bytes ≡ line ++ 10 ∷ rest) × Blank rest lines
 
--- the first command of a script opens a table; it may lack its end only where nothing comes behind it
-pub record Opens (bytes : List ℕ) (spent : Type 0) (at : At) : Type 0 where
-  pub blanks : List (List ℕ)
-  pub blank : List ℕ
-  pub empty : Blank blank blanks
-  pub line : List ℕ
-  pub one : IsOneLine line
-  pub opens : ((bytes ≡ blank ++ line ++ 10 ∷ []) × IsOpenedBy (without_return line) at) ⊎ ((bytes ≡ blank ++ line) × IsOpenedBy line at × spent)
+module _ {K : Type 0} where
+  -- a line opens an empty table of its columns and limits, which are what a table may have. No fault was met yet
+  abbrev pub IsOpenedBy : List ℕ → At K → Type 0
+  IsOpenedBy line at =
+      (opened : Opened) × (opening_of line ≡ Some opened) × IsSchema opened.0 × AreLimits opened.1
+      × (at.world.state ≡ empty_state opened.0 opened.1 0) × (at.world.faults ≡ 0) × (at.number ≡ 1)
 
--- a whole script is answered by a text
-pub record IsScript (script text : List ℕ) : Type 0 where
-  pub first : List ℕ
-  pub rest : List ℕ
-  pub tail : List ℕ
-  pub at : At
-  pub opens : Opens first (rest ≡ []) at
-  pub ends : Ends at rest tail
-  pub whole : script ≡ first ++ rest
-  pub said : text ≡ codes "ok\n" ++ tail
+  -- the first command of a script opens a table; it may lack its end only where nothing comes behind it
+  pub record Opens (bytes : List ℕ) (spent : Type 0) (at : At K) : Type 0 where
+    pub blanks : List (List ℕ)
+    pub blank : List ℕ
+    pub empty : Blank blank blanks
+    pub line : List ℕ
+    pub one : IsOneLine line
+    pub opens : ((bytes ≡ blank ++ line ++ 10 ∷ []) × IsOpenedBy (without_return line) at) ⊎ ((bytes ≡ blank ++ line) × IsOpenedBy line at × spent)
+
+module _ {K : Type 0} (content : K → List ℕ) where
+  -- an empty line is no command; any other is text, and the next command
+  abbrev pub AnswersLine : At K → List ℕ → List ℕ → List ℕ → At K → Type 0
+  AnswersLine old [] rows text new = (rows ≡ []) × (text ≡ []) × (new ≡ old)
+  AnswersLine old (c ∷ cs) rows text new =
+      IsUtf8 (c ∷ cs) × (new.number ≡ old.number + 1)
+      × ServesLine content new.number old.world (command_of old.world.state.table.schema (c ∷ cs)) rows text new.world
+
+  -- one turn
+  abbrev pub IsTurn : At K → Turn → At K → Type 0
+  IsTurn old turn new = IsOneLine turn.line × AnswersLine old (without_return turn.line) turn.rows turn.text new
+
+  -- turns follow one another
+  abbrev pub AreTurns : At K → List Turn → At K → Type 0
+  AreTurns old [] new = new ≡ old
+  AreTurns old (turn ∷ turns) new = (mid : At K) × IsTurn old turn mid × AreTurns mid turns new
+
+  -- these bytes are whole lines and what belongs to them, and are answered by this text
+  abbrev pub Answers : At K → List ℕ → List ℕ → At K → Type 0
+  Answers old bytes text new = (turns : List Turn) × (bytes ≡ flat_map bytes_of turns) × (text ≡ flat_map text_of turns) × AreTurns old turns new
+
+  -- the rest of a script is answered: whole lines, and a last one, which lacks its end and may be empty
+  pub record Ends (old : At K) (script text : List ℕ) : Type 0 where
+    pub bytes : List ℕ
+    pub printed : List ℕ
+    pub mid : At K
+    pub answered : Answers old bytes printed mid
+    pub last : List ℕ
+    pub line : IsOneLine last
+    pub tail : List ℕ
+    pub new : At K
+    pub answers : AnswersLine mid last [] tail new
+    pub whole : script ≡ bytes ++ last
+    pub said : text ≡ printed ++ tail
+
+  -- a whole script is answered by a text
+  pub record IsScript (script text : List ℕ) : Type 0 where
+    pub first : List ℕ
+    pub rest : List ℕ
+    pub tail : List ℕ
+    pub at : At K
+    pub opens : Opens first (rest ≡ []) at
+    pub ends : Ends at rest tail
+    pub whole : script ≡ first ++ rest
+    pub said : text ≡ codes "ok\n" ++ tail

@@ -5,14 +5,15 @@ ghost use Rattle.csv.specs.Writing.{default_writer, fields_text};
 ghost use Rattle.far_types.specs.Table.{rows_of};
 ghost use Rattle.far_shell.specs.Breaks.{PrintsCut};
 ghost use Rattle.far_shell.specs.Flow.{Prints};
-ghost use Rattle.far_shell.specs.Listings.{cell_text, cells_at, dump_text, field_in_record, is_live, row_line};
+ghost use Rattle.far_shell.specs.Listings.{cell_text, dump_text, field_in_record, is_live, listing_of, row_line};
 
 use super::fault::ShellFault;
 use super::output::Output;
 use super::page::Page;
-use super::print::numbered;
-use far_frame::Frame;
-use far_types::{CellRef, Refusal};
+use super::print::{numbered, refused};
+use far_frame::{Frame, View};
+use far_store::FarTickets;
+use far_types::{CellRef, LentRow, Refusal};
 use itoa::Buffer;
 use std::io::Write;
 
@@ -44,31 +45,30 @@ fn cell(page: &mut Page, is_lone: bool, cell: CellRef) -> Result<(), Refusal>
 }
 
 /// The fields of a row behind its first.
-fn more_fields(page: &mut Page, frame: &Frame, place: u32) -> Result<(), Refusal>
-    ensures ok { OnOk result (page.new ≡ page.old ++ fields_text default_writer (map cell_text (drop 1 (cells_at place frame.now.table.places)))) }
+fn more_fields(page: &mut Page, row: &LentRow) -> Result<(), Refusal>
+    ensures ok { OnOk result (page.new ≡ page.old ++ fields_text default_writer (map cell_text (drop 1 row.now))) }
     ensures memory { IfErr result (λ e. e ≡ Refusal.NoMemory) }
 {
-    for column in 1..u32::MAX {
-        let Some(lent) = frame.cell(place, column) else {
+    for column in 1..row.len() {
+        let Some(lent) = row.get(column) else {
             return Ok(());
         };
         page.text(",")?;
         cell(page, false, lent)?;
     }
-    Err(Refusal::NoMemory)
+    Ok(())
 }
 
 /// A row as a line.
-fn row(page: &mut Page, frame: &Frame, place: u32) -> Result<(), Refusal>
-    ensures ok { OnOk result (page.new ≡ page.old ++ row_line (cells_at place frame.now.table.places)) }
+fn row(page: &mut Page, row: &LentRow) -> Result<(), Refusal>
+    ensures ok { OnOk result (page.new ≡ page.old ++ row_line row.now) }
     ensures memory { IfErr result (λ e. e ≡ Refusal.NoMemory) }
 {
-    match frame.cell(place, 0) {
+    match row.get(0) {
         None => page.text("\"\"")?,
         Some(first) => {
-            let is_lone = frame.cell(place, 1).is_none();
-            cell(page, is_lone, first)?;
-            more_fields(page, frame, place)?;
+            cell(page, row.len() == 1, first)?;
+            more_fields(page, row)?;
         }
     }
     page.text("\n")?;
@@ -76,22 +76,23 @@ fn row(page: &mut Page, frame: &Frame, place: u32) -> Result<(), Refusal>
 }
 
 /// Whether there is a row at a place.
-fn is_live(frame: &Frame, place: u32) -> bool
-    ensures { result ≡ is_live place frame.now.table.places }
+fn is_live<S: FarTickets>(view: &View<'_, S>, place: u32) -> bool
+    ensures { result ≡ is_live place view.now.table.places }
 {
-    match frame.is_alive(place) {
+    match view.is_alive(place) {
         Some(alive) => alive,
         None => false,
     }
 }
 
 /// How many rows are alive.
-fn live_rows(frame: &Frame) -> u64
+fn live_rows<S: FarTickets>(frame: &Frame<S>) -> u64
     ensures { result ≡ length (rows_of frame.now.table.places) }
 {
+    let view = frame.scope();
     let mut count = 0u64;
     for place in 0..frame.places() {
-        if is_live(frame, place) {
+        if is_live(&view, place) {
             count += 1;
         }
     }
@@ -99,21 +100,50 @@ fn live_rows(frame: &Frame) -> u64
 }
 
 /// `rows COUNT`, and the live rows in the order of their places, as the csv writer writes them.
-pub fn dump<W: Write>(frame: &Frame, output: &mut Output, writer: &mut W) -> Result<(), ShellFault>
+fn dump_rows<S: FarTickets, W: Write>(
+    frame: &Frame<S>,
+    output: &mut Output,
+    writer: &mut W,
+) -> Result<(), ShellFault>
     ensures ok { OnOk result (Prints (W.contents writer.old) output.old.page (dump_text frame.now.table) (W.contents writer.new) output.new.page) }
     ensures err { IfErr result (λ fault. PrintsCut fault (λ said. said ≡ dump_text frame.now.table) (W.contents writer.old) output.old.page (W.contents writer.new) output.new.page) }
     ensures fault { IfErr result (λ fault. fault ≢ ShellFault.Input) }
 {
+    let view = frame.scope();
     output.reply.truncate(0);
     numbered(&mut output.reply, "rows", live_rows(frame))?;
     output.add()?;
     for place in 0..frame.places() {
-        if is_live(frame, place) {
+        if is_live(&view, place) {
             output.reply.truncate(0);
-            row(&mut output.reply, frame, place)?;
+            row(&mut output.reply, &view.row(place)?)?;
             output.add()?;
             output.flush_if_full(writer)?;
         }
     }
     Ok(())
+}
+
+/// The live rows, or the refusal where an object of them is away: it comes before any row.
+pub fn dump<S: FarTickets, W: Write>(
+    frame: &Frame<S>,
+    output: &mut Output,
+    writer: &mut W,
+) -> Result<(), ShellFault>
+    ensures ok { OnOk result (Prints (W.contents writer.old) output.old.page (listing_of frame.now) (W.contents writer.new) output.new.page) }
+    ensures err { IfErr result (λ fault. PrintsCut fault (λ said. said ≡ listing_of frame.now) (W.contents writer.old) output.old.page (W.contents writer.new) output.new.page) }
+    ensures fault { IfErr result (λ fault. fault ≢ ShellFault.Input) }
+{
+    match frame.scope().all() {
+        Ok(()) => {
+            dump_rows(frame, output, writer)?;
+            Ok(())
+        }
+        Err(refusal) => {
+            output.reply.truncate(0);
+            refused(&mut output.reply, &refusal)?;
+            output.add()?;
+            Ok(())
+        }
+    }
 }

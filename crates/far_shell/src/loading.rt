@@ -10,12 +10,17 @@ use super::page::Page;
 use super::print::{numbered, refused};
 use csv::{ReaderBuilder, StringRecord};
 use far_frame::{Reply, Step, World};
+use far_store::FarStore;
 use far_types::{Edit, Refusal, Row};
 use std::alloc::Global;
 
 /// Inserts the fields of a record as a row. Refused with `NoMemory` (1) alone, where the insert was not taken.
-fn insert_record(alloc: Global, world: &mut World, fields: &StringRecord) -> Result<Reply, Refusal>
-    ensures step { IfOk result (λ reply. IsStep world.old (insert_of_record world.old.table.schema (fields_of fields.now)) reply world.new) }
+fn insert_record<S: FarStore>(
+    alloc: Global,
+    world: &mut World<S>,
+    fields: &StringRecord,
+) -> Result<Reply, Refusal>
+    ensures step { IfOk result (λ reply. IsStep S.content world.old (insert_of_record world.old.state.table.schema (fields_of fields.now)) reply world.new) }
     ensures memory { IfErr result (λ e. e ≡ Refusal.NoMemory) }
 {
     let cells = record_cells(alloc, world.frame().schema().as_slice(), fields)?;
@@ -24,8 +29,13 @@ fn insert_record(alloc: Global, world: &mut World, fields: &StringRecord) -> Res
 
 /// Inserts the records of a text in order, up to the first that is refused, and prints `loaded COUNT` and the refusal, if
 /// there is one. Refused with `NoMemory` (1) alone, where the shell itself was refused memory.
-pub fn load(alloc: Global, world: &mut World, text: &str, reply: &mut Page) -> Result<(), Refusal>
-    ensures ok { OnOk result (Loads 0 world.old (records_of text.now) reply.new world.new) }
+pub fn load<S: FarStore>(
+    alloc: Global,
+    world: &mut World<S>,
+    text: &str,
+    reply: &mut Page,
+) -> Result<(), Refusal>
+    ensures ok { OnOk result (Loads S.content 0 world.old (records_of text.now) reply.new world.new) }
     ensures memory { IfErr result (λ e. e ≡ Refusal.NoMemory) }
 {
     reply.truncate(0);

@@ -1,18 +1,19 @@
 // The table of a script, and how many commands it had.
 use far_frame::World;
+use far_store::FarStore;
 use std::marker::Model;
 
-/// Where a script stands. Contracts see the table's state, and the number of the last command.
+/// Where a script stands. Contracts see the table with all that is beside it, and the number of the last command.
 #[derive(Drop)]
-pub struct Progress {
-    pub world: World,
+pub struct Progress<S: FarStore> {
+    pub world: World<S>,
     pub number: u32,
 }
 
-impl Model for Progress {
+impl<S: FarStore> Model for Progress<S> {
     ghost use Rattle.far_shell.specs.Progress.{At};
 
-    ghost Value = { At };
+    ghost Value = { At S.Ticket };
 
-    ghost view = { λ progress. record { state = progress.world; number = progress.number } };
+    ghost view = { λ progress. record { world = progress.world; number = progress.number } };
 }

@@ -15,24 +15,29 @@ use super::print::refused;
 use super::progress::Progress;
 use super::serve::answer_line;
 use far_frame::{Frame, World};
+use far_store::{AgentStore, FarStore, FarTickets};
 use far_types::{Refusal, Schema};
 use std::alloc::Global;
 use std::io::{Read, Write};
+use std::sync::Wait;
 
 /// More lines than a script can have: each takes a byte.
 const MAX_LINES: u32 = MAX_BYTES + 1;
 
+/// The most contents that the store of a script takes.
+const STORE_CAPACITY: u64 = 1_048_576;
+
 /// Answers the lines that follow the first command, up to the end of the script.
-fn serve_lines<R: Read + Drop, W: Write>(
+fn serve_lines<S: FarStore, R: Read + Drop, W: Write>(
     alloc: Global,
-    progress: &mut Progress,
+    progress: &mut Progress<S>,
     input: &mut Input<R>,
     output: &mut Output,
     writer: &mut W,
 ) -> Result<(), ShellFault>
     requires first { progress.old.number ≡ 1 }
-    ensures ok { OnOk result ((bytes : List ℕ) × (text : List ℕ) × Reads R.Read input.old bytes input.new × Prints (W.contents writer.old) output.old.page text (W.contents writer.new) output.new.page × Ends progress.old bytes text × IsSpent R.Read input.new) }
-    ensures err { IfErr result (λ fault. (bytes : List ℕ) × (rest : List ℕ) × (text : List ℕ) × Gives R.Read fault input.old input.new bytes rest × Prints (W.contents writer.old) output.old.page text (W.contents writer.new) output.new.page × BreaksOff progress.old fault bytes text) }
+    ensures ok { OnOk result ((bytes : List ℕ) × (text : List ℕ) × Reads R.Read input.old bytes input.new × Prints (W.contents writer.old) output.old.page text (W.contents writer.new) output.new.page × Ends S.content progress.old bytes text × IsSpent R.Read input.new) }
+    ensures err { IfErr result (λ fault. (bytes : List ℕ) × (rest : List ℕ) × (text : List ℕ) × Gives R.Read fault input.old input.new bytes rest × Prints (W.contents writer.old) output.old.page text (W.contents writer.new) output.new.page × BreaksOff S.content progress.old fault bytes text) }
     ensures asked { input.new.source.reads ≤ input.old.source.reads }
 {
     for turn in 0..MAX_LINES {
@@ -48,9 +53,14 @@ fn serve_lines<R: Read + Drop, W: Write>(
     Err(ShellFault::Input)
 }
 
-/// The table that a first line opens. Where it opens none, because it is no such line or is refused with `BadSchema` (2),
-/// that is printed, and the fault is `BadStart`.
-fn open_line(alloc: Global, line: &str, output: &mut Output) -> Result<Progress, ShellFault>
+/// The table that a first line opens, over a store. Where it opens none, because it is no such line or is refused with
+/// `BadSchema` (2), that is printed, and the fault is `BadStart`.
+fn open_line<S: FarStore>(
+    alloc: Global,
+    store: S,
+    line: &str,
+    output: &mut Output,
+) -> Result<Progress<S>, ShellFault>
     ensures ok { IfOk result (λ progress. IsOpenedBy line.now progress × (output.new.page ≡ output.old.page ++ codes "ok\n")) }
     ensures err { IfErr result (λ fault. (text : List ℕ) × (output.new.page ≡ output.old.page ++ text) × Rejection fault line.now text) }
 {
@@ -66,11 +76,11 @@ fn open_line(alloc: Global, line: &str, output: &mut Output) -> Result<Progress,
     };
     match opened {
         Ok(frame) => {
+            let Ok(world) = World::new(frame, store) else {
+                return Err(ShellFault::Memory);
+            };
             output.page.text("ok\n")?;
-            Ok(Progress {
-                world: World::new(frame),
-                number: 1,
-            })
+            Ok(Progress { world, number: 1 })
         }
         Err(Refusal::NoMemory) => Err(ShellFault::Memory),
         Err(refusal) => {
@@ -82,22 +92,23 @@ fn open_line(alloc: Global, line: &str, output: &mut Output) -> Result<Progress,
     }
 }
 
-/// The table that the first command opens. A script without a command opens none.
-fn open<R: Read + Drop, W: Write>(
+/// The table that the first command opens, over a store. A script without a command opens none.
+fn open<S: FarStore, R: Read + Drop, W: Write>(
     alloc: Global,
+    store: S,
     input: &mut Input<R>,
     output: &mut Output,
     writer: &mut W,
-) -> Result<Progress, ShellFault>
+) -> Result<Progress<S>, ShellFault>
     ensures ok { IfOk result (λ progress. (bytes : List ℕ) × Reads R.Read input.old bytes input.new × Prints (W.contents writer.old) output.old.page (codes "ok\n") (W.contents writer.new) output.new.page × Opens bytes (IsSpent R.Read input.new) progress) }
-    ensures err { IfErr result (λ fault. (bytes : List ℕ) × (rest : List ℕ) × (text : List ℕ) × Gives R.Read fault input.old input.new bytes rest × Prints (W.contents writer.old) output.old.page text (W.contents writer.new) output.new.page × IsBroken fault bytes rest text) }
+    ensures err { IfErr result (λ fault. (bytes : List ℕ) × (rest : List ℕ) × (text : List ℕ) × Gives R.Read fault input.old input.new bytes rest × Prints (W.contents writer.old) output.old.page text (W.contents writer.new) output.new.page × IsBroken S.content fault bytes rest text) }
     ensures asked { input.new.source.reads ≤ input.old.source.reads }
 {
     for turn in 0..MAX_LINES {
         match input.line(output, writer)? {
             Line::Whole(line) => {
                 if !line.is_empty() {
-                    let progress = open_line(alloc, input.text(line)?, output)?;
+                    let progress = open_line(alloc, store, input.text(line)?, output)?;
                     return Ok(progress);
                 }
             }
@@ -105,7 +116,7 @@ fn open<R: Read + Drop, W: Write>(
                 if line.is_empty() {
                     return Err(ShellFault::BadStart);
                 }
-                let last = open_line(alloc, input.text(line)?, output)?;
+                let last = open_line(alloc, store, input.text(line)?, output)?;
                 return Ok(last);
             }
         }
@@ -113,39 +124,38 @@ fn open<R: Read + Drop, W: Write>(
     Err(ShellFault::Input)
 }
 
-/// Opens the table of a script, and answers its commands.
-fn serve<R: Read + Drop, W: Write>(
+/// Opens the table of a script over a store, and answers its commands.
+fn serve<S: FarStore, R: Read + Drop, W: Write>(
     alloc: Global,
+    store: S,
     input: &mut Input<R>,
     output: &mut Output,
     writer: &mut W,
 ) -> Result<(), ShellFault>
     requires { output.old.page ≡ [] }
-    ensures ok { OnOk result ((script : List ℕ) × (text : List ℕ) × Reads R.Read input.old script input.new × Prints (W.contents writer.old) [] text (W.contents writer.new) output.new.page × IsScript script text × IsSpent R.Read input.new) }
-    ensures err { IfErr result (λ fault. (bytes : List ℕ) × (rest : List ℕ) × (text : List ℕ) × Gives R.Read fault input.old input.new bytes rest × Prints (W.contents writer.old) [] text (W.contents writer.new) output.new.page × IsBroken fault bytes rest text) }
+    ensures ok { OnOk result ((script : List ℕ) × (text : List ℕ) × Reads R.Read input.old script input.new × Prints (W.contents writer.old) [] text (W.contents writer.new) output.new.page × IsScript S.content script text × IsSpent R.Read input.new) }
+    ensures err { IfErr result (λ fault. (bytes : List ℕ) × (rest : List ℕ) × (text : List ℕ) × Gives R.Read fault input.old input.new bytes rest × Prints (W.contents writer.old) [] text (W.contents writer.new) output.new.page × IsBroken S.content fault bytes rest text) }
     ensures asked { input.new.source.reads ≤ input.old.source.reads }
 {
-    let mut progress = open(alloc, input, output, writer)?;
+    let mut progress = open(alloc, store, input, output, writer)?;
     serve_lines(alloc, &mut progress, input, output, writer)?;
     Ok(())
 }
 
-/// Runs a script that is lent: reads its commands and writes the replies, each before the reader is asked for more than was
+/// Runs a script that is lent, over a store of its own: each reply is written before the reader is asked for more than was
 /// read.
-///
-/// The faults are those of `run_script`. What is left of the reads and bytes afterwards says how many were made: also of a
-/// reader whose bytes nobody knows, as standard input. At the fault `Input` all whole lines that came are answered.
-pub fn run_input<T: AllocGlobal, R: Read + Drop, W: Write>(
-    rt: &T,
+fn run_over<S: FarStore, R: Read + Drop, W: Write>(
+    alloc: Global,
+    store: S,
     input: &mut Input<R>,
     writer: &mut W,
 ) -> Result<(), ShellFault>
-    ensures ok { OnOk result ((script : List ℕ) × (text : List ℕ) × Reads R.Read input.old script input.new × IsSpent R.Read input.new × Appends (W.contents writer.old) (W.contents writer.new) text × IsScript script text) }
-    ensures err { IfErr result (λ fault. Breaks (Gives R.Read fault input.old input.new) (W.contents writer.old) (W.contents writer.new) fault) }
+    ensures ok { OnOk result ((script : List ℕ) × (text : List ℕ) × Reads R.Read input.old script input.new × IsSpent R.Read input.new × Appends (W.contents writer.old) (W.contents writer.new) text × IsScript S.content script text) }
+    ensures err { IfErr result (λ fault. Breaks S.content (Gives R.Read fault input.old input.new) (W.contents writer.old) (W.contents writer.new) fault) }
     ensures asked { input.new.source.reads ≤ input.old.source.reads }
 {
-    let mut output = Output::new(rt.alloc());
-    let outcome = serve(rt.alloc(), input, &mut output, writer);
+    let mut output = Output::new(alloc);
+    let outcome = serve(alloc, store, input, &mut output, writer);
     match outcome {
         Ok(()) => {
             output.flush(writer)?;
@@ -158,19 +168,38 @@ pub fn run_input<T: AllocGlobal, R: Read + Drop, W: Write>(
     }
 }
 
-/// Runs a script: reads its commands and writes the replies, each before the reader is asked for more than was read.
+/// Runs a script that is lent: reads its commands and writes the replies, each before the reader is asked for more than was
+/// read. The objects of its table go to a store in this process, which takes 1,048,576 contents.
+///
+/// The faults are those of `run_script`. What is left of the reads and bytes afterwards says how many were made: also of a
+/// reader whose bytes nobody knows, as standard input. At the fault `Input` all whole lines that came are answered.
+pub fn run_input<T: AllocGlobal + Sync + Wait, R: Read + Drop, W: Write>(
+    rt: &T,
+    input: &mut Input<R>,
+    writer: &mut W,
+) -> Result<(), ShellFault>
+    ensures ok { OnOk result ((script : List ℕ) × (text : List ℕ) × Reads R.Read input.old script input.new × IsSpent R.Read input.new × Appends (W.contents writer.old) (W.contents writer.new) text × IsScript ⟦<AgentStore<&'static T> as FarTickets>⟧.content script text) }
+    ensures err { IfErr result (λ fault. Breaks ⟦<AgentStore<&'static T> as FarTickets>⟧.content (Gives R.Read fault input.old input.new) (W.contents writer.old) (W.contents writer.new) fault) }
+    ensures asked { input.new.source.reads ≤ input.old.source.reads }
+{
+    let store = AgentStore::new(rt, rt.alloc(), STORE_CAPACITY)?;
+    run_over(rt.alloc(), store, input, writer)
+}
+
+/// Runs a script: reads its commands and writes the replies, each before the reader is asked for more than was read. The
+/// objects of its table go to a store in this process, which takes 1,048,576 contents.
 ///
 /// A script has at most 16,777,216 bytes and is read in at most 1,048,576 reads; past either the fault is `Input`, and so
 /// where a read fails, the script is no UTF-8, or it ends inside a load. What lies wholly before a fault is answered.
 /// Where a write fails, the fault is `Output`; where the shell itself is refused memory, `Memory`; where the first command
 /// opens no table, `BadStart`.
-pub fn run_script<T: AllocGlobal, R: Read + Drop, W: Write>(
+pub fn run_script<T: AllocGlobal + Sync + Wait, R: Read + Drop, W: Write>(
     rt: &T,
     reader: R,
     writer: &mut W,
 ) -> Result<(), ShellFault>
-    ensures ok { OnOk result ((script : List ℕ) × (text : List ℕ) × IsWhole (R.remaining reader) script × Appends (W.contents writer.old) (W.contents writer.new) text × IsScript script text) }
-    ensures err { IfErr result (λ fault. Breaks (λ bytes rest. IfSome (R.remaining reader) (λ script. script ≡ bytes ++ rest)) (W.contents writer.old) (W.contents writer.new) fault) }
+    ensures ok { OnOk result ((script : List ℕ) × (text : List ℕ) × IsWhole (R.remaining reader) script × Appends (W.contents writer.old) (W.contents writer.new) text × IsScript ⟦<AgentStore<&'static T> as FarTickets>⟧.content script text) }
+    ensures err { IfErr result (λ fault. Breaks ⟦<AgentStore<&'static T> as FarTickets>⟧.content (λ bytes rest. IfSome (R.remaining reader) (λ script. script ≡ bytes ++ rest)) (W.contents writer.old) (W.contents writer.new) fault) }
 {
     let mut input = Input::new(rt.alloc(), reader)?;
     run_input(rt, &mut input, writer)?;

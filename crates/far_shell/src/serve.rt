@@ -7,7 +7,7 @@ ghost use Rattle.far_shell.specs.Commands.{command_of};
 ghost use Rattle.far_shell.specs.Faults.{IfInput};
 ghost use Rattle.far_shell.specs.Flow.{Prints, Reads, Stops, Holds, spanned};
 ghost use Rattle.far_shell.specs.Printing.{numbered_text};
-ghost use Rattle.far_shell.specs.Listings.{dump_text};
+ghost use Rattle.far_shell.specs.Listings.{listing_of};
 ghost use Rattle.far_shell.specs.Replies.{Serves, ServesLine, Takes, reply_text};
 ghost use Rattle.far_shell.specs.Scripts.{AnswersLine};
 
@@ -21,6 +21,7 @@ use super::page::Page;
 use super::print::{answer, numbered, refused};
 use super::progress::Progress;
 use far_frame::{Reply, Step, World};
+use far_store::FarStore;
 use far_types::Refusal;
 use std::alloc::Global;
 use std::io::{Read, Write};
@@ -40,8 +41,12 @@ pub fn print_reply(page: &mut Page, reply: &Reply) -> Result<(), Refusal>
 }
 
 /// Takes a step, and prints its reply.
-fn take_step(world: &mut World, step: Step, reply: &mut Page) -> Result<(), Refusal>
-    ensures ok { OnOk result (Takes world.old step reply.new world.new) }
+fn take_step<S: FarStore>(
+    world: &mut World<S>,
+    step: Step,
+    reply: &mut Page,
+) -> Result<(), Refusal>
+    ensures ok { OnOk result (Takes S.content world.old step reply.new world.new) }
     ensures memory { IfErr result (λ e. e ≡ Refusal.NoMemory) }
 {
     reply.truncate(0);
@@ -50,16 +55,16 @@ fn take_step(world: &mut World, step: Step, reply: &mut Page) -> Result<(), Refu
 }
 
 /// Answers a command, with the bytes behind its line that belong to it.
-fn answer_command<R: Read + Drop, W: Write>(
+fn answer_command<S: FarStore, R: Read + Drop, W: Write>(
     alloc: Global,
-    world: &mut World,
+    world: &mut World<S>,
     command: Command,
     input: &mut Input<R>,
     output: &mut Output,
     writer: &mut W,
 ) -> Result<(), ShellFault>
-    ensures ok { OnOk result ((rows : List ℕ) × (text : List ℕ) × Reads R.Read input.old rows input.new × Prints (W.contents writer.old) output.old.page text (W.contents writer.new) output.new.page × Serves world.old command rows text world.new) }
-    ensures err { IfErr result (λ fault. PrintsCut fault (λ said. (command ≡ Command.Dump) × (said ≡ dump_text world.old.table)) (W.contents writer.old) output.old.page (W.contents writer.new) output.new.page) }
+    ensures ok { OnOk result ((rows : List ℕ) × (text : List ℕ) × Reads R.Read input.old rows input.new × Prints (W.contents writer.old) output.old.page text (W.contents writer.new) output.new.page × Serves S.content world.old command rows text world.new) }
+    ensures err { IfErr result (λ fault. PrintsCut fault (λ said. (command ≡ Command.Dump) × (said ≡ listing_of world.old.state)) (W.contents writer.old) output.old.page (W.contents writer.new) output.new.page) }
     ensures stopped { IfErr result (λ fault. IfInput fault (Stops R.Read (λ behind. FailsBy (Some command) behind) input.old input.new)) }
     ensures asked { input.new.source.reads ≤ input.old.source.reads }
 {
@@ -83,9 +88,9 @@ fn answer_command<R: Read + Drop, W: Write>(
 }
 
 /// Answers a line that is not empty: the command that it spells, or else `syntax command NUMBER`.
-fn answer_words<R: Read + Drop, W: Write>(
+fn answer_words<S: FarStore, R: Read + Drop, W: Write>(
     alloc: Global,
-    world: &mut World,
+    world: &mut World<S>,
     line: Span,
     number: u32,
     input: &mut Input<R>,
@@ -94,9 +99,9 @@ fn answer_words<R: Read + Drop, W: Write>(
 ) -> Result<(), ShellFault>
     requires { Holds R.Read input.old line }
     ensures text { OnOk result (IsUtf8 (spanned R.Read input.old line)) }
-    ensures ok { OnOk result ((rows : List ℕ) × (text : List ℕ) × Reads R.Read input.old rows input.new × Prints (W.contents writer.old) output.old.page text (W.contents writer.new) output.new.page × ServesLine number world.old (command_of world.old.table.schema (spanned R.Read input.old line)) rows text world.new) }
-    ensures err { IfErr result (λ fault. PrintsCut fault (λ said. (command_of world.old.table.schema (spanned R.Read input.old line) ≡ Some Command.Dump) × (said ≡ dump_text world.old.table)) (W.contents writer.old) output.old.page (W.contents writer.new) output.new.page) }
-    ensures stopped { IfErr result (λ fault. IfInput fault (Stops R.Read (λ behind. Fails world.old.table.schema (spanned R.Read input.old line) behind) input.old input.new)) }
+    ensures ok { OnOk result ((rows : List ℕ) × (text : List ℕ) × Reads R.Read input.old rows input.new × Prints (W.contents writer.old) output.old.page text (W.contents writer.new) output.new.page × ServesLine S.content number world.old (command_of world.old.state.table.schema (spanned R.Read input.old line)) rows text world.new) }
+    ensures err { IfErr result (λ fault. PrintsCut fault (λ said. (command_of world.old.state.table.schema (spanned R.Read input.old line) ≡ Some Command.Dump) × (said ≡ listing_of world.old.state)) (W.contents writer.old) output.old.page (W.contents writer.new) output.new.page) }
+    ensures stopped { IfErr result (λ fault. IfInput fault (Stops R.Read (λ behind. Fails world.old.state.table.schema (spanned R.Read input.old line) behind) input.old input.new)) }
     ensures asked { input.new.source.reads ≤ input.old.source.reads }
 {
     match parse(alloc, world.frame().schema().as_slice(), input.text(line)?)? {
@@ -111,9 +116,9 @@ fn answer_words<R: Read + Drop, W: Write>(
 }
 
 /// Answers a line: an empty one is no command, and any other the next one.
-pub fn answer_line<R: Read + Drop, W: Write>(
+pub fn answer_line<S: FarStore, R: Read + Drop, W: Write>(
     alloc: Global,
-    progress: &mut Progress,
+    progress: &mut Progress<S>,
     line: Span,
     input: &mut Input<R>,
     output: &mut Output,
@@ -121,9 +126,9 @@ pub fn answer_line<R: Read + Drop, W: Write>(
 ) -> Result<(), ShellFault>
     requires held { Holds R.Read input.old line }
     requires few { progress.old.number < 4294967295 }
-    ensures ok { OnOk result ((rows : List ℕ) × (text : List ℕ) × Reads R.Read input.old rows input.new × Prints (W.contents writer.old) output.old.page text (W.contents writer.new) output.new.page × AnswersLine progress.old (spanned R.Read input.old line) rows text progress.new) }
+    ensures ok { OnOk result ((rows : List ℕ) × (text : List ℕ) × Reads R.Read input.old rows input.new × Prints (W.contents writer.old) output.old.page text (W.contents writer.new) output.new.page × AnswersLine S.content progress.old (spanned R.Read input.old line) rows text progress.new) }
     ensures err { IfErr result (λ fault. PrintsCut fault (λ said. Lists progress.old (spanned R.Read input.old line) said) (W.contents writer.old) output.old.page (W.contents writer.new) output.new.page) }
-    ensures stopped { IfErr result (λ fault. IfInput fault (Stops R.Read (λ behind. Fails progress.old.state.table.schema (spanned R.Read input.old line) behind) input.old input.new)) }
+    ensures stopped { IfErr result (λ fault. IfInput fault (Stops R.Read (λ behind. Fails progress.old.world.state.table.schema (spanned R.Read input.old line) behind) input.old input.new)) }
     ensures asked { input.new.source.reads ≤ input.old.source.reads }
 {
     if line.is_empty() {

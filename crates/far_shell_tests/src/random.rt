@@ -1,6 +1,7 @@
 //! Scripts of random bytes, and scripts of commands of which one byte is changed: each ends as a script can.
 use far_random::Draws;
 use far_shell::{ShellFault, run_script};
+use std::sync::Wait;
 
 /// How many scripts are drawn.
 const SCRIPTS: u32 = 20_000;
@@ -65,7 +66,7 @@ fn draw_script(draws: &mut Draws, script: &mut Vec<u8>) -> Result<(), ShellFault
 }
 
 /// Whether a script ends as one can whose replies are all written while memory is left.
-fn ends(rt: &HostRuntime, script: &[u8]) -> bool {
+fn ends<R: AllocGlobal + Sync + Wait>(rt: &R, script: &[u8]) -> bool {
     let mut given = Vec::new(rt.alloc());
     match run_script(rt, script, &mut given) {
         Ok(()) | Err(ShellFault::BadStart | ShellFault::Input) => true,
@@ -74,7 +75,7 @@ fn ends(rt: &HostRuntime, script: &[u8]) -> bool {
 }
 
 /// Whether all scripts that are drawn end so.
-fn all_end(rt: &HostRuntime) -> Result<bool, ShellFault> {
+fn all_end<R: AllocGlobal + Sync + Wait>(rt: &R) -> Result<bool, ShellFault> {
     let mut draws = Draws::new(20_000);
     let mut script = Vec::new(rt.alloc());
     for _ in 0..SCRIPTS {

@@ -5,8 +5,8 @@ use Rattle.far_shell.specs.Listings.{row_line}
 use Rattle.far_shell.proofs.DumpLaws.{dump-rest, dump-row, dump-skip}
 use Rattle.far_shell.specs.declared.fault.ShellFault.TheVariants as fault
 use Rattle.far_shell.proofs.BreakLaws.{handed-on}
-use Rattle.far_shell.proofs.listing.dump.Goals.{then-is_live+in_ok-row+in_ok-add-2+in_ok-flush_if_full, else-is_live}
-use Rattle.far_shell.proofs.listing.dump.Goals as goal
+use Rattle.far_shell.proofs.listing.dump_rows.Goals.{then-is_live+in_ok-row+in_ok-add-2+in_ok-flush_if_full, else-is_live}
+use Rattle.far_shell.proofs.listing.dump_rows.Goals as goal
 
 pub loop-place-preserved : goal.loop-place-preserved
 loop-place-preserved g c =
