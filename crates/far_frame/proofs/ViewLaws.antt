@@ -1,9 +1,11 @@
 -- The objects of all row groups.
-use Rattle.std.proofs.Common.{◌≡◌, ℕ, zero, suc, ◌+◌, ◌<◌, ◌≤◌, Bool, List, [], ◌∷◌, ◌++◌, Option, None, Some, refl, sym, ap, ◌∙◌, subst, arith}
+use Rattle.std.proofs.Common.{◌≡◌, ℕ, zero, suc, ◌+◌, ◌-◌, ◌/◌, ◌<◌, ◌≤◌, ◌⊎◌, inl, inr, Bool, true, false, List, [], ◌∷◌, ◌++◌, Option, None, Some, refl, sym, ap, ◌∙◌, subst, arith}
+use Rattle.std.proofs.Math.Nat.{le-div_iff_mul-le, div-mul-le_self, eq-or-lt_of_le}
 use Rattle.std.specs.Prelude.{cond}
 use Rattle.std.specs.Option.{option_or}
 use Rattle.far_types.specs.declared.refusal.Refusal.{Refusal}
 use Rattle.far_types.specs.FirstOf.{first_of}
+use Rattle.far_types.specs.Table.{groups}
 use Rattle.far_rows.specs.Rows.{Rows}
 use Rattle.far_rows.specs.Refusing.{absents}
 use Rattle.far_frame.specs.Views.{absents_of}
@@ -20,6 +22,14 @@ none-first : (first later : Option Refusal) → option_or first later ≡ None �
 none-first None later free = (refl, free)
 none-first (Some e) later free = absurd cc
 
+
+-- the row group of a place is one of those that have a place
+pub group-within : (p size len : ℕ) → 0 < size → p < len → p / size < groups size len
+group-within p size len some below =
+    let down = div-mul-le_self p size in
+    let up : p / size + 1 ≤ (len + size - 1) / size = (le-div_iff_mul-le {k = size} {x = p / size + 1} {y = len + size - 1} some).1 (omega (arith, down)) in
+    omega (arith, up)
+
 module _ {K : Type 0} (r : Rows K) where
   -- a row group that is here leaves the question to those behind it
   pub here-first : (g count : ℕ) → first_of (absents r g) ≡ None → first_of (absents_of r g (suc count)) ≡ first_of (absents_of r (g + 1) count)
@@ -34,4 +44,4 @@ module _ {K : Type 0} (r : Rows K) where
   each-here g zero free k low high = absurd (omega arith)
   each-here g (suc count) free k low high =
       let parts = none-first (first_of (absents r g)) (first_of (absents_of r (g + 1) count)) (sym (first-behind (absents r g) (absents_of r (g + 1) count)) ∙ free) in
-      elim (eq-or-above g k low) [ inl e ↦ subst (λ n. first_of (absents r n) ≡ None) e parts.0 | inr above ↦ each-here (g + 1) count parts.1 k above (omega arith) ]
+      elim (eq-or-lt_of_le low) [ inl e ↦ subst (λ n. first_of (absents r n) ≡ None) e parts.0 | inr above ↦ each-here (g + 1) count parts.1 k (omega arith) (omega arith) ]
