@@ -6,8 +6,8 @@ use std::sync::Wait;
 /// How many scripts are drawn.
 const SCRIPTS: u32 = 20_000;
 
-/// What a script of commands begins with.
-const OPENING: &[u8] = b"schema 4 int,text\n";
+/// What a script of commands begins with: a small table, since its memory is taken anew by each script.
+const OPENING: &[u8] = b"schema 4 int,text 64 1000 16 4 16 256\n";
 
 /// Lines that its commands are drawn from.
 const LINES: [&[u8]; 16] = [

@@ -11,15 +11,16 @@ use Rattle.far_shell.proofs.listing.dump_rows.Goals as goal
 pub loop-place-preserved : goal.loop-place-preserved
 loop-place-preserved g c =
     let places = c.args.frame.now.table.places in
+    let told = rw c.scope-view.ensures at (sym c.is_live.ensures) in
     let front = numbered_text (codes "rows") (length (rows_of places)) in
     elim c.if-is_live.branch [
       | then-is_live+in_ok-row+in_ok-add-2+in_ok-flush_if_full w ↦
           rw (w.output-is, w.writer-is) (dump-row (g.W.Write.contents c.args.writer.now) (g.W.Write.contents c.loop-place.writer) (g.W.Write.contents w.flush_if_full.new.writer)
           c.args.output.now.page c.loop-place.output.page w.add-then-is_live.new.self.page w.flush_if_full.new.self.page front w.row.new.page places c.loop-place.place
-          (sym c.is_live.ensures ∙ w.if-is_live.true) c.loop-place.invariant (rw w.truncate-then-is_live.ensures at w.in_ok-row.ensures.ok) w.in_ok-add-2.ensures.ok w.in_ok-flush_if_full.ensures.printed)
+          (told ∙ w.if-is_live.true) c.loop-place.invariant (rw w.truncate-then-is_live.ensures at w.in_ok-row.ensures.ok) w.in_ok-add-2.ensures.ok w.in_ok-flush_if_full.ensures.printed)
       | else-is_live w ↦
           rw (w.output-is, w.writer-is) (dump-skip (g.W.Write.contents c.args.writer.now) (g.W.Write.contents c.loop-place.writer) c.args.output.now.page c.loop-place.output.page front places c.loop-place.place
-          (sym c.is_live.ensures ∙ w.if-is_live.false) c.loop-place.invariant)
+          (told ∙ w.if-is_live.false) c.loop-place.invariant)
     ]
 
 pub returns-in_err-row-clause-err : goal.returns-in_err-row-clause-err
@@ -38,9 +39,10 @@ returns-in_err-add-2-clause-err g c =
 pub returns-in_err-flush_if_full-clause-err : goal.returns-in_err-flush_if_full-clause-err
 returns-in_err-flush_if_full-clause-err g c =
     let places = c.args.frame.now.table.places in
+    let told = rw c.scope-view.ensures at (sym c.is_live.ensures) in
     let front = numbered_text (codes "rows") (length (rows_of places)) in
     let printed = dump-row (g.W.Write.contents c.args.writer.now) (g.W.Write.contents c.loop-place.writer) (g.W.Write.contents c.flush_if_full.new.writer)
     c.args.output.now.page c.loop-place.output.page c.add-then-is_live.new.self.page c.flush_if_full.new.self.page front c.row.new.page places c.loop-place.place
-    (sym c.is_live.ensures ∙ c.if-is_live.true) c.loop-place.invariant (rw c.truncate-then-is_live.ensures at c.in_ok-row.ensures.ok) c.in_ok-add-2.ensures.ok c.in_err-flush_if_full.ensures.printed in
+    (told ∙ c.if-is_live.true) c.loop-place.invariant (rw c.truncate-then-is_live.ensures at c.in_ok-row.ensures.ok) c.in_ok-add-2.ensures.ok c.in_err-flush_if_full.ensures.printed in
     handed-on c.from_residual-in_err-flush_if_full.result fault.Output _ (rw c.in_err-flush_if_full.ensures.fault at c.from_residual-in_err-flush_if_full.ensures.1)
     (_, printed, inr (_, dump-rest front places (c.loop-place.place + 1)))

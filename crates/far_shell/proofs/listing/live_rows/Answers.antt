@@ -4,7 +4,10 @@ use Rattle.far_shell.proofs.listing.live_rows.Goals.{then-is_live, else-is_live}
 use Rattle.far_shell.proofs.listing.live_rows.Goals as goal
 
 pub loop-place-preserved : goal.loop-place-preserved
-loop-place-preserved g c = elim c.if-is_live.branch [
-  | then-is_live w ↦ rw w.count-is (counted-more c.args.frame.now.table.places c.loop-place.place c.loop-place.count (sym c.is_live.ensures ∙ w.if-is_live.true) c.loop-place.invariant.0, grind (arith, c.loop-place.invariant.1))
-  | else-is_live w ↦ rw w.count-is (c.loop-place.invariant.0 ∙ ap (λ rows. length rows) (sym (row-none c.args.frame.now.table.places c.loop-place.place (sym c.is_live.ensures ∙ w.if-is_live.false))), grind (arith, c.loop-place.invariant.1))
-]
+loop-place-preserved g c =
+    let places = c.args.frame.now.table.places in
+    let told = rw c.scope-view.ensures at (sym c.is_live.ensures) in
+    elim c.if-is_live.branch [
+      | then-is_live w ↦ rw w.count-is (counted-more places c.loop-place.place c.loop-place.count (told ∙ w.if-is_live.true) c.loop-place.invariant.0, grind (arith, c.loop-place.invariant.1))
+      | else-is_live w ↦ rw w.count-is (c.loop-place.invariant.0 ∙ ap (λ rows. length rows) (sym (row-none places c.loop-place.place (told ∙ w.if-is_live.false))), grind (arith, c.loop-place.invariant.1))
+    ]
