@@ -1,5 +1,5 @@
 // A table under lists of steps.
-ghost use Rattle.std.specs.Prelude.{◌≡◌, ◌×◌, IfOk, IfErr, OnErr, IsOk};
+ghost use Rattle.std.specs.Prelude.{◌≡◌, IfOk, IfErr, OnErr, IsOk};
 ghost use Rattle.far_frame.specs.Steps.{Changes, IsStep, IsRun};
 
 use super::frame::Frame;
