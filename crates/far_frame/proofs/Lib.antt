@@ -1,2 +1,3 @@
 mod RunLaws
 mod ViewLaws
+mod FrameLaws

@@ -1,0 +1,17 @@
+use Rattle.std.proofs.Common.{◌≡◌, OnOk, IfErr, refl, subst}
+use Rattle.far_types.specs.declared.edit.Edit.TheVariants as edit
+use Rattle.far_table.specs.Live.{IsEdited}
+use Rattle.far_table.specs.State.{State}
+use Rattle.far_frame.specs.Steps.{Refuses}
+use Rattle.far_frame.specs.declared.step.Step.TheVariants as step
+use Rattle.far_frame.specs.declared.step.Reply.TheVariants as reply
+use Rattle.far_frame.proofs.FrameLaws.{on-ok}
+use Rattle.far_frame.proofs.frame.Frame.set.Goals as goal
+
+pub returns-clause-ok : goal.returns-clause-ok
+returns-clause-ok g c =
+    subst (λ (old : State g.row.S-Ticket.Denot). OnOk c.set.result ((reply.Done ≡ reply.Done) × IsEdited g.S.FarTickets.content old (edit.Set c.args.place c.args.column c.args.cell) c.set.new.self)) c.self.view_is
+    (on-ok c.set.result (λ edited. (refl, edited)) c.set.ensures.ok)
+
+pub returns-clause-err : goal.returns-clause-err
+returns-clause-err g c = subst (λ (old : State g.row.S-Ticket.Denot). IfErr c.set.result (λ e. Refuses old (step.Edit (edit.Set c.args.place c.args.column c.args.cell)) e c.set.new.self)) c.self.view_is c.set.ensures.err
