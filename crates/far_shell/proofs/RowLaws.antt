@@ -1,6 +1,6 @@
 -- A row, field by field.
-use Rattle.std.proofs.Common.{◌≡◌, ◌==◌, ◌+◌, ◌≤◌, ℕ, zero, suc, List, [], ◌∷◌, ◌++◌, length, None, Some, map, drop, append_assoc, append-nil, ◌∙◌, refl, sym, ap, arith}
-use Rattle.std.specs.Prelude.{slice_get, option_map, if◌then◌else◌}
+use Rattle.std.proofs.Common.{◌≡◌, ◌+◌, ◌≤◌, ℕ, zero, suc, Bool, true, false, List, [], ◌∷◌, ◌++◌, length, Option, None, Some, map, drop, append_assoc, append-nil, ◌∙◌, refl, sym, ap, arith}
+use Rattle.std.specs.Prelude.{slice_get, option_map, is_some, not, is_none, if◌then◌else◌}
 use Rattle.std.specs.Option.{option_map_or}
 use Rattle.csv.specs.Writing.{default_writer, field_text, fields_text, is_blank, row_body}
 use Rattle.far_types.specs.declared.cell.Cell.{Cell}
@@ -71,15 +71,25 @@ unfolding is_blank
 row-none page [] h = append_assoc page (34 ∷ 34 ∷ []) (10 ∷ [])
 row-none page (cell ∷ cells) h = cc h
 
-pub row-some : (page : List ℕ) (cells : List Cell) (first : Cell) → slice_get cells 0 ≡ Some first
-    → ((page ++ field_in_record (length cells == 1) (cell_text first)) ++ fields_text default_writer (map cell_text (drop 1 cells))) ++ 10 ∷ [] ≡ page ++ row_line cells
+pub row-some : (page : List ℕ) (cells : List Cell) (first : Cell) (lone : Bool) → slice_get cells 0 ≡ Some first → lone ≡ is_none (slice_get cells 1)
+    → ((page ++ field_in_record lone (cell_text first)) ++ fields_text default_writer (map cell_text (drop 1 cells))) ++ 10 ∷ [] ≡ page ++ row_line cells
 unfolding is_blank fields_text
-row-some page [] first h = cc h
-row-some page (cell ∷ []) first h =
+row-some page [] first lone h k = cc h
+row-some page (cell ∷ []) first lone h k =
     let body = record_text (cell_text cell ∷ []) in
-    rw (sym (same cell first h)) (ap (λ (t : List ℕ). t ++ 10 ∷ []) (append-nil (page ++ body)) ∙ append_assoc page body (10 ∷ [])
+    rw (k, sym (same cell first h)) (ap (λ (t : List ℕ). t ++ 10 ∷ []) (append-nil (page ++ body)) ∙ append_assoc page body (10 ∷ [])
     ∙ ap (λ (t : List ℕ). page ++ t) (append_assoc (row_body default_writer (cell_text cell ∷ [])) (if is_blank default_writer (cell_text cell ∷ []) then 34 ∷ 34 ∷ [] else []) (10 ∷ [])))
-row-some page (cell ∷ next ∷ cells) first h =
+row-some page (cell ∷ next ∷ cells) first lone h k =
     let field = field_text default_writer (cell_text cell) in
     let more = fields_text default_writer (map cell_text (next ∷ cells)) in
-    rw (sym (same cell first h)) (ap (λ (t : List ℕ). t ++ 10 ∷ []) (append_assoc page field more) ∙ append_assoc page (field ++ more) (10 ∷ []))
+    rw (k, sym (same cell first h)) (ap (λ (t : List ℕ). t ++ 10 ∷ []) (append_assoc page field more) ∙ append_assoc page (field ++ more) (10 ∷ []))
+
+pub none-mapped : {A B : Type 0} (f : A → B) (found : Option A) → is_none found ≡ is_none (option_map f found)
+none-mapped f None = refl
+none-mapped f (Some x) = refl
+
+pub none-told : {A : Type 0} (b : Bool) (found : Option A) → is_some found ≡ not b → b ≡ is_none found
+none-told true None h = refl
+none-told false None h = cc h
+none-told true (Some x) h = cc h
+none-told false (Some x) h = refl

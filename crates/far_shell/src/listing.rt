@@ -60,14 +60,15 @@ fn more_fields(page: &mut Page, row: &LentRow) -> Result<(), Refusal>
 }
 
 /// A row as a line.
-fn row(page: &mut Page, row: &LentRow) -> Result<(), Refusal>
+fn print_row(page: &mut Page, row: &LentRow) -> Result<(), Refusal>
     ensures ok { OnOk result (page.new ≡ page.old ++ row_line row.now) }
     ensures memory { IfErr result (λ e. e ≡ Refusal.NoMemory) }
 {
     match row.get(0) {
         None => page.text("\"\"")?,
         Some(first) => {
-            cell(page, row.len() == 1, first)?;
+            let is_lone = row.get(1).is_none();
+            cell(page, is_lone, first)?;
             more_fields(page, row)?;
         }
     }
@@ -115,8 +116,9 @@ fn dump_rows<S: FarTickets, W: Write>(
     output.add()?;
     for place in 0..frame.places() {
         if is_live(&view, place) {
+            let cells = view.row(place)?;
             output.reply.truncate(0);
-            row(&mut output.reply, &view.row(place)?)?;
+            print_row(&mut output.reply, &cells)?;
             output.add()?;
             output.flush_if_full(writer)?;
         }

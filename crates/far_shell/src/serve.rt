@@ -41,11 +41,7 @@ pub fn print_reply(page: &mut Page, reply: &Reply) -> Result<(), Refusal>
 }
 
 /// Takes a step, and prints its reply.
-fn take_step<S: FarStore>(
-    world: &mut World<S>,
-    step: Step,
-    reply: &mut Page,
-) -> Result<(), Refusal>
+fn take_step<S: FarStore>(world: &mut World<S>, step: Step, reply: &mut Page) -> Result<(), Refusal>
     ensures ok { OnOk result (Takes S.content world.old step reply.new world.new) }
     ensures memory { IfErr result (λ e. e ≡ Refusal.NoMemory) }
 {
