@@ -26,7 +26,7 @@ returns-clause-ok g c =
       a.1,
       a.2,
       a.3,
-      subst (λ at. AnswersLine g.S.FarTickets.content at line a.0 a.1 new) c.progress.view_is
+      subst (λ (at : At g.row.S-Ticket.Denot). AnswersLine g.S.FarTickets.content at line a.0 a.1 new) c.progress.view_is
           (answers-command g.S.FarTickets.content (record { world = c.progress.inside.world; number = c.progress.inside.number }) new line a.0 a.1
           (range-some c.args.input.now.held c.args.line.from c.args.line.to some c.requires.held.1) c.in_ok-answer_words.ensures.text refl a.4),
     )
@@ -38,7 +38,7 @@ returns-in_err-answer_words-clause-err g c =
     let line = spanned g.R.Read c.args.input.now c.args.line in
     let old : At g.row.S-Ticket.Denot = record { world = c.progress.inside.world; number = c.progress.inside.number } in
     handed-on c.from_residual.result why _ c.from_residual.ensures.1
-    (p.0, p.1, cut-more why (λ said. Lists old line said) (λ said. Lists c.args.progress.now line said) p.0 (λ said s. subst (λ at. Lists at line said) c.progress.view_is s) p.2)
+    (p.0, p.1, cut-more why (λ said. Lists old line said) (λ said. Lists c.args.progress.now line said) p.0 (λ said s. subst (λ (at : At g.row.S-Ticket.Denot). Lists at line said) c.progress.view_is s) p.2)
 
 pub returns-in_err-answer_words-clause-stopped : goal.returns-in_err-answer_words-clause-stopped
 returns-in_err-answer_words-clause-stopped g c =
@@ -47,4 +47,4 @@ returns-in_err-answer_words-clause-stopped g c =
     let old : At g.row.S-Ticket.Denot = record { world = c.progress.inside.world; number = c.progress.inside.number } in
     handed-on c.from_residual.result why _ c.from_residual.ensures.1
     (if-input why _ _ (λ s. stops-more g.R.Read c.args.input.now c.answer_words.new.input (λ behind. Fails old.world.state.table.schema line behind) (λ behind. Fails c.args.progress.now.world.state.table.schema line behind)
-    (λ bytes f. subst (λ at. Fails at.world.state.table.schema line bytes) c.progress.view_is f) s) c.in_err-answer_words.ensures.stopped)
+    (λ bytes f. subst (λ (at : At g.row.S-Ticket.Denot). Fails at.world.state.table.schema line bytes) c.progress.view_is f) s) c.in_err-answer_words.ensures.stopped)
