@@ -10,6 +10,7 @@ ghost use Rattle.far_table.specs.State.{AreChecked, empty_state};
 ghost use Rattle.far_table.specs.Edits.{edit_due};
 ghost use Rattle.far_table.specs.Live.{IsEdited, Refuses};
 
+mod moving;
 mod watching;
 
 use super::table_rows::TableRows;
