@@ -1,5 +1,5 @@
 -- What a call ensures, with something beside.
-use Rattle.std.proofs.Common.{OnOk, Result, refl, ◌≡◌}
+use Rattle.std.proofs.Common.{OnOk, Result}
 use Rattle.std.specs.declared.result.Result.TheVariants.{Ok, Err}
 
 pub on-ok : {A E : Type 0} {P Q : Type 0} (r : Result A E) → (P → Q) → OnOk r P → OnOk r Q

@@ -1,7 +1,6 @@
 -- A run goes on by one step.
-use Rattle.std.proofs.Common.{◌≡◌, ℕ, false, cond, List, [], ◌∷◌, ◌++◌, sym, ap, ◌∙◌, subst, refl, Option, None, Some}
+use Rattle.std.proofs.Common.{◌≡◌, ℕ, cond, List, [], ◌∷◌, ◌++◌, ap, ◌∙◌, subst, refl, Option, Some}
 use Rattle.far_types.specs.declared.answer.Answer.{Answer}
-use Rattle.far_types.specs.declared.edit.Edit.{Edit}
 use Rattle.far_types.specs.Answers.{answer_over}
 use Rattle.far_types.specs.Table.{Place, Registered, left, answer_now, rows_of}
 use Rattle.far_aggregates.specs.Aggregates.{Answers}

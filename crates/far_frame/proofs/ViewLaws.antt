@@ -1,5 +1,5 @@
 -- The objects of all row groups.
-use Rattle.std.proofs.Common.{◌≡◌, ℕ, zero, suc, ◌+◌, ◌-◌, ◌/◌, ◌<◌, ◌≤◌, ◌⊎◌, inl, inr, Bool, true, false, List, [], ◌∷◌, ◌++◌, Option, None, Some, refl, sym, ap, ◌∙◌, subst, arith}
+use Rattle.std.proofs.Common.{◌≡◌, ℕ, zero, suc, ◌+◌, ◌-◌, ◌/◌, ◌<◌, ◌≤◌, inl, inr, Bool, true, false, List, [], ◌∷◌, ◌++◌, Option, None, Some, refl, sym, ap, ◌∙◌, subst, arith}
 use Rattle.std.proofs.Math.Nat.{le-div_iff_mul-le, div-mul-le_self, eq-or-lt_of_le}
 use Rattle.std.specs.Prelude.{cond}
 use Rattle.std.specs.Option.{option_or}
@@ -21,7 +21,6 @@ first-behind (case ∷ cases) more = ap (cond case.0 (Some case.1)) (first-behin
 none-first : (first later : Option Refusal) → option_or first later ≡ None → (first ≡ None) × (later ≡ None)
 none-first None later free = (refl, free)
 none-first (Some e) later free = absurd cc
-
 
 -- the row group of a place is one of those that have a place
 pub group-within : (p size len : ℕ) → 0 < size → p < len → p / size < groups size len

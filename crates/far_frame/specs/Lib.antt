@@ -1,3 +1,4 @@
 pub mod Steps
 pub mod Runs
 pub mod Views
+pub mod Jobs

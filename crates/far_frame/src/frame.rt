@@ -1,15 +1,18 @@
 // A table and what it answers.
-ghost use Rattle.std.specs.Prelude.{◌≡◌, ◌⊎◌, ℕ, true, false, length, option_map, IfOk, IfErr, IfSome, IfNone, OnOk};
+ghost use Rattle.std.specs.Prelude.{◌≡◌, ◌⊎◌, ℕ, List, true, false, length, option_map, IfOk, IfErr, IfSome, IfNone, OnOk};
 ghost use Rattle.std.specs.Option.{option_copied};
 ghost use Rattle.far_types.specs.declared.edit.Edit.TheVariants as edit;
 ghost use Rattle.far_types.specs.Bounds.{AreLimits};
 ghost use Rattle.far_aggregates.specs.Aggregates.{is_left};
 ghost use Rattle.far_aggregates.specs.Readings.{plain_in};
+ghost use Rattle.far_rows.specs.Jobs.{AreAt};
 ghost use Rattle.far_table.specs.State.{empty_state};
 ghost use Rattle.far_table.specs.Watching.{aggregate_at};
 ghost use Rattle.far_frame.specs.Steps.{Accepts, Refuses};
 ghost use Rattle.far_frame.specs.declared.step.Step.TheVariants as step;
 ghost use Rattle.far_frame.specs.declared.step.Reply.TheVariants as reply;
+
+mod moving;
 
 use super::view::View;
 use far_store::FarTickets;
@@ -20,6 +23,8 @@ use std::marker::Model;
 
 /// A table whose rows lie in objects that are local or away, and whose aggregates are kept up to date under every edit.
 /// Contracts see its state: the plain table, and the rows over objects that hold its places.
+///
+/// All calls of one table that take a store are given the store to which its objects went.
 #[derive(Drop)]
 pub struct Frame<S: FarTickets> {
     table: LiveTable<S>,
@@ -46,6 +51,7 @@ impl<S: FarTickets> Frame<S> {
     ) -> Result<Frame<S>, Refusal>
         ensures ok { IfOk result (λ frame. frame ≡ empty_state schema limits number) }
         ensures limits { OnOk result (AreLimits limits) }
+        ensures here { IfOk result (λ frame. (name : List ℕ) → AreAt S.is_of name frame.rows) }
         ensures bad { IfErr result (λ e. ((e ≡ Refusal.BadSchema) × ¬ (AreLimits limits)) ⊎ ((e ≡ Refusal.NoMemory) × AreLimits limits)) }
     {
         let table = LiveTable::open(alloc, schema, limits, number)?;
@@ -58,6 +64,7 @@ impl<S: FarTickets> Frame<S> {
     pub fn insert(&mut self, row: Row) -> Result<u32, Refusal>
         ensures ok { IfOk result (λ place. Accepts S.content self.old (step.Edit (edit.Insert row)) (reply.Place place) self.new) }
         ensures err { IfErr result (λ e. Refuses self.old (step.Edit (edit.Insert row)) e self.new) }
+        ensures here { (name : List ℕ) → AreAt S.is_of name self.old.rows → AreAt S.is_of name self.new.rows }
     {
         self.table.insert(row)
     }
@@ -68,6 +75,7 @@ impl<S: FarTickets> Frame<S> {
     pub fn set(&mut self, place: u32, column: u32, cell: Cell) -> Result<(), Refusal>
         ensures ok { OnOk result (Accepts S.content self.old (step.Edit (edit.Set place column cell)) reply.Done self.new) }
         ensures err { IfErr result (λ e. Refuses self.old (step.Edit (edit.Set place column cell)) e self.new) }
+        ensures here { (name : List ℕ) → AreAt S.is_of name self.old.rows → AreAt S.is_of name self.new.rows }
     {
         self.table.set(column, place, cell)
     }
@@ -77,6 +85,7 @@ impl<S: FarTickets> Frame<S> {
     pub fn remove(&mut self, place: u32) -> Result<(), Refusal>
         ensures ok { OnOk result (Accepts S.content self.old (step.Edit (edit.Remove place)) reply.Done self.new) }
         ensures err { IfErr result (λ e. Refuses self.old (step.Edit (edit.Remove place)) e self.new) }
+        ensures here { (name : List ℕ) → AreAt S.is_of name self.old.rows → AreAt S.is_of name self.new.rows }
     {
         self.table.remove(place)
     }

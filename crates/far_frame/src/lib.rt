@@ -3,12 +3,14 @@
 //! whole runs of steps.
 
 pub mod frame;
+pub mod job;
 pub mod laws;
 pub mod step;
 pub mod view;
 pub mod world;
 
 pub use frame::Frame;
+pub use job::{Job, JobKind};
 pub use step::{Reply, Step};
 pub use view::View;
 pub use world::{World, run};

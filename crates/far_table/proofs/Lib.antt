@@ -16,3 +16,5 @@ mod Watched
 mod LiveEdits
 mod LiveTaking
 mod LiveScanning
+mod Moved
+mod LiveMoved

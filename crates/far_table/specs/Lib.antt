@@ -4,3 +4,4 @@ pub mod Edits
 pub mod Groups
 pub mod Live
 pub mod Watching
+pub mod Moving

@@ -1,8 +1,9 @@
 // A table over objects, with its aggregates.
-ghost use Rattle.std.specs.Prelude.{◌≡◌, ◌<◌, ◌/◌, ◌⊎◌, true, None, length, IfOk, IfErr, OnOk};
+ghost use Rattle.std.specs.Prelude.{◌≡◌, ◌<◌, ◌/◌, ◌⊎◌, ℕ, List, true, None, length, IfOk, IfErr, OnOk};
 ghost use Rattle.far_types.specs.declared.edit.Edit.TheVariants as edit;
 ghost use Rattle.far_types.specs.Bounds.{AreLimits};
 ghost use Rattle.far_types.specs.FirstOf.{first_of};
+ghost use Rattle.far_rows.specs.Jobs.{AreAt};
 ghost use Rattle.far_rows.specs.Refusing.{absents};
 ghost use Rattle.far_aggregates.specs.Kept.{Keeps, registered_of};
 ghost use Rattle.far_aggregates.specs.Pending.{GoesOn};
@@ -10,6 +11,7 @@ ghost use Rattle.far_table.specs.State.{AreChecked, empty_state};
 ghost use Rattle.far_table.specs.Edits.{edit_due};
 ghost use Rattle.far_table.specs.Live.{IsEdited, Refuses};
 
+mod moving;
 mod watching;
 
 use super::table_rows::TableRows;
@@ -53,6 +55,7 @@ impl<S: FarTickets> LiveTable<S> {
     ) -> Result<LiveTable<S>, Refusal>
         ensures ok { IfOk result (λ table. table ≡ empty_state schema limits number) }
         ensures limits { OnOk result (AreLimits limits) }
+        ensures here { IfOk result (λ table. (name : List ℕ) → AreAt S.is_of name table.rows) }
         ensures bad { IfErr result (λ e. ((e ≡ Refusal.BadSchema) × ¬ (AreLimits limits)) ⊎ ((e ≡ Refusal.NoMemory) × AreLimits limits)) }
     {
         limits.check()?;
@@ -81,6 +84,7 @@ impl<S: FarTickets> LiveTable<S> {
         ensures ok { OnOk result (IsEdited S.content self.old (edit.Insert row) self.new) }
         ensures place { IfOk result (λ place. place ≡ length self.old.table.places) }
         ensures err { IfErr result (λ e. Refuses (edit_due self.old (edit.Insert row)) true self.old e self.new) }
+        ensures here { (name : List ℕ) → AreAt S.is_of name self.old.rows → AreAt S.is_of name self.new.rows }
     {
         self.rows.may_insert(row)?;
         let place = self.rows.len();
@@ -101,6 +105,7 @@ impl<S: FarTickets> LiveTable<S> {
     pub fn set(&mut self, column: u32, place: u32, cell: Cell) -> Result<(), Refusal>
         ensures ok { OnOk result (IsEdited S.content self.old (edit.Set place column cell) self.new) }
         ensures err { IfErr result (λ e. Refuses (edit_due self.old (edit.Set place column cell)) true self.old e self.new) }
+        ensures here { (name : List ℕ) → AreAt S.is_of name self.old.rows → AreAt S.is_of name self.new.rows }
     {
         let value = self.rows.may_set(column, place, cell)?;
         let size = self.rows.limits().group;
@@ -134,6 +139,7 @@ impl<S: FarTickets> LiveTable<S> {
     pub fn remove(&mut self, place: u32) -> Result<(), Refusal>
         ensures ok { OnOk result (IsEdited S.content self.old (edit.Remove place) self.new) }
         ensures err { IfErr result (λ e. Refuses (edit_due self.old (edit.Remove place)) true self.old e self.new) }
+        ensures here { (name : List ℕ) → AreAt S.is_of name self.old.rows → AreAt S.is_of name self.new.rows }
     {
         let row = self.rows.may_remove(place)?;
         let size = self.rows.limits().group;

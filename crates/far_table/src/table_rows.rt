@@ -14,6 +14,7 @@ ghost use Rattle.far_table.specs.TableRows.{AreOpened};
 
 mod asking;
 mod editing;
+mod moving;
 
 use super::row_group::RowGroup;
 use far_rows::{NewRow, Rows};

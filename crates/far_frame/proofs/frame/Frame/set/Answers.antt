@@ -1,5 +1,6 @@
-use Rattle.std.proofs.Common.{◌≡◌, OnOk, IfErr, refl, subst}
+use Rattle.std.proofs.Common.{ℕ, List, ◌≡◌, OnOk, IfErr, refl, subst}
 use Rattle.far_types.specs.declared.edit.Edit.TheVariants as edit
+use Rattle.far_rows.specs.Jobs.{AreAt}
 use Rattle.far_table.specs.Live.{IsEdited}
 use Rattle.far_table.specs.State.{State}
 use Rattle.far_frame.specs.Steps.{Refuses}
@@ -15,3 +16,8 @@ returns-clause-ok g c =
 
 pub returns-clause-err : goal.returns-clause-err
 returns-clause-err g c = subst (λ (old : State g.row.S-Ticket.Denot). IfErr c.set.result (λ e. Refuses old (step.Edit (edit.Set c.args.place c.args.column c.args.cell)) e c.set.new.self)) c.self.view_is c.set.ensures.err
+
+pub returns-clause-here : goal.returns-clause-here
+returns-clause-here g c =
+    let is_of = g.S.FarTickets.is_of in
+    subst (λ (old : State g.row.S-Ticket.Denot). (name : List ℕ) → AreAt is_of name old.rows → AreAt is_of name c.set.new.self.rows) c.self.view_is c.set.ensures.here

@@ -1,0 +1,144 @@
+-- Jobs that move objects: what they are, how they begin, are carried and end.
+use Rattle.std.specs.Prelude.{◌≡◌, ◌≢◌, ◌⊎◌, ℕ, ◌==◌, List, [], ◌∷◌, Option, None, Some, IsTrue}
+use Rattle.std.specs.List.{list_any}
+use Rattle.far_types.specs.declared.name.Name.{Name}
+use Rattle.far_types.specs.declared.refusal.Refusal.{Refusal}
+use Rattle.far_types.specs.declared.refusal.Refusal.TheVariants as refusal
+use Rattle.far_types.specs.Refusals.{number_of as refusal_number}
+use Rattle.far_evacuator.specs.Jobs.{Evacuation, CarriedEvacuation, Fetch, CarriedFetch, IsFormOf}
+use Rattle.far_rows.specs.declared.job.ByKind.{ByKind}
+use Rattle.far_rows.specs.Rows.{Rows}
+use Rattle.far_rows.specs.Coldest.{coldest}
+use Rattle.far_rows.specs.Jobs.{of_either, IsCarriedEvac, IsCarriedFetch, IsEvacBegun, IsFetchBegun, IsEvacAccepted, IsFetchAccepted, pins_by, HasNoRoom}
+use Rattle.far_table.specs.State.{State}
+use Rattle.far_table.specs.Moving.{IsMoved, IsCommitted, IsInstalled}
+use Rattle.far_frame.specs.declared.job.JobKind.{JobKind}
+use Rattle.far_frame.specs.declared.job.JobKind.TheVariants as kind
+use Rattle.far_frame.specs.declared.job.Work.{Work}
+use Rattle.far_frame.specs.declared.job.Work.TheVariants as work
+
+-- the work of a job, by kind and phase
+abbrev pub WorkOf : Type 0 → Type 0
+WorkOf K = Work (ByKind (Evacuation K) (Evacuation K)) (ByKind (CarriedEvacuation K) (CarriedEvacuation K)) (ByKind (Fetch K) (Fetch K)) (ByKind (CarriedFetch K) (CarriedFetch K))
+
+-- a job: the column and the row group of its object, and its work
+pub record JobRecord (K : Type 0) : Type 0 where
+  pub name : Name
+  pub work : WorkOf K
+
+-- the refusal has one of these numbers
+abbrev pub IsOneOf : List ℕ → Refusal → Type 0
+IsOneOf numbers refusal = IsTrue (list_any (λ number. number == refusal_number refusal) numbers)
+
+module _ {K : Type 0} where
+  abbrev pub kind_of_work : WorkOf K → JobKind
+  kind_of_work (work.Evac evac) = kind.Evac
+  kind_of_work (work.Carried carried) = kind.Evac
+  kind_of_work (work.Fetch fetch) = kind.Fetch
+  kind_of_work (work.Fetched fetched) = kind.Fetch
+
+  -- what a job does
+  abbrev pub kind_of : JobRecord K → JobKind
+  kind_of job = kind_of_work job.work
+
+  module _ (is_of : K → List ℕ → Type 0) (name : List ℕ) where
+    abbrev pub IsWorkAt : WorkOf K → Type 0
+    IsWorkAt (work.Evac evac) = IsFormOf is_of name (of_either evac).form
+    IsWorkAt (work.Carried carried) = is_of (of_either carried).ticket name
+    IsWorkAt (work.Fetch fetch) = is_of (of_either fetch).ticket name
+    IsWorkAt (work.Fetched fetched) = is_of (of_either fetched).job.ticket name
+
+    -- what a job holds is of the store of this name
+    abbrev pub IsJobAt : JobRecord K → Type 0
+    IsJobAt job = IsWorkAt job.work
+
+  module _ (content : K → List ℕ) where
+    abbrev pub IsWorkCarried : WorkOf K → WorkOf K → Type 0
+    IsWorkCarried (work.Evac evac) (work.Carried carried) = IsCarriedEvac content evac carried
+    IsWorkCarried (work.Fetch fetch) (work.Fetched fetched) = IsCarriedFetch content fetch fetched
+    IsWorkCarried (work.Evac evac) (work.Evac other) = ⊥
+    IsWorkCarried (work.Evac evac) (work.Fetch other) = ⊥
+    IsWorkCarried (work.Evac evac) (work.Fetched other) = ⊥
+    IsWorkCarried (work.Fetch fetch) (work.Evac other) = ⊥
+    IsWorkCarried (work.Fetch fetch) (work.Carried other) = ⊥
+    IsWorkCarried (work.Fetch fetch) (work.Fetch other) = ⊥
+    IsWorkCarried (work.Carried carried) next = ⊥
+    IsWorkCarried (work.Fetched fetched) next = ⊥
+
+    -- a job that was begun is carried: the store has its form, or its bytes are the content of its ticket
+    pub record IsCarried (job done : JobRecord K) : Type 0 where
+      pub name : done.name ≡ job.name
+      pub work : IsWorkCarried job.work done.work
+
+  abbrev pub WorkRefusal : WorkOf K → Refusal → Type 0
+  WorkRefusal (work.Evac evac) given = IsOneOf (21 ∷ 22 ∷ 1 ∷ []) given
+  WorkRefusal (work.Fetch fetch) given = IsOneOf (21 ∷ 1 ∷ []) given
+  WorkRefusal (work.Carried carried) given = given ≡ refusal.StaleJob
+  WorkRefusal (work.Fetched fetched) given = given ≡ refusal.StaleJob
+
+  -- why a job is not carried: it was already; else the store failed or was full, or memory was wanted
+  abbrev pub CarryRefusal : JobRecord K → Refusal → Type 0
+  CarryRefusal job given = WorkRefusal job.work given
+
+  module _ (r : Rows K) (column group : ℕ) where
+    abbrev pub IsEvacWork : WorkOf K → Type 0
+    IsEvacWork (work.Evac evac) = IsEvacBegun r column group evac
+    IsEvacWork (work.Carried carried) = ⊥
+    IsEvacWork (work.Fetch fetch) = ⊥
+    IsEvacWork (work.Fetched fetched) = ⊥
+
+    -- an evacuation of the object of a row group of a column, begun now
+    pub record IsEvacJob (job : JobRecord K) : Type 0 where
+      pub name : job.name ≡ record { column = column; group = group }
+      pub work : IsEvacWork job.work
+
+    abbrev pub IsFetchWork : WorkOf K → Type 0
+    IsFetchWork (work.Fetch fetch) = IsFetchBegun r column group fetch
+    IsFetchWork (work.Evac evac) = ⊥
+    IsFetchWork (work.Carried carried) = ⊥
+    IsFetchWork (work.Fetched fetched) = ⊥
+
+    -- a fetch of it, begun now
+    pub record IsFetchJob (job : JobRecord K) : Type 0 where
+      pub name : job.name ≡ record { column = column; group = group }
+      pub work : IsFetchWork job.work
+
+  module _ (r : Rows K) where
+    -- the coldest object's evacuation is begun, or there is none
+    abbrev pub IsColdestJob : Option (JobRecord K) → Type 0
+    IsColdestJob None = coldest r ≡ None
+    IsColdestJob (Some job) = (coldest r ≡ Some job.name) × IsEvacJob r job.name.column job.name.group job
+
+  module _ (number_of : K → ℕ) (old : State K) where
+    -- a job is an evacuation that was carried and is accepted, and its object is away
+    abbrev pub Commits : WorkOf K → State K → Type 0
+    Commits (work.Carried carried) new = IsMoved (IsCommitted number_of carried) old new
+    Commits (work.Evac evac) new = ⊥
+    Commits (work.Fetch fetch) new = ⊥
+    Commits (work.Fetched fetched) new = ⊥
+
+    -- or it is not: what it rests on does not hold any more, or its object has a pin. Any other job is stale here
+    abbrev pub CommitRefusal : WorkOf K → Refusal → Type 0
+    CommitRefusal (work.Carried carried) given = ((given ≡ refusal.StaleJob) × ¬ (IsEvacAccepted number_of old.rows carried))
+        ⊎ ((given ≡ refusal.Pinned) × IsEvacAccepted number_of old.rows carried × (pins_by old.rows carried ≢ 0))
+    CommitRefusal (work.Evac evac) given = given ≡ refusal.StaleJob
+    CommitRefusal (work.Fetch fetch) given = given ≡ refusal.StaleJob
+    CommitRefusal (work.Fetched fetched) given = given ≡ refusal.StaleJob
+
+    module _ (content : K → List ℕ) where
+      -- a job is a fetch that was carried and is accepted, and its object is back
+      abbrev pub Installs : WorkOf K → State K → Type 0
+      Installs (work.Fetched fetched) new = IsMoved (IsInstalled content number_of fetched) old new
+      Installs (work.Evac evac) new = ⊥
+      Installs (work.Carried carried) new = ⊥
+      Installs (work.Fetch fetch) new = ⊥
+
+      -- or it is not: what it rests on does not hold any more, its object finds no room, or memory is wanted. Any other job is
+      -- stale here
+      abbrev pub InstallRefusal : WorkOf K → Refusal → Type 0
+      InstallRefusal (work.Fetched fetched) given = ((given ≡ refusal.StaleJob) × ¬ (IsFetchAccepted number_of old.rows fetched))
+          ⊎ (((given ≡ refusal.RegionFull) × IsFetchAccepted number_of old.rows fetched × HasNoRoom content old.rows fetched)
+          ⊎ (given ≡ refusal.NoMemory))
+      InstallRefusal (work.Evac evac) given = given ≡ refusal.StaleJob
+      InstallRefusal (work.Carried carried) given = given ≡ refusal.StaleJob
+      InstallRefusal (work.Fetch fetch) given = given ≡ refusal.StaleJob

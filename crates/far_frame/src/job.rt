@@ -1,0 +1,137 @@
+// Jobs that move objects, of every kind and in every phase.
+ghost use Rattle.std.specs.Prelude.{◌≡◌, ◌+◌, ◌<◌, ◌^◌, Some, IfOk, IfErr};
+ghost use Rattle.far_store.specs.Faults.{faults_in};
+ghost use Rattle.far_evacuator.specs.Jobs.{outcome};
+ghost use Rattle.far_frame.specs.Jobs.{IsJobAt, IsCarried, CarryRefusal, kind_of};
+
+use far_rows::{RowsCarried, RowsEvac, RowsFetch, RowsFetched};
+use far_store::{FarStore, FarTickets, Meter};
+use far_types::{Name, Refusal};
+use std::alloc::Global;
+use std::marker::Model;
+
+/// What a job does.
+#[derive(Clone, Copy, Debug, PartialEq, Eq)]
+pub enum JobKind {
+    /// It sends an object away.
+    Evac,
+    /// It brings an object back.
+    Fetch,
+}
+
+/// The work of a job, by kind and phase. The parameters are the jobs of the crates below.
+#[derive(Drop)]
+pub enum Work<E, C, F, D> {
+    /// An evacuation that was begun.
+    Evac(E),
+    /// An evacuation whose far form the store has.
+    Carried(C),
+    /// A fetch that was begun.
+    Fetch(F),
+    /// A fetch whose bytes were read.
+    Fetched(D),
+}
+
+/// A job of a table. It owns all that it holds, so no table is borrowed between its beginning and its end, and any thread can carry
+/// it. Contracts see the name of its object and its work.
+#[derive(Drop)]
+pub struct Job<S: FarTickets> {
+    pub(crate) name: Name,
+    pub(crate) work: Work<RowsEvac<S>, RowsCarried<S>, RowsFetch<S>, RowsFetched<S>>,
+}
+
+impl<S: FarTickets> Model for Job<S> {
+    ghost use Rattle.far_frame.specs.Jobs.{JobRecord};
+
+    ghost Value = { JobRecord S.Ticket };
+
+    ghost view = { λ job. record { name = job.name; work = job.work } };
+}
+
+impl<S: FarTickets> Job<S> {
+    /// What the job does. Takes no memory.
+    pub fn kind(&self) -> JobKind
+        ensures { result ≡ kind_of self.now }
+    {
+        match &self.work {
+            Work::Evac(_) => JobKind::Evac,
+            Work::Carried(_) => JobKind::Evac,
+            Work::Fetch(_) => JobKind::Fetch,
+            Work::Fetched(_) => JobKind::Fetch,
+        }
+    }
+
+    /// The column and the row group of the object that the job moves. Takes no memory.
+    pub fn object(&self) -> Option<Name>
+        ensures { result ≡ Some self.now.name }
+    {
+        Some(self.name)
+    }
+}
+
+impl<S: FarStore> Job<S> {
+    /// Carries the job: an evacuation puts its far form into the store, a fetch reads its ticket's content. It borrows no table, so
+    /// it may be done beside every other step.
+    ///
+    /// Refused with `StaleJob` (20) exactly where the job was carried already; else with `FarFault` (21) where the store fails in
+    /// this call, exactly where the meter rises, by one; with `FarFull` (22), an evacuation alone; and with `NoMemory` (1). The job
+    /// then comes back whole.
+    pub fn carry(
+        self,
+        alloc: Global,
+        store: &S,
+        meter: &mut Meter,
+    ) -> Result<Job<S>, (Refusal, Job<S>)>
+        requires few { meter.old < 2 ^ 63 }
+        requires here { IsJobAt S.is_of (S.name store.now) self }
+        ensures carried { IfOk result (IsCarried S.content self) }
+        ensures here { IfOk result (IsJobAt S.is_of (S.name store.now)) }
+        ensures back { IfErr result (λ refused. refused.1 ≡ self) }
+        ensures faults { meter.new ≡ meter.old + faults_in (outcome result) }
+        ensures refused { IfErr result (λ refused. CarryRefusal self refused.0) }
+    {
+        let name = self.name;
+        match self.work {
+            Work::Evac(evac) => match evac.carry(alloc, store, meter) {
+                Ok(carried) => Ok(Job {
+                    name,
+                    work: Work::Carried(carried),
+                }),
+                Err((refusal, evac)) => Err((
+                    refusal,
+                    Job {
+                        name,
+                        work: Work::Evac(evac),
+                    },
+                )),
+            },
+            Work::Fetch(fetch) => match fetch.carry(alloc, store, meter) {
+                Ok(fetched) => Ok(Job {
+                    name,
+                    work: Work::Fetched(fetched),
+                }),
+                Err((refusal, fetch)) => Err((
+                    refusal,
+                    Job {
+                        name,
+                        work: Work::Fetch(fetch),
+                    },
+                )),
+            },
+            Work::Carried(carried) => Err((
+                Refusal::StaleJob,
+                Job {
+                    name,
+                    work: Work::Carried(carried),
+                },
+            )),
+            Work::Fetched(fetched) => Err((
+                Refusal::StaleJob,
+                Job {
+                    name,
+                    work: Work::Fetched(fetched),
+                },
+            )),
+        }
+    }
+}

@@ -1,0 +1,172 @@
+-- Objects moved: what always holds of the rows of a table holds still, and the places stay.
+use Rattle.std.proofs.Common.{◌≡◌, ℕ, zero, suc, ◌+◌, ◌-◌, ℤ, List, [], ◌∷◌, length, map, Option, None, Some, Result, refl, sym, ap, subst, ◌∙◌, arith}
+use Rattle.std.specs.Prelude.{All, IsSomeAnd, OnOk, OnErr, slice_get, slice_set}
+use Rattle.std.specs.Option.{option_map_or}
+use Rattle.std.proofs.lemmas.Result.{on_ok_weaker}
+use Rattle.far_types.specs.declared.cell.Kind.{Kind}
+use Rattle.far_types.specs.declared.cell.Kind.TheVariants as kind
+use Rattle.far_types.specs.declared.limits.Limits.{Limits}
+use Rattle.far_types.specs.declared.refusal.Refusal.{Refusal}
+use Rattle.far_types.specs.Cells.{RowFits}
+use Rattle.far_scopes.specs.declared.entry.Entry.{Entry}
+use Rattle.far_scopes.specs.Effects.{with_entry, departed, arrived, pinned as pinned_in, unpinned as unpinned_in, touched as touched_in}
+use Rattle.far_scopes.specs.Movement.{Movement, version_of}
+use Rattle.far_evacuator.specs.Jobs.{CarriedEvacuation, CarriedFetch}
+use Rattle.far_columns.specs.Texts.{Texts, lists_of}
+use Rattle.far_columns.specs.Numbers.{number_lists}
+use Rattle.far_columns.proofs.Setting.{by-outcome, on-both}
+use Rattle.far_rows.specs.declared.job.ByKind.{ByKind}
+use Rattle.far_rows.specs.declared.job.ByKind.TheVariants.{Numbers, Texts as OfTexts}
+use Rattle.far_rows.specs.declared.object.Object.{Object}
+use Rattle.far_rows.specs.declared.object.Object.TheVariants as object
+use Rattle.far_rows.specs.declared.slot.Slot.{Slot}
+use Rattle.far_rows.specs.Slots.{Values, kind_of, row_of}
+use Rattle.far_rows.specs.Rows.{Rows, cells_of}
+use Rattle.far_rows.specs.Places.{places_in, places_of}
+use Rattle.far_rows.specs.Moving.{object_at, pinned, unpinned, touched}
+use Rattle.far_rows.specs.Jobs.{IsEvacAccepted, IsFetchAccepted, IsAfterInstall, after_commit}
+use Rattle.far_aggregates.specs.Kept.{PlacesFit}
+use Rattle.far_table.specs.TableRows.{TableRows, AreWritten, AreKept, rows_in}
+use Rattle.far_table.specs.Moving.{AreMoved, IsPinned, IsUnpinned, IsTouched, IsCommitted, IsInstalled, IsCompactedOf}
+
+-- objects were written as often as before, and may be written as often
+pub record AreAsWritten {X K : Type 0} (old new : Movement X K) : Type 0 where
+  pub changes : new.changes ≡ old.changes
+  pub versions : (o : ℕ) → version_of new o ≡ version_of old o
+
+-- only objects moved, none of which was written
+pub record AreStill {K : Type 0} (old new : Rows K) : Type 0 where
+  pub slots : new.slots ≡ old.slots
+  pub size : new.size ≡ old.size
+  pub numbers : new.numbers ≡ old.numbers
+  pub texts : new.texts ≡ old.texts
+  pub alive : new.alive ≡ old.alive
+  pub number_objects : AreAsWritten old.number_objects new.number_objects
+  pub text_objects : AreAsWritten old.text_objects new.text_objects
+
+module _ {K : Type 0} where
+  abbrev writes : List (Entry K) → ℕ → ℕ
+  writes entries o = option_map_or (λ e. e.version) (slice_get entries o) 0
+
+  with-later : (e : Entry K) (entries : List (Entry K)) (o : ℕ) (change : Entry K → Entry K) → with_entry (e ∷ entries) (suc o) change ≡ e ∷ with_entry entries o change
+  with-later e entries o change = found (slice_get entries o) where
+    found : (at : Option (Entry K)) → option_map_or (λ entry. slice_set (e ∷ entries) (suc o) (change entry)) at (e ∷ entries) ≡ e ∷ option_map_or (λ entry. slice_set entries o (change entry)) at entries
+    found None = refl
+    found (Some entry) = refl
+
+  -- another record for an object, which says that it was written as often
+  writes-with : (entries : List (Entry K)) (o : ℕ) (change : Entry K → Entry K) → ((e : Entry K) → (change e).version ≡ e.version) → (p : ℕ) → writes (with_entry entries o change) p ≡ writes entries p
+  writes-with [] o change same p = refl
+  writes-with (e ∷ entries) zero change same zero = same e
+  writes-with (e ∷ entries) zero change same (suc p) = refl
+  writes-with (e ∷ entries) (suc o) change same zero = ap (λ l. writes l 0) (with-later e entries o change)
+  writes-with (e ∷ entries) (suc o) change same (suc p) = ap (λ l. writes l (suc p)) (with-later e entries o change) ∙ writes-with entries o change same p
+
+  module _ {X : Type 0} (m : Movement X K) where
+    unwritten : AreAsWritten m m
+    unwritten = record { changes = refl; versions = λ o. refl }
+
+    pinned-unwritten : (o : ℕ) → AreAsWritten m (pinned_in m o)
+    pinned-unwritten o = record { changes = refl; versions = writes-with m.entries o (λ e. record e { pins = e.pins + 1 }) (λ e. refl) }
+
+    unpinned-unwritten : (o : ℕ) → AreAsWritten m (unpinned_in m o)
+    unpinned-unwritten o = record { changes = refl; versions = writes-with m.entries o (λ e. record e { pins = e.pins - 1 }) (λ e. refl) }
+
+    departed-unwritten : (o : ℕ) (ticket : K) → AreAsWritten m (departed m o ticket)
+    departed-unwritten o ticket = record { changes = refl; versions = writes-with m.entries o (λ e. record e { leavings = e.leavings + 1; ticket = Some ticket }) (λ e. refl) }
+
+  module _ (r : Rows K) where
+    number-still : (m : Movement (Option ℤ) K) → AreAsWritten r.number_objects m → AreStill r (record r { number_objects = m })
+    number-still m same = record { slots = refl; size = refl; numbers = refl; texts = refl; alive = refl; number_objects = same; text_objects = unwritten r.text_objects }
+
+    text-still : (m : Movement ℕ K) → AreAsWritten r.text_objects m → AreStill r (record r { text_objects = m })
+    text-still m same = record { slots = refl; size = refl; numbers = refl; texts = refl; alive = refl; number_objects = unwritten r.number_objects; text_objects = same }
+
+    pub nothing-still : AreStill r r
+    nothing-still = number-still r.number_objects (unwritten r.number_objects)
+
+    pinned-one : (some : Object) → AreStill r (pinned r some)
+    pinned-one (object.Number o) = number-still (pinned_in r.number_objects o) (pinned-unwritten r.number_objects o)
+    pinned-one (object.Text o) = text-still (pinned_in r.text_objects o) (pinned-unwritten r.text_objects o)
+
+    unpinned-one : (some : Object) → AreStill r (unpinned r some)
+    unpinned-one (object.Number o) = number-still (unpinned_in r.number_objects o) (unpinned-unwritten r.number_objects o)
+    unpinned-one (object.Text o) = text-still (unpinned_in r.text_objects o) (unpinned-unwritten r.text_objects o)
+
+    touched-one : (some : Object) → AreStill r (touched r some)
+    touched-one (object.Number o) = number-still (touched_in r.number_objects o) record { changes = refl; versions = λ p. refl }
+    touched-one (object.Text o) = text-still (touched_in r.text_objects o) record { changes = refl; versions = λ p. refl }
+
+    sent-away : (carried : ByKind (CarriedEvacuation K) (CarriedEvacuation K)) → AreStill r (after_commit r carried)
+    sent-away (Numbers carried) = number-still (departed r.number_objects carried.job.object carried.ticket) (departed-unwritten r.number_objects carried.job.object carried.ticket)
+    sent-away (OfTexts carried) = text-still (departed r.text_objects carried.job.object carried.ticket) (departed-unwritten r.text_objects carried.job.object carried.ticket)
+
+    module _ (now : Rows K) where
+      one-still : {A : Type 0} (change : A → Rows K) → ((some : A) → AreStill r (change some)) → (found : Option A) → IsSomeAnd found (λ some. now ≡ change some) → AreStill r now
+      one-still change each None is = absurd is
+      one-still change each (Some one) is = subst (AreStill r) (sym is) (each one)
+
+      pub pinned-still : (column group : ℕ) → IsPinned column group r now → AreStill r now
+      pinned-still column group is = one-still (pinned r) pinned-one (object_at r column group) is
+
+      pub unpinned-still : (column group : ℕ) → IsUnpinned column group r now → AreStill r now
+      unpinned-still column group is = one-still (unpinned r) unpinned-one (object_at r column group) is
+
+      pub touched-still : (column group : ℕ) → IsTouched column group r now → AreStill r now
+      touched-still column group is = one-still (touched r) touched-one (object_at r column group) is
+
+      pub committed-still : (number_of : K → ℕ) (carried : ByKind (CarriedEvacuation K) (CarriedEvacuation K)) → IsCommitted number_of carried r now → AreStill r now
+      committed-still number_of carried is = subst (AreStill r) (sym is.away) (sent-away carried)
+
+      came-back : (content : K → List ℕ) (fetched : ByKind (CarriedFetch K) (CarriedFetch K)) → IsAfterInstall content r fetched now → AreStill r now
+      came-back content (Numbers fetched) is = one-still (λ (list : List (Option ℤ)). record r { number_objects = arrived r.number_objects fetched.job.object list }) (λ list. number-still (arrived r.number_objects fetched.job.object list) record { changes = refl; versions = λ p. refl }) (number_lists content r.number_objects fetched.job.object) is
+      came-back content (OfTexts fetched) is = one-still (λ (list : List ℕ). record r { text_objects = arrived r.text_objects fetched.job.object list }) (λ list. text-still (arrived r.text_objects fetched.job.object list) record { changes = refl; versions = λ p. refl }) (lists_of content r.text_objects fetched.job.object) is
+
+      pub installed-still : (content : K → List ℕ) (number_of : K → ℕ) (fetched : ByKind (CarriedFetch K) (CarriedFetch K)) → IsInstalled content number_of fetched r now → AreStill r now
+      installed-still content number_of fetched is = came-back content fetched is.back
+
+      pub compacted-still : (of : Kind) (segment : ℕ) → IsCompactedOf of segment r now → AreStill r now
+      compacted-still kind.Int segment is = subst (AreStill r) (sym is.1) (number-still (record r.number_objects { memory = now.number_objects.memory }) record { changes = refl; versions = λ p. refl })
+      compacted-still kind.Text segment is = subst (AreStill r) (sym is.1) (text-still (record r.text_objects { memory = now.text_objects.memory }) record { changes = refl; versions = λ p. refl })
+
+module _ {K A : Type 0} (number_of : K → ℕ) (old now : Rows K) (r : Result A Refusal) where
+  pub committed-both : (carried : ByKind (CarriedEvacuation K) (CarriedEvacuation K)) → OnOk r (IsEvacAccepted number_of old carried) → OnOk r (now ≡ after_commit old carried) → OnOk r (IsCommitted number_of carried old now)
+  committed-both carried accepted away = on-both r accepted away (λ may is. record { accepted = may; away = is })
+
+  pub installed-both : (content : K → List ℕ) (fetched : ByKind (CarriedFetch K) (CarriedFetch K)) → OnOk r (IsFetchAccepted number_of old fetched) → OnOk r (IsAfterInstall content old fetched now) → OnOk r (IsInstalled content number_of fetched old now)
+  installed-both content fetched accepted back = on-both r accepted back (λ may is. record { accepted = may; back = is })
+
+module _ {K : Type 0} (content : K → List ℕ) (schema : List Kind) (limits : Limits) (old : Rows K) (coming : Values) (edits : ℕ) where
+  written-still : {X : Type 0} (m now : Movement X K) → AreAsWritten m now → AreWritten limits edits m → AreWritten limits edits now
+  written-still m now kept are = record { changes = kept.changes ∙ are.changes; versions = λ o. (let before = are.versions o in let same = kept.versions o in omega (arith, before, same)) }
+
+  module _ (now : Rows K) (cells : cells_of content now ≡ cells_of content old) (still : AreStill old now) where
+    still-places : places_in content now ≡ places_in content old
+    still-places = λ i. places_of (cells i) (still.alive i)
+
+    still-kept : AreKept content schema limits old coming edits → AreKept content schema limits now coming edits
+    still-kept kept = record {
+      bounds = kept.bounds;
+      kinds = ap (map kind_of) still.slots ∙ kept.kinds;
+      laid = record { group = still.size ∙ kept.laid.group; limit = subst (λ (cs : List Texts). All (λ c. c.limit ≡ limits.text_size) cs) (sym still.texts) kept.laid.limit };
+      few = omega (arith, ap length still.alive, kept.few);
+      edits_few = kept.edits_few;
+      numbers_written = written-still old.number_objects now.number_objects still.number_objects kept.numbers_written;
+      texts_written = written-still old.text_objects now.text_objects still.text_objects kept.texts_written;
+      numbers = kept.numbers ∙ sym (ap length still.numbers);
+      texts = kept.texts ∙ sym (ap length still.texts);
+      fit = subst PlacesFit (sym still-places) kept.fit;
+      coming_fit = subst (λ (slots : List Slot). RowFits (row_of slots coming)) (sym still.slots) kept.coming_fit;
+    }
+
+  -- a call moved objects, or was refused
+  module _ {A : Type 0} (t : TableRows K) (is : rows_in content schema limits old coming edits ≡ t) (r : Result A Refusal) (now : Rows K) (moves : Rows K → Rows K → Type 0) (ok : OnOk r (moves old now)) (err : OnErr r (now ≡ old)) (cells : cells_of content now ≡ cells_of content old) (still : moves old now → AreStill old now) where
+    pub moved-kept : AreKept content schema limits old coming edits → AreKept content schema limits now coming edits
+    moved-kept kept = still-kept now cells (by-outcome r ok err still (λ (same : now ≡ old). subst (AreStill old) (sym same) (nothing-still old))) kept
+
+    pub moved-rows : OnOk r (AreMoved moves t (rows_in content schema limits now coming edits))
+    moved-rows = on_ok_weaker r (λ (done : moves old now). (
+        let places = still-places now cells (still done) in
+        subst (λ (was : TableRows K). AreMoved moves was (rows_in content schema limits now coming edits)) is
+        record { stays = λ i. record { schema = schema; limits = limits; places = places i; edits = edits; coming = coming; held = now }; held = done }
+        )) ok

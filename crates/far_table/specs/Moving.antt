@@ -1,0 +1,62 @@
+-- Calls that move objects: the table stays as it is, and with it each row, aggregate and answer.
+use Rattle.std.specs.Prelude.{◌≡◌, ℕ, List, length, IsSomeAnd}
+use Rattle.far_types.specs.declared.cell.Kind.{Kind}
+use Rattle.far_types.specs.declared.cell.Kind.TheVariants as kind
+use Rattle.far_log.specs.Changes.{HasNoEmptyOther}
+use Rattle.far_scopes.specs.Compaction.{IsCompacted}
+use Rattle.far_evacuator.specs.Jobs.{CarriedEvacuation, CarriedFetch}
+use Rattle.far_rows.specs.declared.job.ByKind.{ByKind}
+use Rattle.far_rows.specs.Rows.{Rows}
+use Rattle.far_rows.specs.Moving.{object_at, pinned, unpinned, touched}
+use Rattle.far_rows.specs.Jobs.{IsEvacAccepted, IsFetchAccepted, IsAfterInstall, after_commit}
+use Rattle.far_table.specs.State.{State}
+use Rattle.far_table.specs.TableRows.{TableRows}
+
+module _ {K : Type 0} where
+  -- the object of a row group of a column is pinned once more
+  abbrev pub IsPinned : ℕ → ℕ → Rows K → Rows K → Type 0
+  IsPinned column group old new = IsSomeAnd (object_at old column group) (λ object. new ≡ pinned old object)
+
+  -- it is pinned once less
+  abbrev pub IsUnpinned : ℕ → ℕ → Rows K → Rows K → Type 0
+  IsUnpinned column group old new = IsSomeAnd (object_at old column group) (λ object. new ≡ unpinned old object)
+
+  -- it is used: it is hot, and used last, if it is local
+  abbrev pub IsTouched : ℕ → ℕ → Rows K → Rows K → Type 0
+  IsTouched column group old new = IsSomeAnd (object_at old column group) (λ object. new ≡ touched old object)
+
+  -- a carried evacuation is accepted, and its object is away
+  pub record IsCommitted (number_of : K → ℕ) (carried : ByKind (CarriedEvacuation K) (CarriedEvacuation K)) (old new : Rows K) : Type 0 where
+    pub accepted : IsEvacAccepted number_of old carried
+    pub away : new ≡ after_commit old carried
+
+  -- a carried fetch is accepted, and its object is back
+  pub record IsInstalled (content : K → List ℕ) (number_of : K → ℕ) (fetched : ByKind (CarriedFetch K) (CarriedFetch K)) (old new : Rows K) : Type 0 where
+    pub accepted : IsFetchAccepted number_of old fetched
+    pub back : IsAfterInstall content old fetched new
+
+  -- a segment of the objects of a kind is compacted
+  abbrev pub IsCompactedOf : Kind → ℕ → Rows K → Rows K → Type 0
+  IsCompactedOf kind.Int segment old new = IsCompacted old.number_objects.memory new.number_objects.memory segment × (new ≡ record old { number_objects = record old.number_objects { memory = new.number_objects.memory } })
+  IsCompactedOf kind.Text segment old new = IsCompacted old.text_objects.memory new.text_objects.memory segment × (new ≡ record old { text_objects = record old.text_objects { memory = new.text_objects.memory } })
+
+  -- how many segments the objects of a kind have
+  abbrev pub segments_of : Kind → Rows K → ℕ
+  segments_of kind.Int r = length r.number_objects.memory.room
+  segments_of kind.Text r = length r.text_objects.memory.room
+
+  -- none of them but this one is without parts
+  abbrev pub HasNoOther : Kind → ℕ → Rows K → Type 0
+  HasNoOther kind.Int segment r = HasNoEmptyOther r.number_objects.memory.room segment
+  HasNoOther kind.Text segment r = HasNoEmptyOther r.text_objects.memory.room segment
+
+  module _ (moves : Rows K → Rows K → Type 0) where
+    -- the objects in which the places lie move so, and nothing else changes
+    pub record AreMoved (old new : TableRows K) : Type 0 where
+      pub stays : new ≡ record old { held = new.held }
+      pub held : moves old.held new.held
+
+    -- the objects of a table move so, and its rows, aggregates and edits stay
+    pub record IsMoved (old new : State K) : Type 0 where
+      pub table : new.table ≡ old.table
+      pub rows : moves old.rows new.rows
