@@ -1,5 +1,5 @@
 // A fold of the far store's contents beside a fold of a list.
-ghost use Rattle.std.specs.Prelude.{IfOk};
+ghost use Rattle.std.specs.Prelude.{IfOk, All};
 ghost use Rattle.far_codec.specs.Lent.{IsForm};
 
 use crate::forms::{io_error, numbers};
@@ -47,14 +47,15 @@ fn put_numbers<S: FarStore>(
     store.put(alloc, &mut meter, &form)
 }
 
-/// Folds these numbers, all of them alive, from the far store, and says how many there were, and how long it took.
-fn offloaded<S: FarStore>(
-    rt: &HostRuntime,
+/// A job that counts these numbers and their sum, all of them alive, in the far store.
+fn job_of<S: FarStore>(
+    alloc: Global,
     store: &S,
     numbers: &[Option<i64>; 4_096],
-) -> io::Result<(u64, u128)> {
-    let alloc = rt.alloc();
-    let ticket = put_numbers(alloc, store, numbers).map_err(io_error)?;
+) -> Result<OffloadJob<S>, Refusal>
+    ensures { IfOk result (λ job. All (λ ticket. S.is_of ticket.1 (S.name store.now)) job.tickets) }
+{
+    let ticket = put_numbers(alloc, store, numbers)?;
     let mut tickets = Vec::new(alloc);
     tickets.push((0, ticket))?;
     let alive = Vec::from_array(alloc, [true; 4_096])?;
@@ -64,15 +65,28 @@ fn offloaded<S: FarStore>(
         key: None,
         filter: Filter::new(Vec::new(alloc)),
     };
-    let mut meter = Meter::new();
-    let start = Instant::now(rt)?;
-    let done = OffloadJob::new(spec, tickets, alive).carry(alloc, store, &mut meter);
-    let took = start.elapsed(rt)?.as_nanos();
+    Ok(OffloadJob::new(spec, tickets, alive))
+}
+
+/// How many values were folded.
+fn count_of(done: &PartialDone) -> u64 {
     match done {
-        Ok(PartialDone::Totals(live)) => Ok((live.plain().0, took)),
-        Ok(PartialDone::Extrema(_)) => Ok((0, took)),
-        Err((refusal, _)) => Err(io_error(refusal)),
+        PartialDone::Totals(live) => live.plain().0,
+        PartialDone::Extrema(_) => 0,
     }
+}
+
+/// Folds these numbers from the far store, and says how many there were, and how long it took.
+fn offloaded<S: FarStore>(
+    rt: &HostRuntime,
+    store: &S,
+    numbers: &[Option<i64>; 4_096],
+) -> io::Result<(u64, u128)> {
+    let job = job_of(rt.alloc(), store, numbers).map_err(io_error)?;
+    let start = Instant::now(rt)?;
+    let done = job.partial(rt.alloc(), store, &mut Meter::new());
+    let took = start.elapsed(rt)?.as_nanos();
+    done.map(|done| (count_of(&done), took)).map_err(io_error)
 }
 
 /// Times the fold of a list and that of its far form.

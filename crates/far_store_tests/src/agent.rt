@@ -183,14 +183,43 @@ fn serve_callers<S: FarStore, N: FarStore>(
     Ok(are_served && is_carried && answer_of_put(&second, alloc) == FULL)
 }
 
+// The same for a store and a shelf of two contents.
+fn serve_with_shelf<S: FarStore>(store: S, alloc: Global) -> Result<bool, Refusal> {
+    serve_callers(store, ShelfStore::new(alloc, 2)?, alloc)
+}
+
+// The same for a shelf and a store of two contents.
+fn serve_from_shelf<S: FarStore>(store: S, alloc: Global) -> Result<bool, Refusal> {
+    serve_callers(ShelfStore::new(alloc, 8)?, store, alloc)
+}
+
+// The same for a store and one of two contents in a log of three bytes.
+fn serve_with_log<R: Wait + Sync + Drop, S: FarStore>(
+    rt: R,
+    store: S,
+    alloc: Global,
+) -> Result<bool, Refusal> {
+    serve_callers(store, logged(rt, alloc, 3, 2)?, alloc)
+}
+
 #[test]
-fn generic_callers_are_served_by_each_store(rt: HostRuntime) -> Result<(), Fail> {
-    let shelf = ShelfStore::new(rt.alloc(), 2)?;
+fn generic_callers_are_served_by_an_agent_and_a_shelf(rt: HostRuntime) -> Result<(), Fail> {
     let agent = AgentStore::new(&rt, rt.alloc(), 8)?;
-    assert!(rt; serve_callers(agent, shelf, rt.alloc())?);
-    let shelf = ShelfStore::new(rt.alloc(), 8)?;
-    assert!(rt; serve_callers(shelf, logged(&rt, 64, 2)?, rt.alloc())?);
-    assert!(rt; serve_callers(logged(&rt, 64, 8)?, logged(&rt, 3, 2)?, rt.alloc())?);
+    assert_eq!(rt; serve_with_shelf(agent, rt.alloc()), Ok(true));
+    Ok(())
+}
+
+#[test]
+fn generic_callers_are_served_by_a_shelf_and_a_log(rt: HostRuntime) -> Result<(), Fail> {
+    let log = logged(&rt, rt.alloc(), 64, 2)?;
+    assert_eq!(rt; serve_from_shelf(log, rt.alloc()), Ok(true));
+    Ok(())
+}
+
+#[test]
+fn generic_callers_are_served_by_two_logs(rt: HostRuntime) -> Result<(), Fail> {
+    let log = logged(&rt, rt.alloc(), 64, 8)?;
+    assert_eq!(rt; serve_with_log(&rt, log, rt.alloc()), Ok(true));
     Ok(())
 }
 
@@ -213,9 +242,14 @@ fn fills_by_four<R: Threads + Wait + Sync, S: FarStore>(
 #[test]
 fn four_threads_read_back_their_own(rt: HostRuntime) -> Result<(), Fail> {
     let store = AgentStore::new(&rt, rt.alloc(), 40_000)?;
-    assert!(rt; fills_by_four(&rt, store, rt.alloc())?);
-    let store = logged(&rt, 320_000, 40_000)?;
-    assert!(rt; fills_by_four(&rt, store, rt.alloc())?);
+    assert_eq!(rt; fills_by_four(&rt, store, rt.alloc()), Ok(true));
+    Ok(())
+}
+
+#[test]
+fn four_threads_read_back_their_own_from_a_log(rt: HostRuntime) -> Result<(), Fail> {
+    let store = logged(&rt, rt.alloc(), 320_000, 40_000)?;
+    assert_eq!(rt; fills_by_four(&rt, store, rt.alloc()), Ok(true));
     Ok(())
 }
 

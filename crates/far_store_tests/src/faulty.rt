@@ -8,17 +8,19 @@ use crate::scarce_store::ScarceStore;
 use far_store::{AgentStore, FarRead, FarStore, FaultyStore, Meter};
 use far_types::Refusal;
 use std::alloc::{AllocError, Global};
+use std::sync::Wait;
 use std::test::Fail;
 use std::thread::{self, Threads};
 
 // A store of so many contents that fails in these calls.
-fn faulty(
-    rt: &HostRuntime,
+fn faulty<R: Drop>(
+    rt: R,
+    alloc: Global,
     capacity: u64,
     failing_put: u64,
     failing_get: u64,
-) -> Result<FaultyStore<AgentStore<&HostRuntime>>, Refusal> {
-    let agent = AgentStore::new(rt, rt.alloc(), capacity)?;
+) -> Result<FaultyStore<AgentStore<R>>, Refusal> {
+    let agent = AgentStore::new(rt, alloc, capacity)?;
     Ok(FaultyStore::new(agent, failing_put, failing_get))
 }
 
@@ -30,16 +32,28 @@ fn fails_in_put<S: FarStore>(store: S, alloc: Global, failing: u64) -> bool {
     })
 }
 
+// The same of an agent whose put fails as planned.
+fn fails_as_planned<R: Wait + Sync + Drop>(
+    rt: R,
+    alloc: Global,
+    failing: u64,
+) -> Result<bool, Refusal> {
+    let store = faulty(rt, alloc, 8, failing, 0)?;
+    Ok(fails_in_put(store, alloc, failing))
+}
+
 #[test]
 fn the_planned_put_fails_once_and_its_repeat_is_served(rt: HostRuntime) -> Result<(), Fail> {
     for failing in 1..4 {
-        let store = faulty(&rt, 8, failing, 0)?;
-        assert!(rt;
-            fails_in_put(store, rt.alloc(), failing),
-            "failing {failing}"
-        );
+        let fails = fails_as_planned(&rt, rt.alloc(), failing);
+        assert_eq!(rt; fails, Ok(true), "failing {failing}");
     }
-    let store = FaultyStore::new(logged(&rt, 8, 8)?, 2, 0);
+    Ok(())
+}
+
+#[test]
+fn the_planned_put_into_a_log_fails_once(rt: HostRuntime) -> Result<(), Fail> {
+    let store = FaultyStore::new(logged(&rt, rt.alloc(), 8, 8)?, 2, 0);
     assert!(rt; fails_in_put(store, rt.alloc(), 2));
     Ok(())
 }
@@ -54,26 +68,34 @@ fn draws<S: FarStore>(store: S, alloc: Global, numbers: &[Option<u64>]) -> bool 
     })
 }
 
+// What the puts draw of which the third fails.
+const THIRD_FAILS: &[Option<u64>] = &[Some(0), Some(1), None, Some(2), Some(3)];
+
 #[test]
 fn the_planned_put_does_not_reach_the_store_under_it(rt: HostRuntime) -> Result<(), Fail> {
-    const NUMBERS: &[Option<u64>] = &[Some(0), Some(1), None, Some(2), Some(3)];
-    assert!(rt; draws(faulty(&rt, 8, 3, 0)?, rt.alloc(), NUMBERS));
-    let store = FaultyStore::new(logged(&rt, 8, 8)?, 3, 0);
-    assert!(rt; draws(store, rt.alloc(), NUMBERS));
+    let store = faulty(&rt, rt.alloc(), 8, 3, 0)?;
+    assert!(rt; draws(store, rt.alloc(), THIRD_FAILS));
+    Ok(())
+}
+
+#[test]
+fn the_planned_put_does_not_reach_the_log_under_it(rt: HostRuntime) -> Result<(), Fail> {
+    let store = FaultyStore::new(logged(&rt, rt.alloc(), 8, 8)?, 3, 0);
+    assert!(rt; draws(store, rt.alloc(), THIRD_FAILS));
     Ok(())
 }
 
 #[test]
 fn the_planned_get_fails_once_and_leaves_nothing(rt: HostRuntime) -> Result<(), Fail> {
     const WANTED: Gets<'static> = &[(SERVED, &[1, 2]), (FAULT, &[]), (SERVED, &[1, 2])];
-    let store = faulty(&rt, 8, 0, 2)?;
+    let store = faulty(&rt, rt.alloc(), 8, 0, 2)?;
     assert!(rt; answers_gets_of_one(store, rt.alloc(), WANTED)?);
     Ok(())
 }
 
 #[test]
 fn a_0_plans_no_fault(rt: HostRuntime) -> Result<(), Fail> {
-    let store = faulty(&rt, 8, 0, 0)?;
+    let store = faulty(&rt, rt.alloc(), 8, 0, 0)?;
     assert!(rt; serves(store, rt.alloc(), 5)?);
     Ok(())
 }
@@ -114,7 +136,7 @@ fn gives_reasons<S: FarStore>(store: S, alloc: Global, reasons: &[Option<Why>]) 
 
 #[test]
 fn a_put_into_a_full_store_is_counted(rt: HostRuntime) -> Result<(), Fail> {
-    let store = faulty(&rt, 1, 3, 0)?;
+    let store = faulty(&rt, rt.alloc(), 1, 3, 0)?;
     let reasons = [None, Some(Why::Full), Some(Why::Fault), Some(Why::Full)];
     assert!(rt; gives_reasons(store, rt.alloc(), &reasons));
     Ok(())
@@ -134,7 +156,7 @@ fn joined_faults<S: FarStore>(store: S, alloc: Global) -> Result<(u64, u64, u64)
 
 #[test]
 fn joined_meters_add_up(rt: HostRuntime) -> Result<(), Fail> {
-    let store = faulty(&rt, 8, 1, 1)?;
+    let store = faulty(&rt, rt.alloc(), 8, 1, 1)?;
     assert_eq!(rt; joined_faults(store, rt.alloc())?, (1, 1, 2));
     Ok(())
 }
@@ -159,7 +181,7 @@ fn refused_of_four<R: Threads + Sync, S: FarStore>(
 
 #[test]
 fn one_of_four_threads_meets_the_planned_fault(rt: HostRuntime) -> Result<(), Fail> {
-    let store = faulty(&rt, 4_000, 2_000, 0)?;
+    let store = faulty(&rt, rt.alloc(), 4_000, 2_000, 0)?;
     assert_eq!(rt; refused_of_four(&rt, store, rt.alloc())?, (1, 3));
     Ok(())
 }

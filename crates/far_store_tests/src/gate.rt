@@ -37,7 +37,12 @@ fn serves_the_released<R: Threads, S: FarStore>(
 fn a_held_put_goes_on_when_it_is_released(rt: HostRuntime) -> Result<(), Fail> {
     let store = GateStore::new(AgentStore::new(&rt, rt.alloc(), 8)?);
     assert!(rt; serves_the_released(&rt, store, rt.alloc()));
-    let store = GateStore::new(logged(&rt, 8, 8)?);
+    Ok(())
+}
+
+#[test]
+fn a_held_put_into_a_log_goes_on_when_it_is_released(rt: HostRuntime) -> Result<(), Fail> {
+    let store = GateStore::new(logged(&rt, rt.alloc(), 8, 8)?);
     assert!(rt; serves_the_released(&rt, store, rt.alloc()));
     Ok(())
 }
@@ -52,6 +57,11 @@ fn fails_unreleased<S: FarStore>(store: GateStore<S>, alloc: Global) -> bool {
 fn a_put_that_nobody_releases_is_a_fault(rt: HostRuntime) -> Result<(), Fail> {
     let store = GateStore::new(AgentStore::new(&rt, rt.alloc(), 8)?);
     assert!(rt; fails_unreleased(store, rt.alloc()));
+    Ok(())
+}
+
+#[test]
+fn a_put_that_no_second_releases_is_a_fault(rt: HostRuntime) -> Result<(), Fail> {
     let store = GateStore::two(AgentStore::new(&rt, rt.alloc(), 8)?);
     assert!(rt; fails_unreleased(store, rt.alloc()));
     Ok(())
