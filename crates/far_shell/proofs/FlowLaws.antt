@@ -269,8 +269,8 @@ front-within start plain all h = omega (arith, h)
 
 opened-number : {K : Type 0} (bytes blank line : List ℕ) (P : Type 0) (at : At K)
     → ((bytes ≡ blank ++ line ++ 10 ∷ []) × IsOpenedBy (without_return line) at) ⊎ ((bytes ≡ blank ++ line) × IsOpenedBy line at × P) → at.number ≡ 1
-opened-number bytes blank line P at (inl h) = h.1.6
-opened-number bytes blank line P at (inr h) = h.1.6
+opened-number bytes blank line P at (inl h) = h.1.3
+opened-number bytes blank line P at (inr h) = h.1.3
 
 -- the number of the last command
 pub first-number : {K : Type 0} (bytes : List ℕ) (P : Type 0) (at : At K) → Opens bytes P at → at.number ≡ 1

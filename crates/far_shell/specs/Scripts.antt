@@ -4,6 +4,7 @@ use Rattle.std.specs.List.{list_any, flat_map}
 use Rattle.std.specs.Io.BufRead.{strip_last}
 use Rattle.far_types.specs.Bounds.{IsSchema, AreLimits}
 use Rattle.far_table.specs.State.{empty_state}
+use Rattle.far_frame.specs.Steps.{World}
 use Rattle.far_shell.specs.Openings.{Opened, opening_of}
 use Rattle.far_shell.specs.Commands.{command_of}
 use Rattle.far_shell.specs.Progress.{At}
@@ -39,11 +40,16 @@ Blank bytes [] = bytes ≡ []
 Blank bytes (line ∷ lines) = (rest : List ℕ) × (without_return line ≡ []) × (bytes ≡ line ++ 10 ∷ rest) × Blank rest lines
 
 module _ {K : Type 0} where
-  -- a line opens an empty table of its columns and limits, which are what a table may have. No fault was met yet
+  -- an empty table of these columns and limits, which are what a table may have. No fault was met yet
+  pub record IsEmpty (opened : Opened) (world : World K) : Type 0 where
+    pub schema : IsSchema opened.0
+    pub limits : AreLimits opened.1
+    pub state : world.state ≡ empty_state opened.0 opened.1 0
+    pub faults : world.faults ≡ 0
+
+  -- a line opens an empty table of its columns and limits
   abbrev pub IsOpenedBy : List ℕ → At K → Type 0
-  IsOpenedBy line at =
-      (opened : Opened) × (opening_of line ≡ Some opened) × IsSchema opened.0 × AreLimits opened.1
-      × (at.world.state ≡ empty_state opened.0 opened.1 0) × (at.world.faults ≡ 0) × (at.number ≡ 1)
+  IsOpenedBy line at = (opened : Opened) × (opening_of line ≡ Some opened) × IsEmpty opened at.world × (at.number ≡ 1)
 
   -- the first command of a script opens a table; it may lack its end only where nothing comes behind it
   pub record Opens (bytes : List ℕ) (spent : Type 0) (at : At K) : Type 0 where

@@ -1,14 +1,15 @@
 // Scripts, read as they are answered.
-ghost use Rattle.std.specs.Prelude.{◌≡◌, ℕ, List, [], ◌++◌, ◌≤◌, codes, IfOk, IfErr, IfSome, OnOk};
+ghost use Rattle.std.specs.Prelude.{◌≡◌, ◌⊎◌, ℕ, List, [], ◌++◌, ◌≤◌, codes, IfOk, IfErr, IfSome, OnOk};
 ghost use Rattle.std.specs.Io.KnownBytes.{Appends};
+ghost use Rattle.far_types.specs.Bounds.{IsSchema, AreLimits};
 ghost use Rattle.far_shell.specs.Breaks.{Breaks, BreaksOff, IsBroken, Rejection};
 ghost use Rattle.far_shell.specs.Flow.{Gives, IsSpent, IsWhole, Prints, Reads};
-ghost use Rattle.far_shell.specs.Scripts.{Ends, IsOpenedBy, IsScript, Opens};
+ghost use Rattle.far_shell.specs.Scripts.{Ends, IsEmpty, IsOpenedBy, IsScript, Opens};
 
 use super::bounded::MAX_BYTES;
 use super::fault::ShellFault;
 use super::input::{Input, Line};
-use super::opening::first_line;
+use super::opening::{Opening, first_line};
 use super::output::Output;
 use super::page::Page;
 use super::print::refused;
@@ -53,6 +54,20 @@ fn serve_lines<S: FarStore, R: Read + Drop, W: Write>(
     Err(ShellFault::Input)
 }
 
+/// The table that a line asks for, over a store. Refused with `BadSchema` (2) exactly where its columns or its limits are not what a
+/// table may have, else with `NoMemory` (1) alone.
+fn open_table<S: FarStore>(alloc: Global, store: S, opening: Opening) -> Result<World<S>, Refusal>
+    ensures ok { IfOk result (IsEmpty (opening.kinds.items, opening.limits)) }
+    ensures bad { IfErr result (λ e. ((e ≡ Refusal.BadSchema) × ¬ (IsSchema opening.kinds.items × AreLimits opening.limits)) ⊎ (e ≡ Refusal.NoMemory)) }
+{
+    let schema = Schema::new(opening.kinds)?;
+    let frame = Frame::open(alloc, schema, opening.limits, 0)?;
+    let Ok(world) = World::new(frame, store) else {
+        unreachable!()
+    };
+    Ok(world)
+}
+
 /// The table that a first line opens, over a store. Where it opens none, because it is no such line or is refused with
 /// `BadSchema` (2), that is printed, and the fault is `BadStart`.
 fn open_line<S: FarStore>(
@@ -70,15 +85,8 @@ fn open_line<S: FarStore>(
         output.add()?;
         return Err(ShellFault::BadStart);
     };
-    let opened = match Schema::new(opening.kinds) {
-        Ok(schema) => Frame::open(alloc, schema, opening.limits, 0),
-        Err(refusal) => Err(refusal),
-    };
-    match opened {
-        Ok(frame) => {
-            let Ok(world) = World::new(frame, store) else {
-                return Err(ShellFault::Memory);
-            };
+    match open_table(alloc, store, opening) {
+        Ok(world) => {
             output.page.text("ok\n")?;
             Ok(Progress { world, number: 1 })
         }

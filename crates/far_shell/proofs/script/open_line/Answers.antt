@@ -3,7 +3,7 @@ use Rattle.far_shell.specs.declared.fault.ShellFault.TheVariants as fault
 use Rattle.far_shell.proofs.BreakLaws.{handed-on}
 use Rattle.far_shell.proofs.script.open_line.Goals as goal
 
-pub returns-in_err-text-in-Ok-opened-clause-err : goal.returns-in_err-text-in-Ok-opened-clause-err
-returns-in_err-text-in-Ok-opened-clause-err g c =
-    handed-on c.from_residual-in_err-text-in-Ok-opened.result fault.Memory _ c.from_residual-in_err-text-in-Ok-opened.ensures.1
-    ([], c.in_err-text-in-Ok-opened.ensures.err ∙ sym (append-nil c.args.output.now.page), refl)
+pub returns-in_err-text-in-Ok-clause-err : goal.returns-in_err-text-in-Ok-clause-err
+returns-in_err-text-in-Ok-clause-err g c =
+    handed-on c.from_residual-in_err-text-in-Ok.result fault.Memory _ c.from_residual-in_err-text-in-Ok.ensures.1
+    ([], c.in_err-text-in-Ok.ensures.err ∙ sym (append-nil c.args.output.now.page), refl)

@@ -4,10 +4,10 @@ use Rattle.far_shell.proofs.BreakLaws.{breaks-later, handed-on}
 use Rattle.far_shell.proofs.FlowLaws.{first-number, script-whole}
 use Rattle.far_shell.proofs.script.serve.Goals as goal
 
-pub serve_lines-requires : goal.serve_lines-requires
-serve_lines-requires g c =
+pub serve_lines-requires-clause-first : goal.serve_lines-requires-clause-first
+serve_lines-requires-clause-first g c =
     let o = c.in_ok-progress.ensures.ok in
-    record { first = first-number o.0 (IsSpent g.R.Read c.open.new.input) c.in_ok-progress.progress o.3 }
+    first-number o.0 (IsSpent g.R.Read c.open.new.input) c.in_ok-progress.progress o.3
 
 pub returns-clause-ok : goal.returns-clause-ok
 returns-clause-ok g c =
