@@ -5,7 +5,7 @@ use Rattle.far_shell.proofs.FlowLaws.{first-number, script-whole}
 use Rattle.far_shell.proofs.script.serve.Goals as goal
 
 pub serve_lines-requires-clause-first : goal.serve_lines-requires-clause-first
-serve_lines-requires-clause-first g c =
+serve_lines-requires-clause-first g c κs within =
     let o = c.in_ok-progress.ensures.ok in
     first-number o.0 (IsSpent g.R.Read c.open.new.input) c.in_ok-progress.progress o.3
 
