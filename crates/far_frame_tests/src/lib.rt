@@ -1,8 +1,18 @@
 #![tactic(auto)]
-//! Tests of the table: its rows, and steps that are repeated after memory was refused. What a script shows stands in
-//! far_examples.
+//! Tests of the table: steps that are repeated after memory was refused, objects that go away and come back, and random runs
+//! against plain lists. What a script shows stands in far_examples.
 
+#[cfg(test)]
+mod answers;
+#[cfg(test)]
+mod desk;
+#[cfg(test)]
+mod moving;
+#[cfg(test)]
+mod random_run;
 #[cfg(test)]
 mod repeating;
 #[cfg(test)]
-mod rows;
+mod script;
+#[cfg(test)]
+mod values;

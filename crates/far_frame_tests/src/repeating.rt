@@ -1,8 +1,10 @@
 //! A step that is refused for want of memory changes nothing, and is served when it is repeated.
+use crate::answers::{Line, is_answer};
+use crate::values::{row, schema, spec, text_cell};
+use far_fixtures::agent;
 use far_frame::{Frame, Reply, Step, World, run};
-use far_types::{
-    Answer, Cell, Edit, Filter, Fold, Key, Kind, Limits, Refusal, Row, Schema, Spec, Text,
-};
+use far_store::FarStore;
+use far_types::{Cell, Edit, Fold, Limits, Refusal};
 use std::alloc::Global;
 use std::test::Fail;
 
@@ -19,9 +21,6 @@ enum Call {
     Scan(u32, u32),
     Ask(u32),
 }
-
-/// A line of an answer: its key if it has one, and count and sum or least and greatest value.
-type Line = (Option<&'static str>, i128, i128);
 
 /// The reply that is due.
 #[derive(Clone, Copy)]
@@ -74,10 +73,6 @@ const CALLS: [(Call, Due); 26] = [
     (Call::Unwatch(0), Due::Done),
 ];
 
-fn text(alloc: Global, letters: &str) -> Result<Text, Refusal> {
-    Ok(Text::new(String::from_str(alloc, letters)?))
-}
-
 fn set(place: u32, column: u32, cell: Cell) -> Step {
     Step::Edit(Edit::Set {
         place,
@@ -87,24 +82,18 @@ fn set(place: u32, column: u32, cell: Cell) -> Step {
 }
 
 fn watch(alloc: Global, fold: Fold, key: Option<u32>) -> Step {
-    Step::Watch(Spec {
-        fold,
-        value: 0,
-        key,
-        filter: Filter::new(Vec::new(alloc)),
-    })
+    Step::Watch(spec(alloc, fold, key))
 }
 
 fn insert(alloc: Global, number: i64, letters: &str) -> Result<Step, Refusal> {
-    let cells = [Cell::Int(number), Cell::Text(text(alloc, letters)?)];
-    Ok(Step::Edit(Edit::Insert(Row::new(Vec::from_array(alloc, cells)?))))
+    Ok(Step::Edit(Edit::Insert(row(alloc, Some(number), Some(letters))?)))
 }
 
 fn step(alloc: Global, call: Call) -> Result<Step, Refusal> {
     Ok(match call {
         Call::Insert(number, letters) => return insert(alloc, number, letters),
         Call::SetNumber(place, number) => set(place, 0, Cell::Int(number)),
-        Call::SetText(place, letters) => set(place, 1, Cell::Text(text(alloc, letters)?)),
+        Call::SetText(place, letters) => set(place, 1, text_cell(alloc, Some(letters))?),
         Call::Remove(place) => Step::Edit(Edit::Remove(place)),
         Call::Watch(fold) => watch(alloc, fold, None),
         Call::WatchByText(fold) => watch(alloc, fold, Some(1)),
@@ -115,8 +104,7 @@ fn step(alloc: Global, call: Call) -> Result<Step, Refusal> {
 }
 
 /// A table in row groups of two places.
-fn world(alloc: Global) -> Result<World, Refusal> {
-    let schema = Schema::new(Vec::from_array(alloc, [Kind::Int, Kind::Text])?)?;
+fn world<S: FarStore>(alloc: Global, store: S) -> Result<World<S>, Refusal> {
     let limits = Limits {
         group: 2,
         places: 1_000,
@@ -126,52 +114,28 @@ fn world(alloc: Global) -> Result<World, Refusal> {
         text_segments: 64,
         text_size: 65_536,
     };
-    Ok(World::new(Frame::open(alloc, schema, limits, 0)?))
+    match World::new(Frame::open(alloc, schema(alloc)?, limits, 0)?, store) {
+        Ok(world) => Ok(world),
+        Err((refusal, _, _)) => Err(refusal),
+    }
 }
 
 /// The reply to one step. `NoMemory` where the list of it or of its reply cannot be made.
-fn served(alloc: Global, world: &mut World, call: Call) -> Result<Reply, Refusal> {
+fn served<S: FarStore>(alloc: Global, world: &mut World<S>, call: Call) -> Result<Reply, Refusal> {
     let steps = Vec::from_array(alloc, [step(alloc, call)?])?;
     let mut replies = run(world, steps)?;
     replies.pop().ok_or(Refusal::NoMemory)
 }
 
 /// The reply to one step, which is repeated where memory was refused.
-fn repeated(alloc: Global, world: &mut World, call: Call) -> Result<Reply, Refusal> {
+fn repeated<S: FarStore>(
+    alloc: Global,
+    world: &mut World<S>,
+    call: Call,
+) -> Result<Reply, Refusal> {
     match served(alloc, world, call) {
         Ok(Reply::Refused(Refusal::NoMemory)) | Err(_) => served(alloc, world, call),
         reply => reply,
-    }
-}
-
-fn has_key(key: &Option<Key>, due: Option<&str>) -> bool {
-    match (key, due) {
-        (None, None) => true,
-        (Some(Key::Text(text)), Some(due)) => text.as_str() == due,
-        _ => false,
-    }
-}
-
-fn is_answer(answer: &Answer, due: &[Line]) -> bool {
-    match answer {
-        Answer::Totals(lines) => {
-            let lines = lines.as_slice();
-            let mut is_due = lines.len() == due.len();
-            for ((key, count, sum), line) in lines.iter().zip(due) {
-                is_due = is_due && has_key(key, line.0);
-                is_due = is_due && i128::from(*count) == line.1 && *sum == line.2;
-            }
-            is_due
-        }
-        Answer::Extrema(lines) => {
-            let lines = lines.as_slice();
-            let mut is_due = lines.len() == due.len();
-            for ((key, least, greatest), line) in lines.iter().zip(due) {
-                is_due = is_due && has_key(key, line.0);
-                is_due = is_due && i128::from(*least) == line.1 && i128::from(*greatest) == line.2;
-            }
-            is_due
-        }
     }
 }
 
@@ -186,13 +150,18 @@ fn is_reply(reply: &Reply, due: Due) -> bool {
 }
 
 /// Whether a call that is repeated where memory was refused has the reply that is due.
-fn is_served(alloc: Global, world: &mut World, call: Call, due: Due) -> Result<bool, Refusal> {
+fn is_served<S: FarStore>(
+    alloc: Global,
+    world: &mut World<S>,
+    call: Call,
+    due: Due,
+) -> Result<bool, Refusal> {
     let reply = repeated(alloc, world, call)?;
     Ok(is_reply(&reply, due))
 }
 
 /// The first call that has another reply than is due.
-fn first_other(alloc: Global, world: &mut World) -> Result<Option<usize>, Refusal> {
+fn first_other<S: FarStore>(alloc: Global, world: &mut World<S>) -> Result<Option<usize>, Refusal> {
     for (at, (call, due)) in CALLS.iter().enumerate() {
         if !is_served(alloc, world, *call, *due)? {
             return Ok(Some(at));
@@ -201,9 +170,15 @@ fn first_other(alloc: Global, world: &mut World) -> Result<Option<usize>, Refusa
     Ok(None)
 }
 
+/// The first call that has another reply than is due, of a table over this store.
+fn first_other_over<S: FarStore>(alloc: Global, store: S) -> Result<Option<usize>, Refusal> {
+    let mut world = world(alloc, store)?;
+    first_other(alloc, &mut world)
+}
+
 #[test]
 fn a_step_that_found_no_memory_is_served_when_it_is_repeated(rt: HostRuntime) -> Result<(), Fail> {
-    let mut world = world(rt.alloc())?;
-    assert!(rt; first_other(rt.alloc(), &mut world)? == None);
+    let store = agent(&rt, 16)?;
+    assert_eq!(rt; first_other_over(rt.alloc(), store)?, None);
     Ok(())
 }
