@@ -1,7 +1,10 @@
 // Whether a row may be appended.
-ghost use Rattle.std.specs.Prelude.{◌≡◌, length};
+ghost use Rattle.std.specs.Prelude.{◌≡◌, ◌≤◌, length};
 ghost use Rattle.far_scopes.specs.Refusing.{refusal_in};
 ghost use Rattle.far_types.specs.declared.limits.Limits.{Limits};
+ghost use Rattle.far_columns.specs.Texts.{lists_of};
+ghost use Rattle.far_columns.specs.Together.{AreColumns};
+ghost use Rattle.far_columns.specs.RefusingTogether.{push_texts_refusal};
 ghost use Rattle.far_rows.specs.Refusing.{push_refusal};
 ghost use Rattle.far_rows.specs.ByKind.{kinds_refusal};
 ghost use Rattle.far_rows.specs.Places.{AreOf};
@@ -9,9 +12,28 @@ ghost use Rattle.far_rows.specs.Plain.{insert_refusal};
 
 use super::Rows;
 use crate::new_row::NewRow;
-use far_columns::{may_push_numbers, may_push_texts};
+use far_columns::{TextColumn, may_push_numbers, may_push_texts};
+use far_scopes::Objects;
 use far_store::FarTickets;
-use far_types::Refusal;
+use far_types::{Refusal, Text};
+
+// Whether each of at most 16 columns of texts may get its text. A table without such a column has nothing to ask.
+#[inline(always)]
+fn may_push_all_texts<S: FarTickets>(
+    objects: &Objects<u8, S>,
+    columns: &[TextColumn],
+    texts: &[Option<Text>],
+) -> Result<(), Refusal>
+    requires are { AreColumns (lists_of S.content objects.now) columns.now }
+    requires even { length texts.now ≡ length columns.now }
+    requires few { length columns.now ≤ 16 }
+    ensures { refusal_in result ≡ push_texts_refusal S.content objects.now columns.now texts.now }
+{
+    if columns.is_empty() {
+        return Ok(());
+    }
+    may_push_texts(objects, columns, texts)
+}
 
 impl<S: FarTickets> Rows<S> {
     /// Whether a row may be appended. Takes no memory.
@@ -42,7 +64,7 @@ impl<S: FarTickets> Rows<S> {
         // It tells that a table has at most 16 columns.
         let len = self.len();
         self.here((len / self.size as usize) as u32)?;
-        may_push_texts(&self.text_objects, &self.texts, row.texts())?;
+        may_push_all_texts(&self.text_objects, &self.texts, row.texts())?;
         may_push_numbers(&self.number_objects, &self.numbers)
     }
 }

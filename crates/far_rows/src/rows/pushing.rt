@@ -20,7 +20,7 @@ use crate::new_row::NewRow;
 use far_columns::{IntColumn, TextColumn, push_numbers, push_texts, unpush_numbers};
 use far_scopes::Objects;
 use far_store::FarTickets;
-use far_types::Refusal;
+use far_types::{Refusal, Text};
 use std::alloc::Global;
 
 // What each column of numbers knows of itself.
@@ -39,6 +39,35 @@ pub(super) fn known_texts(columns: &[TextColumn])
     for column in columns {
         let _len = column.len();
     }
+}
+
+// Gives each column of texts its text, of those that may be appended. A table without such a column asks and makes nothing.
+#[inline(always)]
+fn push_all_texts<S: FarTickets>(
+    alloc: Global,
+    objects: &mut Objects<u8, S>,
+    columns: &mut [TextColumn],
+    texts: &[Option<Text>],
+) -> Result<(), Refusal>
+    requires are { AreColumns (lists_of S.content objects.old) columns.old }
+    requires even { length texts.now ≡ length columns.old }
+    requires few { all_texts_begin columns.old ≡ true → length objects.old.entries + length columns.old ≤ 2 ^ 28 }
+    requires free { push_texts_refusal S.content objects.old columns.old texts.now ≡ None }
+    ensures pushed { OnOk result (columns.new ≡ all_texts_pushed (length objects.old.entries) columns.old) }
+    ensures begun { OnOk result (all_texts_begin columns.old ≡ true → objects.new ≡ all_created objects.old columns.old (next_forms (lists_of S.content objects.old) (length objects.old.entries) columns.old texts.now)) }
+    ensures replaced { OnOk result (all_texts_begin columns.old ≡ false → AreReplaced objects.old (next_forms (lists_of S.content objects.old) (length objects.old.entries) columns.old texts.now) objects.new) }
+    ensures count { OnOk result (length objects.new.entries ≡ length objects.old.entries + (if all_texts_begin columns.old then length columns.old else 0)) }
+    ensures texts { OnOk result (map (texts_in (lists_of S.content objects.new)) columns.new ≡ all_texts_with (lists_of S.content objects.old) columns.old texts.now) }
+    ensures are { AreColumns (lists_of S.content objects.new) columns.new }
+    ensures clean { AreClean (λ bytes. bytes) S.content objects.old → AreClean (λ bytes. bytes) S.content objects.new }
+    ensures store { (name : List ℕ) → AreHere S.is_of name objects.old → AreHere S.is_of name objects.new }
+    ensures memory { IfErr result (λ e. e ≡ Refusal.NoMemory) }
+    ensures err { OnErr result ((columns.new ≡ columns.old) × (objects.new ≡ objects.old)) }
+{
+    if columns.is_empty() {
+        return Ok(());
+    }
+    push_texts(alloc, objects, columns, texts)
 }
 
 // Gives each column its value of the row. Where row groups begin, the numbers are taken back if the texts are refused;
@@ -83,13 +112,13 @@ fn push_values<S: FarTickets>(
 {
     if begins {
         push_numbers(number_objects, numbers, row.numbers())?;
-        if let Err(refusal) = push_texts(alloc, text_objects, texts, row.texts()) {
+        if let Err(refusal) = push_all_texts(alloc, text_objects, texts, row.texts()) {
             unpush_numbers(number_objects, numbers);
             return Err(refusal);
         }
         return Ok(());
     }
-    push_texts(alloc, text_objects, texts, row.texts())?;
+    push_all_texts(alloc, text_objects, texts, row.texts())?;
     if numbers.is_empty() {
         return Ok(());
     }
