@@ -35,6 +35,7 @@ pub mod InUse
 pub mod Moved
 pub mod Renewed
 pub mod Reading
+pub mod RowCells
 pub mod LentNumbers
 pub mod LentTexts
 pub mod Grouped

@@ -8,6 +8,7 @@ ghost use Rattle.far_types.specs.Lent.{int_cell, text_cell, lent_cell};
 ghost use Rattle.far_rows.specs.Slots.{AreSlots, IsWithin, cell_in, kind_of, row_of, with_value};
 
 use super::lent_cell::lent_number;
+use super::new_row_ref::NewRowRef;
 use super::slot::Slot;
 use far_types::{Cell, CellRef, Kind, LentRow, Refusal, Row, Text};
 use std::alloc::Global;
@@ -90,8 +91,18 @@ impl NewRow {
         row
     }
 
+    /// The row, whose columns have these slots, each cell lent in place once it is asked for. Takes no memory.
+    #[inline(always)]
+    pub fn row_ref<'a>(&'a self, slots: &'a [Slot]) -> NewRowRef<'a>
+        requires { AreSlots slots.now (length self.now.numbers) (length self.now.texts) }
+        ensures { result ≡ row_of slots.now self.now }
+    {
+        NewRowRef::new(self, slots)
+    }
+
     // The cell of a slot.
-    fn cell(&self, slot: Slot) -> CellRef<'_>
+    #[inline(always)]
+    pub(crate) fn cell(&self, slot: Slot) -> CellRef<'_>
         requires { IsWithin (length self.now.numbers) (length self.now.texts) slot }
         ensures { lent_cell result ≡ cell_in self.now slot }
     {

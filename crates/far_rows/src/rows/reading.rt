@@ -16,6 +16,7 @@ ghost use Rattle.far_rows.specs.Refusing.{told_at, absent_at, absents, cell_refu
 
 use super::Rows;
 use crate::lent_cell::{lent_number, lent_text};
+use crate::row_ref::RowRef;
 use crate::slot::Slot;
 use far_columns::{IntColumn, TextColumn};
 use far_scopes::Objects;
@@ -70,7 +71,12 @@ impl<S: FarTickets> Rows<S> {
 
     // The cell of a place that is there, in the column with this slot.
     #[inline(always)]
-    fn cell_in(&self, column: usize, slot: Slot, place: usize) -> Result<CellRef<'_>, Refusal>
+    pub(crate) fn cell_in(
+        &self,
+        column: usize,
+        slot: Slot,
+        place: usize,
+    ) -> Result<CellRef<'_>, Refusal>
         requires lies { slice_get self.now.slots column ≡ Some slot }
         requires place { place < length self.now.alive }
         ensures cell { IfOk result (λ cell. slice_index_or (column_in (all_numbers S.content self.now) (all_texts S.content self.now) slot) place Missing ≡ lent_cell cell) }
@@ -100,6 +106,20 @@ impl<S: FarTickets> Rows<S> {
             row.push(self.cell_in(column, *slot, place)?);
         }
         Ok(row)
+    }
+
+    /// The row of a place, each cell lent where it lies once it is asked for. Takes no memory.
+    ///
+    /// Refused as `row` is, with `Absent` (16) alone.
+    pub fn row_ref(&self, place: usize) -> Result<RowRef<'_, S>, Refusal>
+        requires { place < length self.now.alive }
+        ensures row { IfOk result (λ row. row ≡ row_at (cells_of S.content self.now) place) }
+        ensures refused { refusal_in result ≡ first_of (absents self.now (place / self.now.size)) }
+    {
+        // It tells that there are fewer places than numbers of 32 bits.
+        let _len = self.len();
+        self.here((place / self.size as usize) as u32)?;
+        Ok(RowRef::new(self, place))
     }
 
     /// The text of a place, lent in place; `None` where it is missing. Takes no memory.
