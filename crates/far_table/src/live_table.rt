@@ -91,7 +91,7 @@ impl<S: FarTickets> LiveTable<S> {
         let group = self.rows.limits().group;
         let pending = self
             .aggregates
-            .come_in(self.alloc, &self.rows.coming(), group, place)?;
+            .come_in(self.alloc, &self.rows.coming_ref(), group, place)?;
         if let Err(refusal) = self.rows.push(self.alloc) {
             // the rows are as they were, and so is again what is kept
             self.aggregates.back(pending);

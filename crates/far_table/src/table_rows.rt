@@ -17,7 +17,7 @@ mod editing;
 mod moving;
 
 use super::row_group::RowGroup;
-use far_rows::{NewRow, Rows};
+use far_rows::{NewRow, NewRowRef, RowRef, Rows};
 use far_store::FarTickets;
 use far_types::{Kind, LentRow, Limits, Refusal, Schema};
 use std::alloc::Global;
@@ -130,6 +130,17 @@ impl<S: FarTickets> TableRows<S> {
         self.rows.row(place)
     }
 
+    /// The row of a place, each cell lent in place once it is asked for. Takes no memory.
+    ///
+    /// Refused as `row` is, with `Absent` (16) alone.
+    pub fn row_ref(&self, place: usize) -> Result<RowRef<'_, S>, Refusal>
+        requires { place < length self.now.places }
+        ensures row { IfOk result (λ row. option_map (λ p. p.cells) (slice_get self.now.places place) ≡ Some row) }
+        ensures refused { refusal_in result ≡ first_of (absents self.now.held (place / self.now.limits.group)) }
+    {
+        self.rows.row_ref(place)
+    }
+
     /// A row group, as it is lent to aggregates. Takes no memory.
     pub fn group(&self, number: u32) -> RowGroup<'_, S>
         ensures { result ≡ record { rows = self.now.held; group = number } }
@@ -158,6 +169,16 @@ impl<S: FarTickets> TableRows<S> {
         let _len = self.rows.len();
         let _columns = self.schema.len();
         self.coming.lend(self.rows.slots())
+    }
+
+    /// The row that was taken last, each cell lent in place once it is asked for. Takes no memory.
+    #[inline(always)]
+    pub(crate) fn coming_ref(&self) -> NewRowRef<'_>
+        ensures { result ≡ row_of self.now.held.slots self.now.coming }
+    {
+        // It tells that each slot is that of a column.
+        let _len = self.rows.len();
+        self.coming.row_ref(self.rows.slots())
     }
 }
 

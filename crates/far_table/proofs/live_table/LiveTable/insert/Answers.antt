@@ -69,7 +69,7 @@ invariant_of-self-in_default g c =
     let live = taken-live rows t n slots taken.stays c.self.invariant in
     let e = c.in_ok-pending.ensures in
     let before = subst (λ (l : Limits). Keeps l.group t.places slots) (sym c.limits.ensures.same) live.kept in
-    let came = e.came t.places c.args.row (sym c.len-place.ensures.len) (ap cells_of (c.coming.ensures ∙ taken.taken)) before in
+    let came = e.came t.places c.args.row (sym c.len-place.ensures.len) (ap cells_of (c.coming_ref.ensures ∙ taken.taken)) before in
     let kept = subst (λ (l : Limits). Keeps l.group (places_after (edit.Insert c.args.row) t.places) c.come_in.new.self) c.limits.ensures.same came in
     inserted-live g.S.FarTickets.content rows t c.push.new.self c.args.row taken.stays taken.taken c.in_default.ensures.appended n slots c.come_in.new.self e.registered c.self.invariant kept
 
