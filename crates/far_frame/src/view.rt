@@ -5,6 +5,7 @@ ghost use Rattle.far_scopes.specs.Refusing.{refusal_in};
 ghost use Rattle.far_rows.specs.Refusing.{absents};
 ghost use Rattle.far_frame.specs.Views.{away};
 
+use far_rows::RowRef;
 use far_store::FarTickets;
 use far_table::LiveTable;
 use far_types::{LentRow, Refusal};
@@ -73,5 +74,20 @@ impl<'a, S: FarTickets> View<'a, S> {
             return Err(Refusal::NoRow);
         }
         rows.row(place as usize)
+    }
+
+    /// The row of a place, each cell lent in place once it is asked for, so that the row is not copied. Takes no memory.
+    ///
+    /// Refused as `row` is, with `NoRow` (8) and `Absent` (16).
+    pub fn row_ref(&self, place: u32) -> Result<RowRef<'_, S>, Refusal>
+        ensures row { IfOk result (λ row. option_map (λ p. p.cells) (slice_get self.now.table.places place) ≡ Some row) }
+        ensures past { length self.now.table.places ≤ place → refusal_in result ≡ Some Refusal.NoRow }
+        ensures refused { place < length self.now.table.places → refusal_in result ≡ first_of (absents self.now.rows (place / self.now.table.limits.group)) }
+    {
+        let rows = self.table.rows();
+        if place as usize >= rows.len() {
+            return Err(Refusal::NoRow);
+        }
+        rows.row_ref(place as usize)
     }
 }

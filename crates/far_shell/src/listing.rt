@@ -12,8 +12,9 @@ use super::output::Output;
 use super::page::Page;
 use super::print::{numbered, refused};
 use far_frame::{Frame, View};
+use far_rows::RowRef;
 use far_store::FarTickets;
-use far_types::{CellRef, LentRow, Refusal};
+use far_types::{CellRef, Refusal};
 use itoa::Buffer;
 use std::io::Write;
 
@@ -45,7 +46,7 @@ fn cell(page: &mut Page, is_lone: bool, cell: CellRef) -> Result<(), Refusal>
 }
 
 /// The fields of a row behind its first.
-fn more_fields(page: &mut Page, row: &LentRow) -> Result<(), Refusal>
+fn more_fields<S: FarTickets>(page: &mut Page, row: &RowRef<'_, S>) -> Result<(), Refusal>
     ensures ok { OnOk result (page.new ≡ page.old ++ fields_text default_writer (map cell_text (drop 1 row.now))) }
     ensures memory { IfErr result (λ e. e ≡ Refusal.NoMemory) }
 {
@@ -60,7 +61,7 @@ fn more_fields(page: &mut Page, row: &LentRow) -> Result<(), Refusal>
 }
 
 /// A row as a line.
-fn print_row(page: &mut Page, row: &LentRow) -> Result<(), Refusal>
+fn print_row<S: FarTickets>(page: &mut Page, row: &RowRef<'_, S>) -> Result<(), Refusal>
     ensures ok { OnOk result (page.new ≡ page.old ++ row_line row.now) }
     ensures memory { IfErr result (λ e. e ≡ Refusal.NoMemory) }
 {
@@ -116,7 +117,7 @@ fn dump_rows<S: FarTickets, W: Write>(
     output.add()?;
     for place in 0..frame.places() {
         if is_live(&view, place) {
-            let cells = view.row(place)?;
+            let cells = view.row_ref(place)?;
             output.reply.truncate(0);
             print_row(&mut output.reply, &cells)?;
             output.add()?;

@@ -5,7 +5,7 @@ use Rattle.far_shell.proofs.listing.print_row.Goals.{in-None+in_ok-text-in-None,
 use Rattle.far_shell.proofs.listing.print_row.Goals as goal
 
 pub returns-clause-ok : goal.returns-clause-ok
-returns-clause-ok c = elim c.match-get.branch [
+returns-clause-ok g c = elim c.match-get.branch [
   | in-None+in_ok-text-in-None w ↦
       (rw (w.page-is, w.in_ok-text-in-None.ensures.ok) at c.in_ok-text.ensures.ok)
       ∙ row-none c.args.page.now c.args.row.now (sym c.get.ensures ∙ ap (option_map lent_cell) w.in-None.is)
