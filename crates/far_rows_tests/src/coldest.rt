@@ -91,7 +91,7 @@ const TEXTS_FIRST: [Step; 5] = [
     Step::Coldest(FIRST_NUMBERS),
 ];
 
-const SCRIPTS: [(Limits, &[Step]); 4] = [
+static SCRIPTS: [(Limits, &[Step]); 4] = [
     (LIMITS, &PINNED),
     (LIMITS, &AWAY),
     (TWO_SEGMENTS, &NUMBERS_FIRST),
@@ -100,8 +100,8 @@ const SCRIPTS: [(Limits, &[Step]); 4] = [
 
 #[test]
 fn the_coldest_object_of_the_kind_with_less_room_goes_first(rt: HostRuntime) -> Result<(), Fail> {
-    for (limits, script) in SCRIPTS {
-        assert_eq!(rt; play(&rt, rt.alloc(), limits, 0, script)?, None);
+    for (limits, script) in &SCRIPTS {
+        assert_eq!(rt; play(&rt, rt.alloc(), *limits, 0, script)?, None);
     }
     Ok(())
 }

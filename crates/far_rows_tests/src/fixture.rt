@@ -90,7 +90,7 @@ impl<'a, S: FarStore> Fixture<'a, S> {
     }
 
     /// Whether the table has these rows, all alive, and no other.
-    pub fn has_rows(&self, rows: &[Values<'_>]) -> bool {
+    pub fn has_rows(&self, rows: &[Values<'static>]) -> bool {
         for place in 0..=ROWS.len() {
             if !self.has_row(place, rows.get(place)) {
                 return false;
@@ -99,7 +99,12 @@ impl<'a, S: FarStore> Fixture<'a, S> {
         self.rows.len() == rows.len()
     }
 
-    fn has_row(&self, place: usize, row: Option<&Values<'_>>) -> bool {
+    /// Whether it has the first of `ROWS`.
+    pub fn has_first(&self, count: usize) -> bool {
+        self.has_rows(ROWS.get(..count).unwrap_or(&[]))
+    }
+
+    fn has_row(&self, place: usize, row: Option<&Values<'static>>) -> bool {
         let alive = self.rows.is_alive(place);
         match row {
             Some(values) => alive == Some(true) && self.has_values(place, *values),

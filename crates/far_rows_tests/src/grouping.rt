@@ -81,17 +81,19 @@ const AWAY: Option<Refusal> = Some(Refusal::Absent {
 });
 
 /// Whether a row group of which two columns are away lends neither, and no row, and its other columns.
-fn lends_others<S: FarStore>(alloc: Global, store: &S) -> Result<bool, Refusal> {
+fn lends_others<S: FarStore>(rows: &Rows<S>) -> bool {
+    refused(rows, 1, 0) == AWAY
+        && row_refused(rows, 1) == AWAY
+        && row_refused(rows, 2).is_none()
+        && has_texts(rows, 0, 0, [Some("one"), None])
+}
+
+/// Three rows, of which the first two have two columns away.
+fn of_two_away<S: FarStore>(alloc: Global, store: &S) -> Result<bool, Refusal> {
     let mut fixture = Fixture::filled(alloc, store, LIMITS, 3)?;
     fixture.evacuate(alloc, 2, 0)?;
     fixture.evacuate(alloc, 1, 0)?;
-    let rows = fixture.rows();
-    Ok(
-        refused(rows, 1, 0) == AWAY
-            && row_refused(rows, 1) == AWAY
-            && row_refused(rows, 2).is_none()
-            && has_texts(rows, 0, 0, [Some("one"), None]),
-    )
+    Ok(lends_others(fixture.rows()))
 }
 
 /// Whether the flags of row groups of three rows, of which the first is removed, are lent.
@@ -118,6 +120,6 @@ fn columns_of_row_groups_are_lent(rt: HostRuntime) -> Result<(), Fail> {
 #[test]
 fn what_is_away_is_not_lent_and_told(rt: HostRuntime) -> Result<(), Fail> {
     let store = agent(&rt, 4)?;
-    assert_eq!(rt; lends_others(rt.alloc(), &store), Ok(true));
+    assert_eq!(rt; of_two_away(rt.alloc(), &store), Ok(true));
     Ok(())
 }

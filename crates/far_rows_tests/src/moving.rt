@@ -1,5 +1,5 @@
 // Objects that are pinned, go away, come back and are compacted: worked examples.
-use crate::fixture::{FIRST, FOURTH, Fixture, LIMITS, ROWS, SECOND, THIRD};
+use crate::fixture::{FIRST, FOURTH, Fixture, LIMITS};
 use crate::script::{Call, Set, Step, first_wrong, play, reply};
 use far_fixtures::agent;
 use far_store::FarStore;
@@ -8,7 +8,7 @@ use std::alloc::Global;
 use std::test::Fail;
 
 /// The columns of which the objects of a row group go away, and the first of these: one of texts, one of numbers, and all.
-pub const AWAY: [(&[usize], usize); 3] = [(&[2], 2), (&[1], 1), (&[3, 0, 1, 2], 0)];
+pub static AWAY: [(&[usize], usize); 3] = [(&[2], 2), (&[1], 1), (&[3, 0, 1, 2], 0)];
 
 /// How a call is refused for the object of a column in the second row group.
 fn absent(column: usize) -> Result<(), Refusal> {
@@ -67,7 +67,7 @@ pub fn bring_back<S: FarStore>(
 }
 
 /// Whether calls are answered as they should be while the object of a column is the first that is away.
-pub fn are_refused<S: FarStore>(
+fn are_refused<S: FarStore>(
     alloc: Global,
     fixture: &mut Fixture<'_, S>,
     column: usize,
@@ -78,17 +78,26 @@ pub fn are_refused<S: FarStore>(
     Ok(before.is_none() && moved.is_none() && after.is_none())
 }
 
+/// Brings objects of the second row group back: whether calls were refused before, and the rows are as they were once.
+pub fn come_back<S: FarStore>(
+    alloc: Global,
+    fixture: &mut Fixture<'_, S>,
+    (columns, first): (&[usize], usize),
+) -> Result<bool, Refusal> {
+    let refused = are_refused(alloc, fixture, first)?;
+    bring_back(alloc, fixture, columns)?;
+    Ok(refused && fixture.has_first(3))
+}
+
 /// Sends objects of the second row group away and brings them back: whether calls were refused meanwhile, and the rows are
 /// as before.
 fn go_and_come<S: FarStore>(
     alloc: Global,
     fixture: &mut Fixture<'_, S>,
-    (columns, first): (&[usize], usize),
+    case: (&[usize], usize),
 ) -> Result<bool, Refusal> {
-    send_away(alloc, fixture, columns)?;
-    let refused = are_refused(alloc, fixture, first)?;
-    bring_back(alloc, fixture, columns)?;
-    Ok(refused && fixture.has_rows(&[FIRST, SECOND, THIRD]))
+    send_away(alloc, fixture, case.0)?;
+    come_back(alloc, fixture, case)
 }
 
 /// Moves the objects of the second row group, which has one place, and pushes a row then: whether all went as it should, and
@@ -102,7 +111,7 @@ fn go_and_come_all<S: FarStore>(
         right &= go_and_come(alloc, fixture, case)?;
     }
     fixture.push(alloc, FOURTH)?;
-    Ok(right && fixture.has_rows(&ROWS))
+    Ok(right && fixture.has_first(4))
 }
 
 fn go_and_come_over<S: FarStore>(alloc: Global, store: &S) -> Result<bool, Refusal> {
@@ -136,7 +145,7 @@ fn missing(column: usize, group: u32, refusal: Refusal) -> [Step; 5] {
 }
 
 /// Columns and row groups of which one is not there, or neither is.
-const MISSING: [(usize, u32, Refusal); 4] = [
+static MISSING: [(usize, u32, Refusal); 4] = [
     (4, 0, Refusal::NoColumn),
     (4, 2, Refusal::NoColumn),
     (0, 2, Refusal::OutOfRange),
@@ -144,7 +153,7 @@ const MISSING: [(usize, u32, Refusal); 4] = [
 ];
 
 /// The first column and row group, and the last, are there.
-const USED: [Step; 3] = [
+static USED: [Step; 3] = [
     Step::Call(Call::Touch(0, 0), Ok(())),
     Step::Call(Call::Touch(3, 1), Ok(())),
     Step::Rows(3),
@@ -157,13 +166,13 @@ const ONE_MORE: Limits = Limits {
 };
 
 /// No such segments.
-const NO_SEGMENT: [Step; 2] = [
+static NO_SEGMENT: [Step; 2] = [
     Step::Call(Call::CompactNumbers(5), Err(Refusal::OutOfRange)),
     Step::Call(Call::CompactTexts(8), Err(Refusal::OutOfRange)),
 ];
 
 /// The first row group goes away, and comes back once segments are compacted.
-const COMPACTED_MEANWHILE: [Call; 10] = [
+static COMPACTED_MEANWHILE: [Call; 10] = [
     Call::Evacuate(0, 0),
     Call::Evacuate(1, 0),
     Call::Evacuate(2, 0),
@@ -183,7 +192,7 @@ fn compacts<S: FarStore>(
     call: Call,
 ) -> Result<bool, Refusal> {
     reply(alloc, fixture, call)?;
-    Ok(fixture.has_rows(&ROWS))
+    Ok(fixture.has_first(4))
 }
 
 /// Compacts all segments, one after the other: whether all rows are as before after each, and there are no others.
@@ -216,7 +225,7 @@ fn compacts_twice_over<S: FarStore>(alloc: Global, store: &S) -> Result<bool, Re
 }
 
 /// Two row groups take all segments of numbers.
-const ALL_TAKEN: [Step; 2] = [
+static ALL_TAKEN: [Step; 2] = [
     Step::Call(Call::CompactNumbers(0), Err(Refusal::RegionFull)),
     Step::Rows(4),
 ];

@@ -39,7 +39,7 @@ fn pieces<S: FarTickets>(
 }
 
 /// The slots of its columns, as a table of a column of numbers, one of texts and another of numbers has them.
-const SLOTS: [Slot; 3] = [Slot::Number(0), Slot::Text(0), Slot::Number(1)];
+static SLOTS: [Slot; 3] = [Slot::Number(0), Slot::Text(0), Slot::Number(1)];
 
 /// Whether the columns have these slots, and of which kind they and the next would be.
 fn columns<S: FarTickets>(alloc: Global) -> Result<(bool, [Option<Kind>; 4]), Refusal> {

@@ -1,5 +1,5 @@
 // Rows that are pushed: worked examples.
-use crate::fixture::{FIRST, FOURTH, Fixture, LIMITS, ROWS, SECOND, THIRD, Values};
+use crate::fixture::{FIRST, FOURTH, Fixture, LIMITS, SECOND, THIRD, Values};
 use crate::script::{Call, Step, is_due, play};
 use far_fixtures::agent;
 use far_store::FarStore;
@@ -8,7 +8,7 @@ use std::alloc::Global;
 use std::test::Fail;
 
 /// Each row is asked for, pushed and read back.
-const PUSHED: [Step; 13] = [
+static PUSHED: [Step; 13] = [
     Step::Rows(0),
     Step::Call(Call::MayPush(FIRST), Ok(())),
     Step::Call(Call::Push(FIRST), Ok(())),
@@ -25,7 +25,7 @@ const PUSHED: [Step; 13] = [
 ];
 
 /// Two row groups take all room for numbers.
-const NO_NUMBERS: [Step; 2] = [
+static NO_NUMBERS: [Step; 2] = [
     Step::Call(Call::MayPush(FIRST), Err(Refusal::RegionFull)),
     Step::Rows(4),
 ];
@@ -44,7 +44,7 @@ const TWO_LONG: Values<'static> = (LONG, None, LONG, None);
 const ONE_LONG: Values<'static> = (None, Some(1), LONG, Some(2));
 
 /// A row with one long text fits in it, and neither two such texts do nor another such row.
-const NO_TEXTS: [Step; 6] = [
+static NO_TEXTS: [Step; 6] = [
     Step::Call(Call::MayPush(TWO_LONG), Err(Refusal::RegionFull)),
     Step::Call(Call::Push(ONE_LONG), Ok(())),
     Step::Call(Call::MayPush(ONE_LONG), Err(Refusal::ChunkFull)),
@@ -82,14 +82,14 @@ fn are_too_long<S: FarStore>(alloc: Global, fixture: &Fixture<'_, S>) -> Result<
             return Ok(false);
         }
     }
-    Ok(fixture.has_rows(&[FIRST]))
+    Ok(fixture.has_first(1))
 }
 
 /// Whether long texts are refused behind a row, and the next row is not.
 fn only_short<S: FarStore>(alloc: Global, fixture: &mut Fixture<'_, S>) -> Result<bool, Refusal> {
     let refused = are_too_long(alloc, fixture)?;
     fixture.push(alloc, SECOND)?;
-    Ok(refused && fixture.has_rows(&[FIRST, SECOND]))
+    Ok(refused && fixture.has_first(2))
 }
 
 fn only_short_over<S: FarStore>(alloc: Global, store: &S) -> Result<bool, Refusal> {

@@ -37,7 +37,7 @@ const LARGE: Limits = Limits {
 };
 
 /// Texts that are drawn: the form of a row group is too long with two of those of thirty letters.
-const WORDS: [Option<&str>; 8] = [
+static WORDS: [Option<&str>; 8] = [
     None,
     Some(""),
     Some("a"),
@@ -147,12 +147,12 @@ fn is_right<S: FarStore>(
 fn first_wrong<S: FarStore>(
     alloc: Global,
     fixture: &mut Fixture<'_, S>,
+    plain: &mut Plain,
     draws: &mut Draws,
 ) -> Result<Option<u32>, Refusal> {
-    let mut plain = Plain::new(alloc);
     for step in 0..STEPS {
         let call = drawn_call(draws, plain.len());
-        if !is_right(alloc, fixture, &mut plain, call)? {
+        if !is_right(alloc, fixture, plain, call)? {
             return Ok(Some(step));
         }
     }
@@ -166,7 +166,12 @@ fn first_wrong_of<S: FarStore>(
     seed: u64,
 ) -> Result<Option<u32>, Refusal> {
     let mut fixture = Fixture::new(alloc, store, LARGE)?;
-    first_wrong(alloc, &mut fixture, &mut Draws::new(seed))
+    first_wrong(
+        alloc,
+        &mut fixture,
+        &mut Plain::new(alloc),
+        &mut Draws::new(seed),
+    )
 }
 
 #[test]

@@ -1,6 +1,6 @@
 // Scripts: calls on a table with their replies, and what its rows are between them.
 use crate::filling::{number_cell, text_cell};
-use crate::fixture::{Fixture, ROWS, Values};
+use crate::fixture::{Fixture, Values};
 use far_rows::NewCell;
 use far_store::{AgentStore, FarStore};
 use far_types::{Kind, Limits, Name, Refusal};
@@ -102,7 +102,7 @@ fn comes_out<S: FarStore>(
 ) -> Result<bool, Refusal> {
     match step {
         Step::Call(call, due) => is_due(reply(alloc, fixture, call), due),
-        Step::Rows(count) => Ok(fixture.has_rows(ROWS.get(..count).unwrap_or(&[]))),
+        Step::Rows(count) => Ok(fixture.has_first(count)),
         Step::Values(place, values) => Ok(fixture.has_values(place, values)),
         Step::Alive(place, alive) => Ok(fixture.rows().is_alive(place) == alive),
         Step::Coldest(name) => Ok(fixture.rows().coldest() == name),

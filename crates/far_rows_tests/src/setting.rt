@@ -8,7 +8,7 @@ use std::alloc::Global;
 use std::test::Fail;
 
 /// Sets one after the other, each with its place and the values of that place after it.
-const SETS: [(Set, usize, Values<'static>); 8] = [
+static SETS: [(Set, usize, Values<'static>); 8] = [
     (
         Set::Number(0, 1, Some(7)),
         0,
@@ -48,7 +48,7 @@ const SETS: [(Set, usize, Values<'static>); 8] = [
 ];
 
 /// The third place is cleared, and a cell of it is set.
-const CLEARED: [Step; 13] = [
+static CLEARED: [Step; 13] = [
     Step::Call(Call::Clear(2), Ok(())),
     Step::Alive(1, Some(true)),
     Step::Alive(2, Some(false)),
@@ -67,7 +67,7 @@ const CLEARED: [Step; 13] = [
 /// A text of 64 letters, whose form would have more bytes.
 const FILLING: &str = "aaaaaaaaaaaaaaaaaaaaaaaaaaaaaaaaaaaaaaaaaaaaaaaaaaaaaaaaaaaaaaaa";
 
-const TOO_LONG: [Step; 2] = [
+static TOO_LONG: [Step; 2] = [
     Step::Call(
         Call::MaySet(Set::Text(3, 2, Some(FILLING))),
         Err(Refusal::ChunkFull),
@@ -85,7 +85,7 @@ const TWO_SEGMENTS: Limits = Limits {
     ..LIMITS
 };
 
-const NO_ROOM: [Step; 3] = [
+static NO_ROOM: [Step; 3] = [
     Step::Call(Call::Push(TWO_LONG), Ok(())),
     Step::Call(
         Call::MaySet(Set::Text(0, 2, Some("a"))),
@@ -96,7 +96,7 @@ const NO_ROOM: [Step; 3] = [
 
 const TWO_EDITS: Limits = Limits { edits: 2, ..LIMITS };
 
-const WRITTEN_OUT: [Step; 9] = [
+static WRITTEN_OUT: [Step; 9] = [
     Step::Call(Call::Set(Set::Number(0, 1, Some(8))), Ok(())),
     Step::Call(Call::Set(Set::Text(0, 0, Some("b"))), Ok(())),
     Step::Call(Call::Set(Set::Number(0, 1, Some(9))), Ok(())),
@@ -143,8 +143,8 @@ fn first_wrong_set<S: FarStore>(
 }
 
 fn first_wrong_set_over<S: FarStore>(alloc: Global, store: &S) -> Result<Option<usize>, Refusal> {
-    let mut fixture = Fixture::filled(alloc, store, LIMITS, 4)?;
     let mut rows = ROWS;
+    let mut fixture = Fixture::filled(alloc, store, LIMITS, 4)?;
     first_wrong_set(alloc, &mut fixture, &mut rows)
 }
 
