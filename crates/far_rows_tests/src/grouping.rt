@@ -88,19 +88,31 @@ fn lends_others<S: FarStore>(rows: &Rows<S>) -> bool {
         && has_texts(rows, 0, 0, [Some("one"), None])
 }
 
-/// Three rows, of which the first two have two columns away.
-fn of_two_away<S: FarStore>(alloc: Global, store: &S) -> Result<bool, Refusal> {
-    let mut fixture = Fixture::filled(alloc, store, LIMITS, 3)?;
+/// The same once two columns of the first row group are away.
+fn lends_others_than_away<S: FarStore>(
+    alloc: Global,
+    fixture: &mut Fixture<'_, S>,
+) -> Result<bool, Refusal> {
     fixture.evacuate(alloc, 2, 0)?;
     fixture.evacuate(alloc, 1, 0)?;
     Ok(lends_others(fixture.rows()))
 }
 
-/// Whether the flags of row groups of three rows, of which the first is removed, are lent.
-fn lends<S: FarStore>(alloc: Global, store: &S) -> Result<bool, Refusal> {
+/// Three rows, of which the first two have two columns away.
+fn of_two_away<S: FarStore>(alloc: Global, store: &S) -> Result<bool, Refusal> {
     let mut fixture = Fixture::filled(alloc, store, LIMITS, 3)?;
+    lends_others_than_away(alloc, &mut fixture)
+}
+
+/// Whether the flags of row groups of three rows are lent, once the first is removed.
+fn lends_flags<S: FarStore>(fixture: &mut Fixture<'_, S>) -> Result<bool, Refusal> {
     fixture.clear(0)?;
     Ok(has_flags(fixture.rows()))
+}
+
+fn lends<S: FarStore>(alloc: Global, store: &S) -> Result<bool, Refusal> {
+    let mut fixture = Fixture::filled(alloc, store, LIMITS, 3)?;
+    lends_flags(&mut fixture)
 }
 
 #[test]

@@ -1,6 +1,6 @@
 // Objects that are pinned, go away, come back and are compacted: worked examples.
 use crate::fixture::{FIRST, FOURTH, Fixture, LIMITS};
-use crate::script::{Call, Set, Step, first_wrong, play, reply};
+use crate::script::{Call, Set, Step, answered, first_wrong, play, reply};
 use far_fixtures::agent;
 use far_store::FarStore;
 use far_types::{Limits, Refusal};
@@ -252,8 +252,7 @@ fn only_objects_that_are_there_are_pinned_and_used(rt: HostRuntime) -> Result<()
         let wrong = play(&rt, rt.alloc(), LIMITS, 3, &missing(column, group, refusal))?;
         assert_eq!(rt; wrong, None, "column {column}, row group {group}");
     }
-    assert_eq!(rt; play(&rt, rt.alloc(), LIMITS, 3, &USED)?, None);
-    Ok(())
+    answered(play(&rt, rt.alloc(), LIMITS, 3, &USED))
 }
 
 #[test]
@@ -265,6 +264,5 @@ fn compacted_objects_have_their_cells(rt: HostRuntime) -> Result<(), Fail> {
 
 #[test]
 fn a_segment_is_not_compacted_without_another_that_is_empty(rt: HostRuntime) -> Result<(), Fail> {
-    assert_eq!(rt; play(&rt, rt.alloc(), LIMITS, 4, &ALL_TAKEN)?, None);
-    Ok(())
+    answered(play(&rt, rt.alloc(), LIMITS, 4, &ALL_TAKEN))
 }

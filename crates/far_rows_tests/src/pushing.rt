@@ -1,6 +1,6 @@
 // Rows that are pushed: worked examples.
 use crate::fixture::{FIRST, FOURTH, Fixture, LIMITS, SECOND, THIRD, Values};
-use crate::script::{Call, Step, is_due, play};
+use crate::script::{Call, Step, answered, is_due, play};
 use far_fixtures::agent;
 use far_store::FarStore;
 use far_types::{Limits, Refusal};
@@ -99,20 +99,17 @@ fn only_short_over<S: FarStore>(alloc: Global, store: &S) -> Result<bool, Refusa
 
 #[test]
 fn rows_that_are_pushed_read_back(rt: HostRuntime) -> Result<(), Fail> {
-    assert_eq!(rt; play(&rt, rt.alloc(), LIMITS, 0, &PUSHED)?, None);
-    Ok(())
+    answered(play(&rt, rt.alloc(), LIMITS, 0, &PUSHED))
 }
 
 #[test]
 fn a_row_group_without_room_for_its_numbers_is_refused(rt: HostRuntime) -> Result<(), Fail> {
-    assert_eq!(rt; play(&rt, rt.alloc(), LIMITS, 4, &NO_NUMBERS)?, None);
-    Ok(())
+    answered(play(&rt, rt.alloc(), LIMITS, 4, &NO_NUMBERS))
 }
 
 #[test]
 fn a_row_group_without_room_for_its_texts_is_refused(rt: HostRuntime) -> Result<(), Fail> {
-    assert_eq!(rt; play(&rt, rt.alloc(), ONE_SEGMENT, 0, &NO_TEXTS)?, None);
-    Ok(())
+    answered(play(&rt, rt.alloc(), ONE_SEGMENT, 0, &NO_TEXTS))
 }
 
 #[test]

@@ -1,4 +1,5 @@
-// Scripts: calls on a table with their replies, and what its rows are between them.
+// Scripts: calls on a table with their replies, and what its rows are between them. They are statics, since a constant is built
+// step by step in the body of each test that plays it, and the proof of a body grows with its steps.
 use crate::filling::{number_cell, text_cell};
 use crate::fixture::{Fixture, Values};
 use far_rows::NewCell;
@@ -6,6 +7,7 @@ use far_store::{AgentStore, FarStore};
 use far_types::{Kind, Limits, Name, Refusal};
 use std::alloc::Global;
 use std::sync::Wait;
+use std::test::Fail;
 
 /// A value for a cell: its place, its column, and the text or the number.
 #[derive(Clone, Copy)]
@@ -47,6 +49,14 @@ pub enum Step {
     Alive(usize, Option<bool>),
     /// The object that goes away first.
     Coldest(Option<Name>),
+}
+
+/// Fails where a step of a script did not come out as it should, and names it.
+pub fn answered(first_wrong: Result<Option<usize>, Refusal>) -> Result<(), Fail> {
+    match first_wrong? {
+        Some(step) => Err(Fail::new(format_args!("step {step}"))),
+        None => Ok(()),
+    }
 }
 
 /// Plays a script on a new table of the first rows: the index of the first step that does not come out as it should.

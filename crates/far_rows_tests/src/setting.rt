@@ -1,6 +1,6 @@
 // Cells that are set: worked examples.
 use crate::fixture::{FIRST, FOURTH, Fixture, LIMITS, ROWS, SECOND, THIRD, Values};
-use crate::script::{Call, Set, Step, play, reply};
+use crate::script::{Call, Set, Step, answered, play, reply};
 use far_fixtures::agent;
 use far_store::FarStore;
 use far_types::{Limits, Refusal};
@@ -157,24 +157,20 @@ fn a_cell_that_is_set_reads_back_and_the_others_stay(rt: HostRuntime) -> Result<
 
 #[test]
 fn a_cleared_place_keeps_its_cells(rt: HostRuntime) -> Result<(), Fail> {
-    assert_eq!(rt; play(&rt, rt.alloc(), LIMITS, 4, &CLEARED)?, None);
-    Ok(())
+    answered(play(&rt, rt.alloc(), LIMITS, 4, &CLEARED))
 }
 
 #[test]
 fn a_text_whose_form_is_too_long_is_not_set(rt: HostRuntime) -> Result<(), Fail> {
-    assert_eq!(rt; play(&rt, rt.alloc(), LIMITS, 4, &TOO_LONG)?, None);
-    Ok(())
+    answered(play(&rt, rt.alloc(), LIMITS, 4, &TOO_LONG))
 }
 
 #[test]
 fn a_text_without_room_beside_the_old_one_is_not_set(rt: HostRuntime) -> Result<(), Fail> {
-    assert_eq!(rt; play(&rt, rt.alloc(), TWO_SEGMENTS, 0, &NO_ROOM)?, None);
-    Ok(())
+    answered(play(&rt, rt.alloc(), TWO_SEGMENTS, 0, &NO_ROOM))
 }
 
 #[test]
 fn an_object_is_written_as_often_as_there_may_be_edits(rt: HostRuntime) -> Result<(), Fail> {
-    assert_eq!(rt; play(&rt, rt.alloc(), TWO_EDITS, 1, &WRITTEN_OUT)?, None);
-    Ok(())
+    answered(play(&rt, rt.alloc(), TWO_EDITS, 1, &WRITTEN_OUT))
 }
