@@ -1,12 +1,14 @@
 -- Objects moved: what always holds of the rows of a table holds still, and the places stay.
-use Rattle.std.proofs.Common.{◌≡◌, ℕ, zero, suc, ◌+◌, ◌-◌, ℤ, List, [], ◌∷◌, length, map, Option, None, Some, Result, refl, sym, ap, subst, ◌∙◌, arith}
-use Rattle.std.specs.Prelude.{All, IsSomeAnd, OnOk, OnErr, slice_get, slice_set}
+use Rattle.std.proofs.Common.{◌≡◌, ◌≢◌, ◌↔◌, ℕ, zero, suc, ◌+◌, ◌-◌, ℤ, List, [], ◌∷◌, length, map, Option, None, Some, Result, refl, sym, ap, subst, ◌∙◌, arith}
+use Rattle.std.specs.Prelude.{All, IsSomeAnd, IsErrOf, OnOk, OnErr, slice_get, slice_set}
+use Rattle.std.specs.declared.result.Result.TheVariants.{Ok, Err}
 use Rattle.std.specs.Option.{option_map_or}
 use Rattle.std.proofs.lemmas.Result.{on_ok_weaker}
 use Rattle.far_types.specs.declared.cell.Kind.{Kind}
 use Rattle.far_types.specs.declared.cell.Kind.TheVariants as kind
 use Rattle.far_types.specs.declared.limits.Limits.{Limits}
 use Rattle.far_types.specs.declared.refusal.Refusal.{Refusal}
+use Rattle.far_types.specs.declared.refusal.Refusal.TheVariants as refusal
 use Rattle.far_types.specs.Cells.{RowFits}
 use Rattle.far_scopes.specs.declared.entry.Entry.{Entry}
 use Rattle.far_scopes.specs.Effects.{with_entry, departed, arrived, pinned as pinned_in, unpinned as unpinned_in, touched as touched_in}
@@ -24,7 +26,7 @@ use Rattle.far_rows.specs.Slots.{Values, kind_of, row_of}
 use Rattle.far_rows.specs.Rows.{Rows, cells_of}
 use Rattle.far_rows.specs.Places.{places_in, places_of}
 use Rattle.far_rows.specs.Moving.{object_at, pinned, unpinned, touched}
-use Rattle.far_rows.specs.Jobs.{IsEvacAccepted, IsFetchAccepted, IsAfterInstall, after_commit}
+use Rattle.far_rows.specs.Jobs.{IsEvacAccepted, IsFetchAccepted, IsAfterInstall, after_commit, pins_by}
 use Rattle.far_aggregates.specs.Kept.{PlacesFit}
 use Rattle.far_table.specs.TableRows.{TableRows, AreWritten, AreKept, rows_in}
 use Rattle.far_table.specs.Moving.{AreMoved, IsPinned, IsUnpinned, IsTouched, IsCommitted, IsInstalled, IsCompactedOf}
@@ -129,10 +131,23 @@ module _ {K : Type 0} where
       compacted-still kind.Int segment is = subst (AreStill r) (sym is.1) (number-still (record r.number_objects { memory = now.number_objects.memory }) record { changes = refl; versions = λ p. refl })
       compacted-still kind.Text segment is = subst (AreStill r) (sym is.1) (text-still (record r.text_objects { memory = now.text_objects.memory }) record { changes = refl; versions = λ p. refl })
 
-module _ {K A : Type 0} (number_of : K → ℕ) (old now : Rows K) (r : Result A Refusal) where
-  pub committed-both : (carried : ByKind (CarriedEvacuation K) (CarriedEvacuation K)) → OnOk r (IsEvacAccepted number_of old carried) → OnOk r (now ≡ after_commit old carried) → OnOk r (IsCommitted number_of carried old now)
-  committed-both carried accepted away = on-both r accepted away (λ may is. record { accepted = may; away = is })
+some-pin : (n : ℕ) → suc n ≡ 0 → ⊥
+some-pin n is = omega (arith, is)
 
+no-pin : (n : ℕ) → ¬ (n ≢ 0) → n ≡ 0
+no-pin zero h = refl
+no-pin (suc n) h = absurd (h (some-pin n))
+
+not-refused : {A : Type 0} (done : A) (e : Refusal) → IsErrOf (Ok done) e → ⊥
+not-refused done e h = cc
+
+module _ {K A : Type 0} (number_of : K → ℕ) (old now : Rows K) where
+  pub committed-both : (r : Result A Refusal) (carried : ByKind (CarriedEvacuation K) (CarriedEvacuation K)) → OnOk r (IsEvacAccepted number_of old carried) → OnOk r (now ≡ after_commit old carried)
+      → (IsErrOf r refusal.Pinned ↔ (IsEvacAccepted number_of old carried × (pins_by old carried ≢ 0))) → OnOk r (IsCommitted number_of carried old now)
+  committed-both (Ok done) carried accepted away pinned = record { accepted = accepted; free = no-pin (pins_by old carried) (λ some. not-refused done refusal.Pinned (pinned.1 (accepted, some))); away = away }
+  committed-both (Err given) carried accepted away pinned = accepted
+
+module _ {K A : Type 0} (number_of : K → ℕ) (old now : Rows K) (r : Result A Refusal) where
   pub installed-both : (content : K → List ℕ) (fetched : ByKind (CarriedFetch K) (CarriedFetch K)) → OnOk r (IsFetchAccepted number_of old fetched) → OnOk r (IsAfterInstall content old fetched now) → OnOk r (IsInstalled content number_of fetched old now)
   installed-both content fetched accepted back = on-both r accepted back (λ may is. record { accepted = may; back = is })
 

@@ -8,7 +8,7 @@ use Rattle.far_evacuator.specs.Jobs.{CarriedEvacuation, CarriedFetch}
 use Rattle.far_rows.specs.declared.job.ByKind.{ByKind}
 use Rattle.far_rows.specs.Rows.{Rows}
 use Rattle.far_rows.specs.Moving.{object_at, pinned, unpinned, touched}
-use Rattle.far_rows.specs.Jobs.{IsEvacAccepted, IsFetchAccepted, IsAfterInstall, after_commit}
+use Rattle.far_rows.specs.Jobs.{IsEvacAccepted, IsFetchAccepted, IsAfterInstall, after_commit, pins_by}
 use Rattle.far_table.specs.State.{State}
 use Rattle.far_table.specs.TableRows.{TableRows}
 
@@ -25,9 +25,10 @@ module _ {K : Type 0} where
   abbrev pub IsTouched : ℕ → ℕ → Rows K → Rows K → Type 0
   IsTouched column group old new = IsSomeAnd (object_at old column group) (λ object. new ≡ touched old object)
 
-  -- a carried evacuation is accepted, and its object is away
+  -- a carried evacuation is accepted, its object has no pin, and is away
   pub record IsCommitted (number_of : K → ℕ) (carried : ByKind (CarriedEvacuation K) (CarriedEvacuation K)) (old new : Rows K) : Type 0 where
     pub accepted : IsEvacAccepted number_of old carried
+    pub free : pins_by old carried ≡ 0
     pub away : new ≡ after_commit old carried
 
   -- a carried fetch is accepted, and its object is back
