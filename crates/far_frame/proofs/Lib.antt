@@ -1,3 +1,5 @@
 mod RunLaws
 mod ViewLaws
 mod FrameLaws
+mod WaitingLaws
+mod WorldLaws

@@ -9,7 +9,7 @@ use Rattle.far_evacuator.specs.Jobs.{Evacuation, CarriedEvacuation, Fetch, Carri
 use Rattle.far_rows.specs.declared.job.ByKind.{ByKind}
 use Rattle.far_rows.specs.Rows.{Rows}
 use Rattle.far_rows.specs.Coldest.{coldest}
-use Rattle.far_rows.specs.Jobs.{of_either, IsCarriedEvac, IsCarriedFetch, IsEvacBegun, IsFetchBegun, IsEvacAccepted, IsFetchAccepted, pins_by, HasNoRoom}
+use Rattle.far_rows.specs.Jobs.{of_either, IsCarriedEvac, IsCarriedFetch, IsEvacBegun, IsFetchBegun, IsEvacAccepted, IsFetchAccepted, evac_refusal, fetch_refusal, pins_by, HasNoRoom}
 use Rattle.far_table.specs.State.{State}
 use Rattle.far_table.specs.Moving.{IsMoved, IsCommitted, IsInstalled}
 use Rattle.far_frame.specs.declared.job.JobKind.{JobKind}
@@ -89,6 +89,7 @@ module _ {K : Type 0} where
 
     -- an evacuation of the object of a row group of a column, begun now
     pub record IsEvacJob (job : JobRecord K) : Type 0 where
+      pub free : evac_refusal r column group ≡ None
       pub name : job.name ≡ record { column = column; group = group }
       pub work : IsEvacWork job.work
 
@@ -100,6 +101,7 @@ module _ {K : Type 0} where
 
     -- a fetch of it, begun now
     pub record IsFetchJob (job : JobRecord K) : Type 0 where
+      pub free : fetch_refusal r column group ≡ None
       pub name : job.name ≡ record { column = column; group = group }
       pub work : IsFetchWork job.work
 

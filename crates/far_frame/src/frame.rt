@@ -8,7 +8,7 @@ ghost use Rattle.far_aggregates.specs.Readings.{plain_in};
 ghost use Rattle.far_rows.specs.Jobs.{AreAt};
 ghost use Rattle.far_table.specs.State.{empty_state};
 ghost use Rattle.far_table.specs.Watching.{aggregate_at};
-ghost use Rattle.far_frame.specs.Steps.{Accepts, Refuses};
+ghost use Rattle.far_frame.specs.Changes.{Accepts, Refuses};
 ghost use Rattle.far_frame.specs.declared.step.Step.TheVariants as step;
 ghost use Rattle.far_frame.specs.declared.step.Reply.TheVariants as reply;
 
@@ -139,6 +139,13 @@ impl<S: FarTickets> Frame<S> {
         ensures { result.now ≡ self.now.table.schema }
     {
         self.table.rows().schema()
+    }
+
+    /// The limits of the table. Takes no memory.
+    pub fn limits(&self) -> &Limits
+        ensures { result.now ≡ self.now.table.limits }
+    {
+        self.table.rows().limits()
     }
 
     /// How many places there are, dead ones too. Takes no memory.

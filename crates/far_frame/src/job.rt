@@ -2,7 +2,7 @@
 ghost use Rattle.std.specs.Prelude.{◌≡◌, ◌+◌, ◌<◌, ◌^◌, Some, IfOk, IfErr};
 ghost use Rattle.far_store.specs.Faults.{faults_in};
 ghost use Rattle.far_evacuator.specs.Jobs.{outcome};
-ghost use Rattle.far_frame.specs.Jobs.{IsJobAt, IsCarried, CarryRefusal, kind_of};
+ghost use Rattle.far_frame.specs.Jobs.{IsWorkAt, IsWorkCarried, WorkRefusal, IsJobAt, IsCarried, CarryRefusal, kind_of};
 
 use far_rows::{RowsCarried, RowsEvac, RowsFetch, RowsFetched};
 use far_store::{FarStore, FarTickets, Meter};
@@ -32,12 +32,15 @@ pub enum Work<E, C, F, D> {
     Fetched(D),
 }
 
+/// The work of a job of a table.
+type JobWork<S> = Work<RowsEvac<S>, RowsCarried<S>, RowsFetch<S>, RowsFetched<S>>;
+
 /// A job of a table. It owns all that it holds, so no table is borrowed between its beginning and its end, and any thread can carry
 /// it. Contracts see the name of its object and its work.
 #[derive(Drop)]
 pub struct Job<S: FarTickets> {
     pub(crate) name: Name,
-    pub(crate) work: Work<RowsEvac<S>, RowsCarried<S>, RowsFetch<S>, RowsFetched<S>>,
+    pub(crate) work: JobWork<S>,
 }
 
 impl<S: FarTickets> Model for Job<S> {
@@ -91,47 +94,38 @@ impl<S: FarStore> Job<S> {
         ensures refused { IfErr result (λ refused. CarryRefusal self refused.0) }
     {
         let name = self.name;
-        match self.work {
-            Work::Evac(evac) => match evac.carry(alloc, store, meter) {
-                Ok(carried) => Ok(Job {
-                    name,
-                    work: Work::Carried(carried),
-                }),
-                Err((refusal, evac)) => Err((
-                    refusal,
-                    Job {
-                        name,
-                        work: Work::Evac(evac),
-                    },
-                )),
-            },
-            Work::Fetch(fetch) => match fetch.carry(alloc, store, meter) {
-                Ok(fetched) => Ok(Job {
-                    name,
-                    work: Work::Fetched(fetched),
-                }),
-                Err((refusal, fetch)) => Err((
-                    refusal,
-                    Job {
-                        name,
-                        work: Work::Fetch(fetch),
-                    },
-                )),
-            },
-            Work::Carried(carried) => Err((
-                Refusal::StaleJob,
-                Job {
-                    name,
-                    work: Work::Carried(carried),
-                },
-            )),
-            Work::Fetched(fetched) => Err((
-                Refusal::StaleJob,
-                Job {
-                    name,
-                    work: Work::Fetched(fetched),
-                },
-            )),
+        match carry_work(self.work, alloc, store, meter) {
+            Ok(work) => Ok(Job { name, work }),
+            Err((refusal, work)) => Err((refusal, Job { name, work })),
         }
+    }
+}
+
+/// Carries the work of a job, or gives it back.
+fn carry_work<S: FarStore>(
+    work: JobWork<S>,
+    alloc: Global,
+    store: &S,
+    meter: &mut Meter,
+) -> Result<JobWork<S>, (Refusal, JobWork<S>)>
+    requires few { meter.old < 2 ^ 63 }
+    requires here { IsWorkAt S.is_of (S.name store.now) work }
+    ensures carried { IfOk result (IsWorkCarried S.content work) }
+    ensures here { IfOk result (IsWorkAt S.is_of (S.name store.now)) }
+    ensures back { IfErr result (λ refused. refused.1 ≡ work) }
+    ensures faults { meter.new ≡ meter.old + faults_in (outcome result) }
+    ensures refused { IfErr result (λ refused. WorkRefusal work refused.0) }
+{
+    match work {
+        Work::Evac(evac) => match evac.carry(alloc, store, meter) {
+            Ok(carried) => Ok(Work::Carried(carried)),
+            Err((refusal, evac)) => Err((refusal, Work::Evac(evac))),
+        },
+        Work::Fetch(fetch) => match fetch.carry(alloc, store, meter) {
+            Ok(fetched) => Ok(Work::Fetched(fetched)),
+            Err((refusal, fetch)) => Err((refusal, Work::Fetch(fetch))),
+        },
+        Work::Carried(carried) => Err((Refusal::StaleJob, Work::Carried(carried))),
+        Work::Fetched(fetched) => Err((Refusal::StaleJob, Work::Fetched(fetched))),
     }
 }

@@ -1,50 +1,75 @@
 // The promises of a run in the subject's own words, as they follow from the relation of steps.
-ghost use Rattle.std.specs.Prelude.{◌≡◌, ℕ, List, ◌∷◌, [], ◌++◌, Some, true};
+ghost use Rattle.std.specs.Prelude.{◌≡◌, ◌≢◌, ℕ, List, ◌∷◌, [], ◌++◌, Some, true};
 ghost use Rattle.far_types.specs.declared.answer.Answer.{Answer};
 ghost use Rattle.far_types.specs.declared.edit.Edit.{Edit};
 ghost use Rattle.far_types.specs.declared.refusal.Refusal.{Refusal};
 ghost use Rattle.far_types.specs.Edits.{edited};
 ghost use Rattle.far_types.specs.MayRefuse.{MayRefuse};
 ghost use Rattle.far_types.specs.Table.{Registered, left, answer_now};
+ghost use Rattle.far_evacuator.specs.Jobs.{CarriedEvacuation};
+ghost use Rattle.far_rows.specs.declared.job.ByKind.{ByKind};
+ghost use Rattle.far_rows.specs.Jobs.{pins_by};
 ghost use Rattle.far_table.specs.Edits.{edit_due};
 ghost use Rattle.far_table.specs.Watching.{aggregate_at};
+ghost use Rattle.far_frame.specs.declared.job.Work.TheVariants as work;
 ghost use Rattle.far_frame.specs.declared.step.Reply.{Reply};
 ghost use Rattle.far_frame.specs.declared.step.Reply.TheVariants as reply;
 ghost use Rattle.far_frame.specs.declared.step.Step.{Step};
 ghost use Rattle.far_frame.specs.declared.step.Step.TheVariants as step;
-ghost use Rattle.far_frame.specs.Runs.{plain_rows};
-ghost use Rattle.far_frame.specs.Steps.{World, IsStep, IsRun};
+ghost use Rattle.far_frame.specs.Jobs.{JobRecord};
+ghost use Rattle.far_frame.specs.Runs.{is_movement, plain_rows};
+ghost use Rattle.far_frame.specs.Waiting.{job_at, without_job};
+ghost use Rattle.far_frame.specs.Steps.{IsStep, IsRun};
+ghost use Rattle.far_frame.specs.Worlds.{World};
 
 use far_store::FarTickets;
 
 /// After any list of steps the rows are those of the plain list under the edits that were accepted, whatever was
 /// registered, built in and asked between them.
 pub fn rows_are_those_of_the_plain_list<S: FarTickets>()
-    ensures { (old : World S.Ticket) → (steps : List Step) → (replies : List Reply) → (new : World S.Ticket) → IsRun S.content old steps replies new → new.state.table.places ≡ plain_rows steps replies old.state.table.places }
+    ensures { (old : World S.Ticket) → (steps : List Step) → (replies : List Reply) → (new : World S.Ticket) → IsRun S.content S.number_of old steps replies new → new.state.table.places ≡ plain_rows steps replies old.state.table.places }
 {}
 
 /// An aggregate that answers gives what folding it over the table's rows as they are now gives, and nothing is left to
 /// be built into it.
 pub fn an_answer_is_over_the_rows_now<S: FarTickets>()
-    ensures answer { (old : World S.Ticket) → (a : ℕ) → (answer : Answer) → (new : World S.Ticket) → (aggregate : Registered) → aggregate_at old.state.table a ≡ Some aggregate → IsStep S.content old (step.Ask a) (reply.Answer answer) new → answer ≡ answer_now aggregate.spec old.state.table }
-    ensures built { (old : World S.Ticket) → (a : ℕ) → (answer : Answer) → (new : World S.Ticket) → (aggregate : Registered) → aggregate_at old.state.table a ≡ Some aggregate → IsStep S.content old (step.Ask a) (reply.Answer answer) new → left aggregate.unbuilt ≡ 0 }
-    ensures same { (old : World S.Ticket) → (a : ℕ) → (answer : Answer) → (new : World S.Ticket) → IsStep S.content old (step.Ask a) (reply.Answer answer) new → new ≡ old }
+    ensures answer { (old : World S.Ticket) → (a : ℕ) → (answer : Answer) → (new : World S.Ticket) → (aggregate : Registered) → aggregate_at old.state.table a ≡ Some aggregate → IsStep S.content S.number_of old (step.Ask a) (reply.Answer answer) new → answer ≡ answer_now aggregate.spec old.state.table }
+    ensures built { (old : World S.Ticket) → (a : ℕ) → (answer : Answer) → (new : World S.Ticket) → (aggregate : Registered) → aggregate_at old.state.table a ≡ Some aggregate → IsStep S.content S.number_of old (step.Ask a) (reply.Answer answer) new → left aggregate.unbuilt ≡ 0 }
+    ensures same { (old : World S.Ticket) → (a : ℕ) → (answer : Answer) → (new : World S.Ticket) → IsStep S.content S.number_of old (step.Ask a) (reply.Answer answer) new → new ≡ old }
 {}
 
 /// An edit that is accepted does to the rows what it does to the plain list, and one that is refused is refused as the
 /// plain list refuses it, or because an object is away or finds no room, or for want of memory where nothing else refuses it.
 pub fn an_edit_is_that_of_the_plain_list<S: FarTickets>()
-    ensures inserted { (old : World S.Ticket) → (e : Edit) → (place : ℕ) → (new : World S.Ticket) → IsStep S.content old (step.Edit e) (reply.Place place) new → new.state.table ≡ edited e old.state.table }
-    ensures done { (old : World S.Ticket) → (e : Edit) → (new : World S.Ticket) → IsStep S.content old (step.Edit e) reply.Done new → new.state.table ≡ edited e old.state.table }
-    ensures refused { (old : World S.Ticket) → (e : Edit) → (given : Refusal) → (new : World S.Ticket) → IsStep S.content old (step.Edit e) (reply.Refused given) new → MayRefuse (edit_due old.state e) true given }
+    ensures inserted { (old : World S.Ticket) → (e : Edit) → (place : ℕ) → (new : World S.Ticket) → IsStep S.content S.number_of old (step.Edit e) (reply.Place place) new → new.state.table ≡ edited e old.state.table }
+    ensures done { (old : World S.Ticket) → (e : Edit) → (new : World S.Ticket) → IsStep S.content S.number_of old (step.Edit e) reply.Done new → new.state.table ≡ edited e old.state.table }
+    ensures refused { (old : World S.Ticket) → (e : Edit) → (given : Refusal) → (new : World S.Ticket) → IsStep S.content S.number_of old (step.Edit e) (reply.Refused given) new → MayRefuse (edit_due old.state e) true given }
 {}
 
-/// A step that is refused changes nothing.
+/// A step that is refused changes no row, column, aggregate or object. A step on the table changes nothing at all.
 pub fn a_refused_step_changes_nothing<S: FarTickets>()
-    ensures { (old : World S.Ticket) → (s : Step) → (given : Refusal) → (new : World S.Ticket) → IsStep S.content old s (reply.Refused given) new → new ≡ old }
+    ensures { (old : World S.Ticket) → (s : Step) → (given : Refusal) → (new : World S.Ticket) → IsStep S.content S.number_of old s (reply.Refused given) new → new.state ≡ old.state }
+{}
+
+/// Pins, jobs in any phase and compactions change no row, no aggregate and no answer.
+pub fn movement_changes_no_row<S: FarTickets>()
+    ensures { (old : World S.Ticket) → (s : Step) → (given : Reply) → (new : World S.Ticket) → is_movement s ≡ true → IsStep S.content S.number_of old s given new → new.state.table ≡ old.state.table }
+{}
+
+/// No object that has a pin goes away.
+pub fn a_pinned_object_stays<S: FarTickets>()
+    ensures { (old : World S.Ticket) → (n : ℕ) → (job : JobRecord S.Ticket) → (carried : ByKind (CarriedEvacuation S.Ticket) (CarriedEvacuation S.Ticket)) → job_at old.jobs n ≡ Some job → job.work ≡ work.Carried carried → pins_by old.state.rows carried ≢ 0 → (new : World S.Ticket) → ¬ (IsStep S.content S.number_of old (step.Commit n) reply.Done new) }
+{}
+
+/// A job that is stale changes nothing but that its number is spent: one that was accepted, is of another kind or phase, or whose
+/// object was written or away since.
+pub fn a_stale_job_changes_nothing<S: FarTickets>()
+    ensures committed { (old : World S.Ticket) → (n : ℕ) → (new : World S.Ticket) → IsStep S.content S.number_of old (step.Commit n) (reply.Refused Refusal.StaleJob) new → new ≡ record old { jobs = without_job old.jobs n } }
+    ensures installed { (old : World S.Ticket) → (n : ℕ) → (new : World S.Ticket) → IsStep S.content S.number_of old (step.Install n) (reply.Refused Refusal.StaleJob) new → new ≡ record old { jobs = without_job old.jobs n } }
+    ensures carried { (old : World S.Ticket) → (n : ℕ) → (new : World S.Ticket) → IsStep S.content S.number_of old (step.Carry n) (reply.Refused Refusal.StaleJob) new → new ≡ old }
 {}
 
 /// Lists of steps served one after another are served as one list.
 pub fn runs_join<S: FarTickets>()
-    ensures { (old : World S.Ticket) → (steps : List Step) → (replies : List Reply) → (mid : World S.Ticket) → (more : List Step) → (others : List Reply) → (new : World S.Ticket) → IsRun S.content old steps replies mid → IsRun S.content mid more others new → IsRun S.content old (steps ++ more) (replies ++ others) new }
+    ensures { (old : World S.Ticket) → (steps : List Step) → (replies : List Reply) → (mid : World S.Ticket) → (more : List Step) → (others : List Reply) → (new : World S.Ticket) → IsRun S.content S.number_of old steps replies mid → IsRun S.content S.number_of mid more others new → IsRun S.content S.number_of old (steps ++ more) (replies ++ others) new }
 {}

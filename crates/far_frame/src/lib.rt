@@ -7,6 +7,7 @@ pub mod job;
 pub mod laws;
 pub mod step;
 pub mod view;
+mod waiting;
 pub mod world;
 
 pub use frame::Frame;

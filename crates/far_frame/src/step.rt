@@ -1,5 +1,8 @@
 // Steps of a table, and their replies.
-use far_types::{Answer, Edit, Refusal, Spec};
+ghost use Rattle.std.specs.Prelude.{◌≡◌};
+ghost use Rattle.far_frame.specs.Changes.{done_or};
+
+use far_types::{Answer, Edit, Kind, Refusal, Spec};
 
 /// One request to a table.
 #[derive(Drop, Debug)]
@@ -14,6 +17,42 @@ pub enum Step {
     ScanGroup(u32, u32),
     /// Asks the aggregate of a number.
     Ask(u32),
+    /// Keeps the object of a row group of a column from going away, once more.
+    Pin {
+        /// The column.
+        column: u32,
+        /// The row group.
+        group: u32,
+    },
+    /// Takes back one pin of an object.
+    Unpin {
+        /// The column.
+        column: u32,
+        /// The row group.
+        group: u32,
+    },
+    /// Begins to send an object away: a job, under the next number.
+    BeginEvac {
+        /// The column.
+        column: u32,
+        /// The row group.
+        group: u32,
+    },
+    /// Begins to bring an object back: a job, under the next number.
+    BeginFetch {
+        /// The column.
+        column: u32,
+        /// The row group.
+        group: u32,
+    },
+    /// Carries the job of a number.
+    Carry(u64),
+    /// Ends the job of a number, an evacuation that was carried: its object is away.
+    Commit(u64),
+    /// Ends the job of a number, a fetch that was carried: its object is back.
+    Install(u64),
+    /// Compacts a segment, the second, of the objects of a kind.
+    Compact(Kind, u32),
 }
 
 /// The reply to a step: there is one for each.
@@ -27,6 +66,20 @@ pub enum Reply {
     Aggregate(u32),
     /// What the aggregate answers.
     Answer(Answer),
+    /// The number of a job that was begun.
+    Job(u64),
     /// Why nothing was changed.
     Refused(Refusal),
+}
+
+impl Reply {
+    /// The reply of a call that says nothing where it is done.
+    pub(crate) fn done_or(outcome: Result<(), Refusal>) -> Reply
+        ensures { result ≡ done_or outcome }
+    {
+        match outcome {
+            Ok(()) => Reply::Done,
+            Err(refusal) => Reply::Refused(refusal),
+        }
+    }
 }

@@ -1,39 +1,57 @@
 // A table under lists of steps.
-ghost use Rattle.std.specs.Prelude.{◌≡◌, IfOk, IfErr, OnErr, IsOk};
-ghost use Rattle.far_frame.specs.Steps.{Changes, IsStep, IsRun};
+ghost use Rattle.std.specs.Prelude.{◌≡◌, ◌+◌, ◌<◌, ◌≤◌, ◌^◌, [], length, IfOk, IfErr, OnErr, IsOk};
+ghost use Rattle.far_rows.specs.Jobs.{AreAt};
+ghost use Rattle.far_frame.specs.Steps.{IsStep, IsRun};
+
+mod jobs;
+mod serving;
 
 use super::frame::Frame;
 use super::step::{Reply, Step};
+use super::waiting::Waiting;
 use far_store::{FarStore, Meter};
-use far_types::{Edit, Refusal, Spec};
+use far_types::{Edit, Refusal};
+use std::alloc::Global;
 use std::marker::Model;
 
-/// A table, the store to which its objects go, and all else that a step can see or change.
+/// A table, the store to which its objects go, its jobs, and all else that a step can see or change.
+///
+/// Jobs are numbered 0, 1, 2, .. in the order in which they are begun. A number is spent once its job was accepted at its end, or
+/// was stale there.
 #[derive(Drop)]
 pub struct World<S: FarStore> {
+    alloc: Global,
     frame: Frame<S>,
     store: S,
+    begun: u64,
+    jobs: Waiting<S>,
     meter: Meter,
 }
 
 impl<S: FarStore> Model for World<S> {
-    ghost use Rattle.far_frame.specs.Steps.{World};
+    ghost use Rattle.far_frame.specs.Worlds.{World, IsWorld};
 
     ghost Value = { World S.Ticket };
 
-    ghost view = { λ world. record { state = world.frame; store = S.name world.store; faults = world.meter } };
+    ghost view = { λ w. record { state = w.frame; store = S.name w.store; begun = w.begun; jobs = w.jobs; faults = w.meter } };
+
+    ghost invariant = { λ w. IsWorld S.is_of (S.name w.store) w.frame w.jobs };
 }
 
 impl<S: FarStore> World<S> {
-    /// A world with this table and this store, which met no fault yet. It takes no memory, so it is never refused: the frame and
-    /// the store are given back to those who match on both outcomes.
-    pub fn new(frame: Frame<S>, store: S) -> Result<World<S>, (Refusal, Frame<S>, S)>
+    /// A world with this table and this store, in which no job was begun and no fault was met. It takes no memory, so it is never
+    /// refused: the frame and the store are given back to those who match on both outcomes.
+    pub fn new(alloc: Global, frame: Frame<S>, store: S) -> Result<World<S>, (Refusal, Frame<S>, S)>
+        requires here { AreAt S.is_of (S.name store) frame.rows }
         ensures made { IsOk result }
-        ensures new { IfOk result (λ world. world ≡ record { state = frame; store = S.name store; faults = 0 }) }
+        ensures new { IfOk result (λ world. world ≡ record { state = frame; store = S.name store; begun = 0; jobs = []; faults = 0 }) }
     {
         Ok(World {
+            alloc,
             frame,
             store,
+            begun: 0,
+            jobs: Waiting::new(alloc),
             meter: Meter::new(),
         })
     }
@@ -52,69 +70,53 @@ impl<S: FarStore> World<S> {
         &self.store
     }
 
-    /// Serves one step. There is a reply always; where it is a refusal, nothing was changed.
+    /// How many faults of the store were met. Takes no memory.
+    pub fn faults(&self) -> u64
+        ensures { result ≡ self.now.faults }
+    {
+        self.meter.faults()
+    }
+
+    /// Serves an edit, as its step is served. No fault is met.
+    pub fn edit(&mut self, edit: Edit) -> Reply
+        ensures step { IsStep S.content S.number_of self.old (Step.Edit edit) result self.new }
+        ensures faults { self.new.faults ≡ self.old.faults }
+    {
+        serving::edit(&mut self.frame, edit)
+    }
+
+    /// Serves one step. There is a reply always; where it is a refusal, no row, column, aggregate or object was changed.
     pub fn serve(&mut self, step: Step) -> Reply
-        ensures { IsStep S.content self.old step result self.new }
+        requires few { self.old.faults < 2 ^ 63 }
+        ensures step { IsStep S.content S.number_of self.old step result self.new }
+        ensures faults { self.new.faults ≤ self.old.faults + 1 }
     {
         match step {
-            Step::Edit(edit) => serve_edit(&mut self.frame, edit),
-            Step::Watch(spec) => serve_watch(&mut self.frame, spec),
-            Step::Unwatch(a) => match self.frame.unwatch(a) {
-                Ok(()) => Reply::Done,
-                Err(refusal) => Reply::Refused(refusal),
-            },
-            Step::ScanGroup(a, group) => match self.frame.scan_group(a, group) {
-                Ok(()) => Reply::Done,
-                Err(refusal) => Reply::Refused(refusal),
-            },
-            Step::Ask(a) => match self.frame.ask(a) {
-                Ok(answer) => Reply::Answer(answer),
-                Err(refusal) => Reply::Refused(refusal),
-            },
+            Step::Edit(edit) => self.edit(edit),
+            Step::Watch(spec) => serving::watch(&mut self.frame, spec),
+            Step::Unwatch(a) => serving::unwatch(&mut self.frame, a),
+            Step::ScanGroup(a, group) => serving::scan_group(&mut self.frame, a, group),
+            Step::Ask(a) => serving::ask(&self.frame, a),
+            Step::Pin { column, group } => serving::pin(&mut self.frame, column, group),
+            Step::Unpin { column, group } => serving::unpin(&mut self.frame, column, group),
+            Step::BeginEvac { column, group } => self.begin_evac(column, group),
+            Step::BeginFetch { column, group } => self.begin_fetch(column, group),
+            Step::Carry(n) => self.carry(n),
+            Step::Commit(n) => self.commit(n),
+            Step::Install(n) => self.install(n),
+            Step::Compact(kind, segment) => serving::compact(&mut self.frame, kind, segment),
         }
     }
 }
 
-/// Serves an edit.
-fn serve_edit<S: FarStore>(frame: &mut Frame<S>, edit: Edit) -> Reply
-    ensures { Changes S.content frame.old (Step.Edit edit) result frame.new }
-{
-    match edit {
-        Edit::Insert(row) => match frame.insert(row) {
-            Ok(place) => Reply::Place(place),
-            Err(refusal) => Reply::Refused(refusal),
-        },
-        Edit::Set {
-            place,
-            column,
-            cell,
-        } => match frame.set(place, column, cell) {
-            Ok(()) => Reply::Done,
-            Err(refusal) => Reply::Refused(refusal),
-        },
-        Edit::Remove(place) => match frame.remove(place) {
-            Ok(()) => Reply::Done,
-            Err(refusal) => Reply::Refused(refusal),
-        },
-    }
-}
-
-/// Serves a registration.
-fn serve_watch<S: FarStore>(frame: &mut Frame<S>, spec: Spec) -> Reply
-    ensures { Changes S.content frame.old (Step.Watch spec) result frame.new }
-{
-    match frame.watch(spec) {
-        Ok(a) => Reply::Aggregate(a),
-        Err(refusal) => Reply::Refused(refusal),
-    }
-}
-
 /// Serves steps in order, with one reply to each: the replies and the new state are a run of the plain table from the
-/// old one. So after any list of steps each aggregate that answers gives what folding it over the rows as they are
-/// gives, each edit's reply is the plain list's, and a refused step changes nothing. Refused with `NoMemory` (1) alone,
-/// before any step, and then nothing is changed.
+/// old one. So after any list of steps, in which edits, registrations, pins and every phase of evacuations and fetches follow one
+/// another anyhow, each aggregate that answers gives what folding it over the rows as they are gives, each edit's reply is the plain
+/// list's, and a refused step changes no row, column or answer. Refused with `NoMemory` (1) alone, before any step, and then nothing
+/// is changed.
 pub fn run<S: FarStore>(world: &mut World<S>, steps: Vec<Step>) -> Result<Vec<Reply>, Refusal>
-    ensures run { IfOk result (λ replies. IsRun S.content world.old steps.items replies.items world.new) }
+    requires few { world.old.faults + length steps.items < 2 ^ 63 }
+    ensures run { IfOk result (λ replies. IsRun S.content S.number_of world.old steps.items replies.items world.new) }
     ensures unchanged { OnErr result (world.new ≡ world.old) }
     ensures memory { IfErr result (λ e. e ≡ Refusal.NoMemory) }
 {

@@ -104,8 +104,7 @@ impl<'a, S: FarStore> Desk<'a, S> {
     /// Begins to send the object of a place's number away, sets the number, and goes on.
     pub fn evacuate_written(&mut self, place: u32, number: Option<i64>) -> Result<(), Refusal> {
         let job = carried(self.alloc, &self.frame, self.store, 0, place / SIZE)?;
-        self.frame.set(place, 0, number_cell(number))?;
-        self.frame.commit(self.store, &job)
+        commit_written(&mut self.frame, self.store, &job, place, number)
     }
 
     /// Brings the object of a row group of a column back.
@@ -167,6 +166,22 @@ fn scan_group<S: FarTickets>(frame: &mut Frame<S>, a: u32, group: u32) -> Result
     ensures { (name : List ℕ) → AreAt S.is_of name frame.old.rows → AreAt S.is_of name frame.new.rows }
 {
     frame.scan_group(a, group)
+}
+
+// Sets a number, and goes on with a job that was carried before.
+fn commit_written<S: FarStore>(
+    frame: &mut Frame<S>,
+    store: &S,
+    job: &Job<S>,
+    place: u32,
+    number: Option<i64>,
+) -> Result<(), Refusal>
+    requires here { AreAt S.is_of (S.name store.now) frame.old.rows }
+    requires job_here { IsJobAt S.is_of (S.name store.now) job.now }
+    ensures { AreAt S.is_of (S.name store.now) frame.new.rows }
+{
+    frame.set(place, 0, number_cell(number))?;
+    frame.commit(store, job)
 }
 
 // An evacuation of the object of a row group of a column that was begun and carried.

@@ -16,3 +16,5 @@ mod repeating;
 mod script;
 #[cfg(test)]
 mod values;
+#[cfg(test)]
+mod worlds;

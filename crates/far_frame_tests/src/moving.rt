@@ -1,5 +1,5 @@
 //! Objects of a table that go away and come back: worked examples.
-use crate::script::{Call, Reply, Step, play};
+use crate::script::{Call, Reply, Step, answered, play};
 use far_types::{Fold, Name, Refusal};
 use std::test::Fail;
 
@@ -23,7 +23,7 @@ const NO_TEXTS: Refusal = Refusal::Absent {
 };
 
 /// Edits name the lowest column that is away, whichever they are of.
-const REFUSED: [Step; 12] = [
+static REFUSED: [Step; 12] = [
     FIRST,
     TEXTS_AWAY,
     Step::Call(Call::SetNumber(0, Some(5)), Err(NO_TEXTS)),
@@ -39,7 +39,7 @@ const REFUSED: [Step; 12] = [
 ];
 
 /// A new row group has objects of its own.
-const NEXT_GROUP: [Step; 6] = [
+static NEXT_GROUP: [Step; 6] = [
     FIRST,
     Step::Call(Call::Insert(None, None), Ok(Some(1))),
     Step::Call(Call::Insert(None, None), Ok(Some(2))),
@@ -48,7 +48,7 @@ const NEXT_GROUP: [Step; 6] = [
     Step::Values(3, Ok((Some(1), None))),
 ];
 
-const ANSWERED: [Step; 7] = [
+static ANSWERED: [Step; 7] = [
     Step::Call(Call::Watch(Fold::Totals, Some(1)), Ok(Some(0))),
     Step::Call(Call::Watch(Fold::Extrema, None), Ok(Some(1))),
     FIRST,
@@ -58,7 +58,7 @@ const ANSWERED: [Step; 7] = [
     Step::Answer(1, Ok(&[(None, 4, 4)])),
 ];
 
-const SCANNED: [Step; 9] = [
+static SCANNED: [Step; 9] = [
     FIRST,
     Step::Call(Call::Watch(Fold::Totals, Some(1)), Ok(Some(0))),
     Step::Call(Call::Watch(Fold::Totals, None), Ok(Some(1))),
@@ -70,7 +70,7 @@ const SCANNED: [Step; 9] = [
     Step::Call(Call::Scan(0, 0), Err(NO_NUMBERS)),
 ];
 
-const BACK: [Step; 8] = [
+static BACK: [Step; 8] = [
     Step::Call(Call::Watch(Fold::Totals, None), Ok(Some(0))),
     FIRST,
     NUMBERS_AWAY,
@@ -81,7 +81,7 @@ const BACK: [Step; 8] = [
     Step::Answer(0, Ok(&[(None, 1, 9)])),
 ];
 
-const PINNED: [Step; 6] = [
+static PINNED: [Step; 6] = [
     FIRST,
     Step::Call(Call::Pin(0, 0), DONE),
     Step::Call(Call::Evacuate(0, 0), Err(Refusal::Pinned)),
@@ -90,7 +90,7 @@ const PINNED: [Step; 6] = [
     NUMBERS_AWAY,
 ];
 
-const WRITTEN: [Step; 5] = [
+static WRITTEN: [Step; 5] = [
     FIRST,
     Step::Call(Call::EvacuateWritten(0, Some(5)), Err(Refusal::StaleJob)),
     Step::Values(0, Ok((Some(5), Some("pear")))),
@@ -99,7 +99,7 @@ const WRITTEN: [Step; 5] = [
 ];
 
 /// Each kind has one object: the other goes first where one is pinned, and none where both are.
-const COLDEST: [Step; 6] = [
+static COLDEST: [Step; 6] = [
     Step::Coldest(None),
     FIRST,
     Step::Call(Call::Pin(1, 0), DONE),
@@ -113,48 +113,40 @@ const COLDEST: [Step; 6] = [
 
 #[test]
 fn a_row_that_is_away_refuses_edits_of_every_column(rt: HostRuntime) -> Result<(), Fail> {
-    assert_eq!(rt; play(&rt, rt.alloc(), &REFUSED)?, None);
-    Ok(())
+    answered(play(&rt, rt.alloc(), &REFUSED))
 }
 
 #[test]
 fn a_new_row_group_is_begun_while_the_last_is_away(rt: HostRuntime) -> Result<(), Fail> {
-    assert_eq!(rt; play(&rt, rt.alloc(), &NEXT_GROUP)?, None);
-    Ok(())
+    answered(play(&rt, rt.alloc(), &NEXT_GROUP))
 }
 
 #[test]
 fn an_aggregate_answers_while_all_its_rows_are_away(rt: HostRuntime) -> Result<(), Fail> {
-    assert_eq!(rt; play(&rt, rt.alloc(), &ANSWERED)?, None);
-    Ok(())
+    answered(play(&rt, rt.alloc(), &ANSWERED))
 }
 
 #[test]
 fn a_scan_wants_only_the_columns_that_it_needs(rt: HostRuntime) -> Result<(), Fail> {
-    assert_eq!(rt; play(&rt, rt.alloc(), &SCANNED)?, None);
-    Ok(())
+    answered(play(&rt, rt.alloc(), &SCANNED))
 }
 
 #[test]
 fn an_object_that_came_back_is_set_again(rt: HostRuntime) -> Result<(), Fail> {
-    assert_eq!(rt; play(&rt, rt.alloc(), &BACK)?, None);
-    Ok(())
+    answered(play(&rt, rt.alloc(), &BACK))
 }
 
 #[test]
 fn a_pinned_object_does_not_go_away(rt: HostRuntime) -> Result<(), Fail> {
-    assert_eq!(rt; play(&rt, rt.alloc(), &PINNED)?, None);
-    Ok(())
+    answered(play(&rt, rt.alloc(), &PINNED))
 }
 
 #[test]
 fn a_job_is_stale_once_its_object_was_written(rt: HostRuntime) -> Result<(), Fail> {
-    assert_eq!(rt; play(&rt, rt.alloc(), &WRITTEN)?, None);
-    Ok(())
+    answered(play(&rt, rt.alloc(), &WRITTEN))
 }
 
 #[test]
 fn the_coldest_object_has_no_pin(rt: HostRuntime) -> Result<(), Fail> {
-    assert_eq!(rt; play(&rt, rt.alloc(), &COLDEST)?, None);
-    Ok(())
+    answered(play(&rt, rt.alloc(), &COLDEST))
 }

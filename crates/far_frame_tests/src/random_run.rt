@@ -129,24 +129,41 @@ fn is_right<S: FarStore>(
     all_answer(alloc, desk, plain)
 }
 
-/// Makes the calls of a seed on a table of its own: which is the first that is not right.
-fn first_wrong<S: FarStore>(alloc: Global, store: &S, seed: u64) -> Result<Option<u32>, Refusal> {
-    let mut desk = Desk::new(alloc, store)?;
-    let mut plain = Plain::new(alloc);
-    let mut draws = Draws::new(seed);
+/// Makes calls: which is the first that is not right.
+fn first_wrong<S: FarStore>(
+    alloc: Global,
+    desk: &mut Desk<'_, S>,
+    plain: &mut Plain,
+    draws: &mut Draws,
+) -> Result<Option<u32>, Refusal> {
     for step in 0..CALLS {
-        let call = drawn_call(&mut draws, plain.len());
-        if !is_right(alloc, &mut desk, &mut plain, call)? {
+        let call = drawn_call(draws, plain.len());
+        if !is_right(alloc, desk, plain, call)? {
             return Ok(Some(step));
         }
     }
     Ok(None)
 }
 
+/// Makes the calls of a seed on a table of its own.
+fn first_wrong_of<S: FarStore>(
+    alloc: Global,
+    store: &S,
+    seed: u64,
+) -> Result<Option<u32>, Refusal> {
+    let mut desk = Desk::new(alloc, store)?;
+    first_wrong(
+        alloc,
+        &mut desk,
+        &mut Plain::new(alloc),
+        &mut Draws::new(seed),
+    )
+}
+
 /// The first run that is not right, and its first call that is not.
 fn first_wrong_run<S: FarStore>(alloc: Global, store: &S) -> Result<Option<(u64, u32)>, Refusal> {
     for seed in 0..RUNS {
-        if let Some(step) = first_wrong(alloc, store, seed)? {
+        if let Some(step) = first_wrong_of(alloc, store, seed)? {
             return Ok(Some((seed, step)));
         }
     }

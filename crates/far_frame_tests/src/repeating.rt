@@ -32,7 +32,7 @@ enum Due {
 }
 
 /// Steps that allocate in each way that a table does: keys that come, new row groups, texts, answers and row groups scanned.
-const CALLS: [(Call, Due); 26] = [
+static CALLS: [(Call, Due); 26] = [
     (Call::Insert(4, "b"), Due::Place(0)),
     (Call::WatchByText(Fold::Totals), Due::Aggregate(0)),
     (Call::WatchByText(Fold::Extrema), Due::Aggregate(1)),
@@ -114,7 +114,7 @@ fn world<S: FarStore>(alloc: Global, store: S) -> Result<World<S>, Refusal> {
         text_segments: 64,
         text_size: 65_536,
     };
-    match World::new(Frame::open(alloc, schema(alloc)?, limits, 0)?, store) {
+    match World::new(alloc, Frame::open(alloc, schema(alloc)?, limits, 0)?, store) {
         Ok(world) => Ok(world),
         Err((refusal, _, _)) => Err(refusal),
     }
@@ -122,6 +122,9 @@ fn world<S: FarStore>(alloc: Global, store: S) -> Result<World<S>, Refusal> {
 
 /// The reply to one step. `NoMemory` where the list of it or of its reply cannot be made.
 fn served<S: FarStore>(alloc: Global, world: &mut World<S>, call: Call) -> Result<Reply, Refusal> {
+    if world.faults() > 0 {
+        return Err(Refusal::FarFault);
+    }
     let steps = Vec::from_array(alloc, [step(alloc, call)?])?;
     let mut replies = run(world, steps)?;
     replies.pop().ok_or(Refusal::NoMemory)

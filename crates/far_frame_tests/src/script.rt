@@ -6,6 +6,7 @@ use far_store::{AgentStore, FarStore};
 use far_types::{Fold, Name, Refusal};
 use std::alloc::Global;
 use std::sync::Wait;
+use std::test::Fail;
 
 /// A call on a table of a column of numbers and one of texts.
 #[derive(Clone, Copy)]
@@ -40,6 +41,14 @@ pub enum Step {
     Coldest(Option<Name>),
 }
 
+/// Fails where a step of a script did not come out as it should, and names it.
+pub fn answered(first_wrong: Result<Option<usize>, Refusal>) -> Result<(), Fail> {
+    match first_wrong? {
+        Some(step) => Err(Fail::new(format_args!("step {step}"))),
+        None => Ok(()),
+    }
+}
+
 /// Plays a script on a new table: the index of the first step that does not come out as it should.
 pub fn play<R: Wait + Sync + Drop>(
     rt: R,
@@ -56,8 +65,16 @@ fn play_over<S: FarStore>(
     script: &[Step],
 ) -> Result<Option<usize>, Refusal> {
     let mut desk = Desk::new(alloc, store)?;
+    first_wrong(&mut desk, script)
+}
+
+// The index of the first step that does not come out as it should.
+fn first_wrong<S: FarStore>(
+    desk: &mut Desk<'_, S>,
+    script: &[Step],
+) -> Result<Option<usize>, Refusal> {
     for (index, step) in script.iter().enumerate() {
-        if !comes_out(&mut desk, *step)? {
+        if !comes_out(desk, *step)? {
             return Ok(Some(index));
         }
     }

@@ -39,6 +39,20 @@ impl<S: FarTickets> Frame<S> {
         self.table.unpin(column, group)
     }
 
+    /// Whether the object of a row group of a column can go away. Takes no memory.
+    ///
+    /// Refused with `NoColumn` (4), `OutOfRange` (14) where no place of the row group is used, `Absent` (16) where the object is
+    /// away: the first that applies.
+    pub fn may_evac(&self, column: u32, group: u32) -> Result<(), Refusal>
+        ensures refused { refusal_in result ≡ evac_refusal self.now.rows column group }
+    {
+        self.table
+            .rows()
+            .held()
+            .group_column(column as usize, group)?;
+        Ok(())
+    }
+
     /// Begins to send the object of a row group of a column away. The job holds the object's far form, or the ticket of a clean
     /// object; nothing is changed.
     ///

@@ -3,7 +3,7 @@ use Rattle.far_types.specs.declared.edit.Edit.TheVariants as edit
 use Rattle.far_rows.specs.Jobs.{AreAt}
 use Rattle.far_table.specs.Live.{IsEdited}
 use Rattle.far_table.specs.State.{State}
-use Rattle.far_frame.specs.Steps.{Refuses}
+use Rattle.far_frame.specs.Changes.{Refuses}
 use Rattle.far_frame.specs.declared.step.Step.TheVariants as step
 use Rattle.far_frame.specs.declared.step.Reply.TheVariants as reply
 use Rattle.far_frame.proofs.FrameLaws.{on-ok}

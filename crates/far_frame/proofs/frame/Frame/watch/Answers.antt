@@ -1,6 +1,6 @@
 use Rattle.std.proofs.Common.{IfErr, subst}
 use Rattle.far_table.specs.State.{State}
-use Rattle.far_frame.specs.Steps.{Refuses}
+use Rattle.far_frame.specs.Changes.{Refuses}
 use Rattle.far_frame.specs.declared.step.Step.TheVariants as step
 use Rattle.far_frame.proofs.frame.Frame.watch.Goals as goal
 

@@ -1,0 +1,67 @@
+-- What always holds of a world holds after each step, and what is known where one is refused.
+use Rattle.std.proofs.Common.{◌≡◌, ℕ, Bool, true, false, cond, List, Option, Some, None, refl, sym, ap, subst, ◌∙◌, IfSome, IfErr, OnOk, OnErr, Result, IsSomeAnd}
+use Rattle.std.specs.declared.result.Result.TheVariants.{Ok, Err}
+use Rattle.std.specs.Map.{lookup}
+use Rattle.std.specs.Ordering.{nat_cmp}
+use Rattle.std.proofs.lemmas.Map.Views.{All-values-insert_entry, All-values-set_value, All-map-remove_entry, IfSome-lookup_from_All}
+use Rattle.far_aggregates.specs.Aggregates.{joined}
+use Rattle.far_types.specs.declared.refusal.Refusal.{Refusal}
+use Rattle.far_types.specs.MayRefuse.{MayRefuse}
+use Rattle.far_rows.specs.Jobs.{AreAt}
+use Rattle.far_table.specs.State.{State}
+use Rattle.far_frame.specs.Changes.{Replies, done_or}
+use Rattle.far_frame.specs.Jobs.{JobRecord, WorkOf, IsJobAt}
+use Rattle.far_frame.specs.Waiting.{Waiting, is_number, job_at, one_more, with_job, without_job, AreJobsAt, RefusalAt, spends}
+use Rattle.far_frame.specs.Worlds.{World, IsWorld, IsEnded, IsNotEnded}
+
+none-is-some : {A : Type 0} (x : A) → None ≡ Some x → ⊥
+none-is-some x h = cc
+
+same-some : {A : Type 0} (x y : A) → Some x ≡ Some y → x ≡ y
+same-some x y h = cc
+
+-- a refusal that is due may come
+pub due-may : (due : Option Refusal) (e : Refusal) → Some e ≡ due → MayRefuse due true e
+due-may (Some d) e h = same-some e d h
+due-may None e h = absurd (none-is-some e (sym h))
+
+module _ {K : Type 0} (is_of : K → List ℕ → Type 0) (name : List ℕ) where
+  abbrev IsHere : Option (JobRecord K) → Type 0
+  IsHere job = IfSome job (IsJobAt is_of name)
+
+  here-in : (found : Option (Option (JobRecord K))) (job : JobRecord K) → IfSome found IsHere → joined found ≡ Some job → IsJobAt is_of name job
+  here-in None job h k = absurd (none-is-some job k)
+  here-in (Some None) job h k = absurd (none-is-some job k)
+  here-in (Some (Some found)) job h k = subst (IsJobAt is_of name) (same-some found job k) h
+
+  -- the job of a number is of the store
+  pub job-here : (waiting : Waiting K) (n : ℕ) (job : JobRecord K) → AreJobsAt is_of name waiting → job_at waiting n ≡ Some job → IsJobAt is_of name job
+  job-here waiting n job all is = here-in (lookup (is_number n) waiting) job (IfSome-lookup_from_All IsHere (is_number n) waiting all) is
+
+  pub more-here : (waiting : Waiting K) (n : ℕ) (job : JobRecord K) → AreJobsAt is_of name waiting → IsJobAt is_of name job → AreJobsAt is_of name (one_more waiting n job)
+  more-here waiting n job all here = All-values-insert_entry nat_cmp n (Some job) IsHere waiting all here
+
+  pub with-here : (waiting : Waiting K) (n : ℕ) (job : JobRecord K) → AreJobsAt is_of name waiting → IsJobAt is_of name job → AreJobsAt is_of name (with_job waiting n (Some job))
+  with-here waiting n job all here = All-values-set_value (is_number n) IsHere waiting (Some job) all here
+
+  without-here : (waiting : Waiting K) (n : ℕ) → AreJobsAt is_of name waiting → AreJobsAt is_of name (without_job waiting n)
+  without-here waiting n all = All-map-remove_entry (is_number n) (λ entry. entry.1) IsHere waiting all
+
+  pub ended-here : (spent : Bool) (waiting : Waiting K) (n : ℕ) → AreJobsAt is_of name waiting → AreJobsAt is_of name (cond spent (without_job waiting n) waiting)
+  ended-here true waiting n all = without-here waiting n all
+  ended-here false waiting n all = all
+
+  -- a step on the table leaves the world what it is
+  pub table-moved : (old new : State K) (jobs : Waiting K) → ((of : List ℕ) → AreAt is_of of old.rows → AreAt is_of of new.rows) → IsWorld is_of name old jobs → IsWorld is_of name new jobs
+  table-moved old new jobs here w = record { rows_at = here name w.rows_at; jobs_at = w.jobs_at }
+
+  pub rows-stayed : (old new : State K) (jobs : Waiting K) → new.rows ≡ old.rows → IsWorld is_of name old jobs → IsWorld is_of name new jobs
+  rows-stayed old new jobs same w = record { rows_at = subst (AreAt is_of name) (sym same) w.rows_at; jobs_at = w.jobs_at }
+
+-- an end as a step
+module _ {K : Type 0} (ends : WorkOf K → State K → Type 0) (why : WorkOf K → Refusal → Type 0) (n : ℕ) (old new : World K) where
+  pub ended-step : (ended : Result Unit Refusal) → OnOk ended (IsSomeAnd (job_at old.jobs n) (λ job. ends job.work new.state)) → IfErr ended (RefusalAt (λ (job : JobRecord K). why job.work) (job_at old.jobs n))
+      → OnErr ended (new.state ≡ old.state) → new ≡ record old { state = new.state; jobs = cond (spends ended) (without_job old.jobs n) old.jobs }
+      → Replies (λ served. IsEnded ends n old served new) (λ e. IsNotEnded why n old e new) (done_or ended)
+  ended-step (Ok done) accepted refused same is = record { says = refl; ended = accepted; world = is }
+  ended-step (Err e) accepted refused same is = record { refused = refused; world = is ∙ ap (λ (s : State K). record old { state = s; jobs = cond (spends (Err e)) (without_job old.jobs n) old.jobs }) same }

@@ -1,0 +1,92 @@
+-- What a step on the table does to it and its objects, and its reply.
+use Rattle.std.specs.Prelude.{◌≡◌, ℕ, ◌<◌, ◌≤◌, ◌⊎◌, true, false, List, length, None, Result}
+use Rattle.std.specs.declared.result.Result.TheVariants.{Ok, Err}
+use Rattle.far_types.specs.declared.answer.Answer.{Answer}
+use Rattle.far_types.specs.declared.cell.Kind.{Kind}
+use Rattle.far_types.specs.declared.edit.Edit.{Edit}
+use Rattle.far_types.specs.declared.edit.Edit.TheVariants as edit
+use Rattle.far_types.specs.declared.refusal.Refusal.{Refusal}
+use Rattle.far_types.specs.declared.refusal.Refusal.TheVariants as refusal
+use Rattle.far_types.specs.MayRefuse.{MayRefuse}
+use Rattle.far_types.specs.Table.{Table}
+use Rattle.far_aggregates.specs.Aggregates.{Answers, ask_refusal}
+use Rattle.far_rows.specs.Rows.{Rows}
+use Rattle.far_rows.specs.Moving.{pin_refusal, unpin_refusal}
+use Rattle.far_table.specs.State.{State}
+use Rattle.far_table.specs.Edits.{edit_due}
+use Rattle.far_table.specs.Live.{IsEdited}
+use Rattle.far_table.specs.Moving.{IsMoved, IsPinned, IsUnpinned, IsCompactedOf, segments_of, HasNoOther}
+use Rattle.far_table.specs.Watching.{aggregate_at, watch_refusal, unwatch_refusal, scan_refusal, IsWatched, IsUnwatched, IsScanned}
+use Rattle.far_frame.specs.declared.step.Step.{Step}
+use Rattle.far_frame.specs.declared.step.Step.TheVariants as step
+use Rattle.far_frame.specs.declared.step.Reply.{Reply}
+use Rattle.far_frame.specs.declared.step.Reply.TheVariants as reply
+
+-- a reply is a refusal with a reason, or serves
+abbrev pub Replies : (Reply → Type 0) → (Refusal → Type 0) → Reply → Type 0
+Replies serves refuses (reply.Refused given) = refuses given
+Replies serves refuses (reply.Place place) = serves (reply.Place place)
+Replies serves refuses reply.Done = serves reply.Done
+Replies serves refuses (reply.Aggregate a) = serves (reply.Aggregate a)
+Replies serves refuses (reply.Answer answer) = serves (reply.Answer answer)
+Replies serves refuses (reply.Job n) = serves (reply.Job n)
+
+-- the reply of a call that says nothing where it is done
+abbrev pub done_or : Result Unit Refusal → Reply
+done_or (Ok done) = reply.Done
+done_or (Err given) = reply.Refused given
+
+-- what an edit that is made is answered: the place of a row that was appended
+abbrev pub edit_reply : Table → Edit → Reply
+edit_reply table (edit.Insert row) = reply.Place (length table.places)
+edit_reply table (edit.Set place column cell) = reply.Done
+edit_reply table (edit.Remove place) = reply.Done
+
+module _ {K : Type 0} where
+  -- why a segment is not compacted: there is none, or no other is without parts, or memory is wanted
+  abbrev pub CompactRefusal : Kind → ℕ → Rows K → Refusal → Type 0
+  CompactRefusal kind segment r given = ((given ≡ refusal.OutOfRange) × (segments_of kind r ≤ segment))
+      ⊎ (((given ≡ refusal.RegionFull) × (segment < segments_of kind r) × HasNoOther kind segment r)
+      ⊎ ((given ≡ refusal.NoMemory) × (segment < segments_of kind r) × ¬ (HasNoOther kind segment r)))
+
+  -- why a step on the table is refused; the steps of jobs are none
+  abbrev pub WhyRefused : State K → Step → Refusal → Type 0
+  WhyRefused s (step.Edit e) given = MayRefuse (edit_due s e) true given
+  WhyRefused s (step.Watch spec) given = MayRefuse (watch_refusal s.table spec) true given
+  WhyRefused s (step.Unwatch a) given = MayRefuse (unwatch_refusal (aggregate_at s.table a)) false given
+  WhyRefused s (step.ScanGroup a g) given = MayRefuse (scan_refusal s (aggregate_at s.table a) g) true given
+  WhyRefused s (step.Ask a) given = MayRefuse (ask_refusal (aggregate_at s.table a)) true given
+  WhyRefused s (step.Pin column group) given = MayRefuse (pin_refusal s.rows column group) false given
+  WhyRefused s (step.Unpin column group) given = MayRefuse (unpin_refusal s.rows column group) false given
+  WhyRefused s (step.Compact kind segment) given = CompactRefusal kind segment s.rows given
+  WhyRefused s (step.BeginEvac column group) given = ⊥
+  WhyRefused s (step.BeginFetch column group) given = ⊥
+  WhyRefused s (step.Carry n) given = ⊥
+  WhyRefused s (step.Commit n) given = ⊥
+  WhyRefused s (step.Install n) given = ⊥
+
+  -- a step is refused: nothing changes
+  abbrev pub Refuses : State K → Step → Refusal → State K → Type 0
+  Refuses old s given new = (new ≡ old) × WhyRefused old s given
+
+  module _ (content : K → List ℕ) where
+    -- a step is accepted: nothing refuses it, and its reply and its effect are those of the plain table. An answer is computed
+    -- anew from the rows as they are now
+    abbrev pub Accepts : State K → Step → Reply → State K → Type 0
+    Accepts old (step.Edit e) given new = (given ≡ edit_reply old.table e) × IsEdited content old e new
+    Accepts old (step.Watch spec) given new = (a : ℕ) × (given ≡ reply.Aggregate a) × IsWatched old new spec a
+    Accepts old (step.Unwatch a) given new = (given ≡ reply.Done) × IsUnwatched old new a
+    Accepts old (step.ScanGroup a g) given new = (given ≡ reply.Done) × IsScanned old new a g
+    Accepts old (step.Ask a) given new = (answer : Answer) × (given ≡ reply.Answer answer) × Answers old.table.places (aggregate_at old.table a) answer × (new ≡ old)
+    Accepts old (step.Pin column group) given new = (given ≡ reply.Done) × (pin_refusal old.rows column group ≡ None) × IsMoved (IsPinned column group) old new
+    Accepts old (step.Unpin column group) given new = (given ≡ reply.Done) × (unpin_refusal old.rows column group ≡ None) × IsMoved (IsUnpinned column group) old new
+    Accepts old (step.Compact kind segment) given new = (given ≡ reply.Done) × IsMoved (IsCompactedOf kind segment) old new
+    Accepts old (step.BeginEvac column group) given new = ⊥
+    Accepts old (step.BeginFetch column group) given new = ⊥
+    Accepts old (step.Carry n) given new = ⊥
+    Accepts old (step.Commit n) given new = ⊥
+    Accepts old (step.Install n) given new = ⊥
+
+    -- what a step with this reply does to the table and its objects
+    abbrev pub Changes : State K → Step → Reply → State K → Type 0
+    Changes old s given new = Replies (λ served. Accepts old s served new) (λ why. Refuses old s why new) given

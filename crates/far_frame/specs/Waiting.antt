@@ -1,0 +1,58 @@
+-- The jobs of a world, by number.
+use Rattle.std.specs.Prelude.{◌≡◌, ℕ, ◌==◌, Bool, true, List, Option, None, Some, Result, IfSome}
+use Rattle.std.specs.declared.result.Result.TheVariants.{Ok, Err}
+use Rattle.std.specs.List.{All}
+use Rattle.std.specs.Ordering.{nat_cmp}
+use Rattle.std.specs.BTreeMap.{is_at, insert_entry}
+use Rattle.std.specs.Map.{lookup, set_value, remove_entry, values_of}
+use Rattle.far_types.specs.declared.refusal.Refusal.{Refusal}
+use Rattle.far_types.specs.declared.refusal.Refusal.TheVariants as refusal
+use Rattle.far_types.specs.Refusals.{number_of as refusal_number}
+use Rattle.far_aggregates.specs.Aggregates.{joined}
+use Rattle.far_frame.specs.Jobs.{JobRecord, IsJobAt, IsCarried}
+
+-- the jobs that are not spent, by number; none stands under a number only while its job is being carried
+abbrev pub Waiting : Type 0 → Type 0
+Waiting K = List (ℕ × Option (JobRecord K))
+
+abbrev pub is_number : ℕ → ℕ → Bool
+is_number n = is_at (nat_cmp n)
+
+-- an end spends the number of a job that was accepted or is stale; every other refusal leaves it
+abbrev pub spends : Result Unit Refusal → Bool
+spends (Ok done) = true
+spends (Err given) = refusal_number given == 20
+
+module _ {K : Type 0} where
+  -- the job of a number
+  abbrev pub job_at : Waiting K → ℕ → Option (JobRecord K)
+  job_at waiting n = joined (lookup (is_number n) waiting)
+
+  -- one job more
+  abbrev pub one_more : Waiting K → ℕ → JobRecord K → Waiting K
+  one_more waiting n job = insert_entry nat_cmp waiting n (Some job)
+
+  -- another job under a number, or none while it is being carried
+  abbrev pub with_job : Waiting K → ℕ → Option (JobRecord K) → Waiting K
+  with_job waiting n job = set_value (is_number n) waiting job
+
+  -- a number is spent
+  abbrev pub without_job : Waiting K → ℕ → Waiting K
+  without_job waiting n = remove_entry (is_number n) waiting
+
+  -- what the jobs hold is of the store of this name
+  abbrev pub AreJobsAt : (K → List ℕ → Type 0) → List ℕ → Waiting K → Type 0
+  AreJobsAt is_of name waiting = All (λ job. IfSome job (IsJobAt is_of name)) (values_of waiting)
+
+  -- the job of a number is carried, and nothing else is changed
+  pub record IsCarriedAt (content : K → List ℕ) (n : ℕ) (old new : Waiting K) : Type 0 where
+    pub job : JobRecord K
+    pub waits : job_at old n ≡ Some job
+    pub done : JobRecord K
+    pub carried : IsCarried content job done
+    pub jobs : new ≡ with_job old n (Some done)
+
+  -- why the job of a number is refused: there is none, or it is refused itself
+  abbrev pub RefusalAt : (JobRecord K → Refusal → Type 0) → Option (JobRecord K) → Refusal → Type 0
+  RefusalAt why None given = given ≡ refusal.StaleJob
+  RefusalAt why (Some job) given = why job given

@@ -1,0 +1,70 @@
+-- A world: a table with its store and its jobs, and what the steps of jobs make of it.
+use Rattle.std.specs.Prelude.{◌≡◌, ℕ, ◌+◌, ◌<◌, nat_lt, not, true, cond, List, [], ◌∷◌, Option, IsSomeAnd}
+use Rattle.std.specs.declared.result.Result.TheVariants.{Err}
+use Rattle.std.specs.Option.{option_or}
+use Rattle.far_types.specs.declared.refusal.Refusal.{Refusal}
+use Rattle.far_types.specs.declared.refusal.Refusal.TheVariants as refusal
+use Rattle.far_types.specs.FirstOf.{first_of}
+use Rattle.far_types.specs.MayRefuse.{MayRefuse}
+use Rattle.far_store.specs.Faults.{faults_of}
+use Rattle.far_rows.specs.Jobs.{AreAt}
+use Rattle.far_table.specs.State.{State}
+use Rattle.far_frame.specs.declared.step.Reply.{Reply}
+use Rattle.far_frame.specs.declared.step.Reply.TheVariants as reply
+use Rattle.far_frame.specs.Jobs.{JobRecord, WorkOf, CarryRefusal}
+use Rattle.far_frame.specs.Waiting.{Waiting, AreJobsAt, IsCarriedAt, RefusalAt, job_at, one_more, spends, without_job}
+
+-- all that a step can see or change: the table and its objects, the name of the store that they go to, how many jobs were begun
+-- and which are not spent, and how many faults of the store were met
+pub record World (K : Type 0) : Type 0 where
+  pub state : State K
+  pub store : List ℕ
+  pub begun : ℕ
+  pub jobs : Waiting K
+  pub faults : ℕ
+
+module _ {K : Type 0} where
+  -- what always holds: every ticket is of the world's store
+  pub record IsWorld (is_of : K → List ℕ → Type 0) (name : List ℕ) (state : State K) (jobs : Waiting K) : Type 0 where
+    pub rows_at : AreAt is_of name state.rows
+    pub jobs_at : AreJobsAt is_of name jobs
+
+  -- the numbers of jobs are used up
+  abbrev pub used_up : World K → Option Refusal
+  used_up world = first_of ((not (nat_lt world.begun world.state.table.limits.edits), refusal.EditsUsedUp) ∷ [])
+
+  -- a job is begun under the next number
+  pub record IsBegun (begins : JobRecord K → Type 0) (old : World K) (given : Reply) (new : World K) : Type 0 where
+    pub says : given ≡ reply.Job old.begun
+    pub few : old.begun < old.state.table.limits.edits
+    pub job : JobRecord K
+    pub begun : begins job
+    pub world : new ≡ record old { begun = old.begun + 1; jobs = one_more old.jobs old.begun job }
+
+  -- no job is begun: this was due, or the numbers are used up, or memory is wanted
+  pub record IsNotBegun (due : Option Refusal) (old : World K) (given : Refusal) (new : World K) : Type 0 where
+    pub refused : MayRefuse (option_or due (used_up old)) true given
+    pub world : new ≡ old
+
+  -- the job of a number is carried, and nothing else is changed
+  pub record IsCarry (content : K → List ℕ) (n : ℕ) (old : World K) (given : Reply) (new : World K) : Type 0 where
+    pub says : given ≡ reply.Done
+    pub carried : IsCarriedAt content n old.jobs new.jobs
+    pub world : new ≡ record old { jobs = new.jobs }
+
+  -- it is not carried: it is spent or unknown, or was carried, or memory is wanted, or the store is full or fails, which is
+  -- counted
+  pub record IsNoCarry (n : ℕ) (old : World K) (given : Refusal) (new : World K) : Type 0 where
+    pub refused : RefusalAt CarryRefusal (job_at old.jobs n) given
+    pub world : new ≡ record old { faults = old.faults + faults_of given }
+
+  -- the job of a number is accepted at its end, and the number is spent
+  pub record IsEnded (ends : WorkOf K → State K → Type 0) (n : ℕ) (old : World K) (given : Reply) (new : World K) : Type 0 where
+    pub says : given ≡ reply.Done
+    pub ended : IsSomeAnd (job_at old.jobs n) (λ job. ends job.work new.state)
+    pub world : new ≡ record old { state = new.state; jobs = without_job old.jobs n }
+
+  -- it is refused, and its number is spent exactly where it is stale
+  pub record IsNotEnded (why : WorkOf K → Refusal → Type 0) (n : ℕ) (old : World K) (given : Refusal) (new : World K) : Type 0 where
+    pub refused : RefusalAt (λ job. why job.work) (job_at old.jobs n) given
+    pub world : new ≡ record old { jobs = cond (spends (Err given)) (without_job old.jobs n) old.jobs }

@@ -1,0 +1,133 @@
+// The jobs of a world, by number.
+ghost use Rattle.std.specs.Prelude.{◌≡◌, ◌+◌, ◌<◌, ◌^◌, [], None, Some, IfSome, IfErr, OnOk, OnErr, cond, option_copied};
+ghost use Rattle.far_store.specs.Faults.{faults_in};
+ghost use Rattle.far_frame.specs.Jobs.{IsJobAt, CarryRefusal};
+ghost use Rattle.far_frame.specs.Waiting.{job_at, one_more, with_job, without_job, spends, AreJobsAt, IsCarriedAt, RefusalAt};
+
+use super::job::Job;
+use far_store::{FarStore, FarTickets, Meter};
+use far_types::Refusal;
+use std::alloc::Global;
+use std::collections::BTreeMap;
+use std::marker::Model;
+
+/// The jobs that are not spent, by number. One stands without its job only while that is being carried, so that its place is there
+/// when it comes back.
+#[derive(Drop)]
+pub(crate) struct Waiting<S: FarTickets> {
+    jobs: BTreeMap<u64, Option<Job<S>>>,
+}
+
+impl<S: FarTickets> Model for Waiting<S> {
+    ghost use Rattle.far_frame.specs.Waiting.{Waiting};
+
+    ghost Value = { Waiting S.Ticket };
+
+    ghost view = { λ waiting. waiting.jobs.entries };
+}
+
+impl<S: FarTickets> Waiting<S> {
+    /// No job. Takes no memory.
+    pub(crate) fn new(alloc: Global) -> Waiting<S>
+        ensures { result ≡ [] }
+    {
+        Waiting {
+            jobs: BTreeMap::new(alloc),
+        }
+    }
+
+    /// The job of a number.
+    pub(crate) fn get(&self, n: u64) -> Option<&Job<S>>
+        ensures { option_copied result ≡ job_at self.now n }
+    {
+        match self.jobs.get(&n) {
+            Some(job) => job.as_ref(),
+            None => None,
+        }
+    }
+
+    /// Takes the job of a number out, for the while of a carry.
+    fn take(&mut self, n: u64) -> Option<Job<S>>
+        ensures value { result ≡ job_at self.old n }
+        ensures after { self.new ≡ with_job self.old n None }
+    {
+        let Some(place) = self.jobs.get_mut(&n) else {
+            return None;
+        };
+        place.take()
+    }
+
+    /// Puts a job back under its number.
+    fn put(&mut self, n: u64, job: Job<S>)
+        ensures { self.new ≡ with_job self.old n (Some job) }
+    {
+        let Some(place) = self.jobs.get_mut(&n) else {
+            return;
+        };
+        let_go(place.replace(job));
+    }
+
+    /// One job more. Refused with `NoMemory` (1) alone; then nothing is changed.
+    pub(crate) fn add(&mut self, n: u64, job: Job<S>) -> Result<(), Refusal>
+        ensures added { OnOk result (self.new ≡ one_more self.old n job) }
+        ensures memory { IfErr result (λ e. e ≡ Refusal.NoMemory) }
+        ensures err { OnErr result (self.new ≡ self.old) }
+    {
+        self.jobs.insert(n, Some(job))?;
+        Ok(())
+    }
+
+    /// The job of a number is spent.
+    fn spend(&mut self, n: u64)
+        ensures { self.new ≡ without_job self.old n }
+    {
+        let_go(self.jobs.remove(&n));
+    }
+
+    /// The job of a number came to this end: its number is spent where it was accepted or is stale.
+    pub(crate) fn end(&mut self, n: u64, ended: &Result<(), Refusal>)
+        ensures { self.new ≡ cond (spends ended.now) (without_job self.old n) self.old }
+    {
+        match ended {
+            Ok(()) => self.spend(n),
+            Err(refusal) if refusal.number() == 20 => self.spend(n),
+            Err(_) => {}
+        }
+    }
+}
+
+impl<S: FarStore> Waiting<S> {
+    /// Carries the job of a number. Refused as a carry is, and with `StaleJob` (20) where there is none; then nothing is changed.
+    pub(crate) fn carry(
+        &mut self,
+        n: u64,
+        alloc: Global,
+        store: &S,
+        meter: &mut Meter,
+    ) -> Result<(), Refusal>
+        requires few { meter.old < 2 ^ 63 }
+        requires here { AreJobsAt S.is_of (S.name store.now) self.old }
+        ensures carried { OnOk result (IsCarriedAt S.content n self.old self.new) }
+        ensures refused { IfErr result (RefusalAt CarryRefusal (job_at self.old n)) }
+        ensures err { OnErr result (self.new ≡ self.old) }
+        ensures faults { meter.new ≡ meter.old + faults_in result }
+        ensures here { AreJobsAt S.is_of (S.name store.now) self.new }
+    {
+        let Some(job) = self.take(n) else {
+            return Err(Refusal::StaleJob);
+        };
+        match job.carry(alloc, store, meter) {
+            Ok(done) => {
+                self.put(n, done);
+                Ok(())
+            }
+            Err((refusal, job)) => {
+                self.put(n, job);
+                Err(refusal)
+            }
+        }
+    }
+}
+
+/// Lets a value go.
+fn let_go<T: Drop>(_value: T) {}

@@ -1,0 +1,104 @@
+// The steps that the table serves by itself.
+ghost use Rattle.std.specs.Prelude.{◌≡◌, ℕ, List};
+ghost use Rattle.far_rows.specs.Jobs.{AreAt};
+ghost use Rattle.far_frame.specs.Changes.{Changes};
+
+use crate::frame::Frame;
+use crate::step::{Reply, Step};
+use far_store::FarTickets;
+use far_types::{Edit, Kind, Spec};
+
+/// Serves an edit.
+pub(super) fn edit<S: FarTickets>(frame: &mut Frame<S>, edit: Edit) -> Reply
+    ensures changes { Changes S.content frame.old (Step.Edit edit) result frame.new }
+    ensures here { (name : List ℕ) → AreAt S.is_of name frame.old.rows → AreAt S.is_of name frame.new.rows }
+{
+    match edit {
+        Edit::Insert(row) => match frame.insert(row) {
+            Ok(place) => Reply::Place(place),
+            Err(refusal) => Reply::Refused(refusal),
+        },
+        Edit::Set {
+            place,
+            column,
+            cell,
+        } => Reply::done_or(frame.set(place, column, cell)),
+        Edit::Remove(place) => Reply::done_or(frame.remove(place)),
+    }
+}
+
+/// Serves a registration.
+pub(super) fn watch<S: FarTickets>(frame: &mut Frame<S>, spec: Spec) -> Reply
+    ensures changes { Changes S.content frame.old (Step.Watch spec) result frame.new }
+    ensures rows { frame.new.rows ≡ frame.old.rows }
+{
+    match frame.watch(spec) {
+        Ok(a) => Reply::Aggregate(a),
+        Err(refusal) => Reply::Refused(refusal),
+    }
+}
+
+/// Forgets an aggregate.
+pub(super) fn unwatch<S: FarTickets>(frame: &mut Frame<S>, a: u32) -> Reply
+    ensures changes { Changes S.content frame.old (Step.Unwatch a) result frame.new }
+    ensures rows { frame.new.rows ≡ frame.old.rows }
+{
+    match frame.unwatch(a) {
+        Ok(()) => Reply::Done,
+        Err(refusal) => Reply::Refused(refusal),
+    }
+}
+
+/// Builds a row group into an aggregate.
+pub(super) fn scan_group<S: FarTickets>(frame: &mut Frame<S>, a: u32, group: u32) -> Reply
+    ensures changes { Changes S.content frame.old (Step.ScanGroup a group) result frame.new }
+    ensures rows { frame.new.rows ≡ frame.old.rows }
+{
+    match frame.scan_group(a, group) {
+        Ok(()) => Reply::Done,
+        Err(refusal) => Reply::Refused(refusal),
+    }
+}
+
+/// Asks an aggregate.
+pub(super) fn ask<S: FarTickets>(frame: &Frame<S>, a: u32) -> Reply
+    ensures { Changes S.content frame.now (Step.Ask a) result frame.now }
+{
+    match frame.ask(a) {
+        Ok(answer) => Reply::Answer(answer),
+        Err(refusal) => Reply::Refused(refusal),
+    }
+}
+
+/// Pins an object once more.
+pub(super) fn pin<S: FarTickets>(frame: &mut Frame<S>, column: u32, group: u32) -> Reply
+    ensures changes { Changes S.content frame.old (Step.Pin column group) result frame.new }
+    ensures here { (name : List ℕ) → AreAt S.is_of name frame.old.rows → AreAt S.is_of name frame.new.rows }
+{
+    match frame.pin(column, group) {
+        Ok(()) => Reply::Done,
+        Err(refusal) => Reply::Refused(refusal),
+    }
+}
+
+/// Pins an object once less.
+pub(super) fn unpin<S: FarTickets>(frame: &mut Frame<S>, column: u32, group: u32) -> Reply
+    ensures changes { Changes S.content frame.old (Step.Unpin column group) result frame.new }
+    ensures here { (name : List ℕ) → AreAt S.is_of name frame.old.rows → AreAt S.is_of name frame.new.rows }
+{
+    match frame.unpin(column, group) {
+        Ok(()) => Reply::Done,
+        Err(refusal) => Reply::Refused(refusal),
+    }
+}
+
+/// Compacts a segment.
+pub(super) fn compact<S: FarTickets>(frame: &mut Frame<S>, kind: Kind, segment: u32) -> Reply
+    ensures changes { Changes S.content frame.old (Step.Compact kind segment) result frame.new }
+    ensures here { (name : List ℕ) → AreAt S.is_of name frame.old.rows → AreAt S.is_of name frame.new.rows }
+{
+    match frame.compact(kind, segment) {
+        Ok(()) => Reply::Done,
+        Err(refusal) => Reply::Refused(refusal),
+    }
+}
