@@ -12,22 +12,20 @@ enum Move {
 }
 
 /// Each step, and which objects of either column are local after it: `+`, and `-` where one is away.
-fn steps() -> [(Move, [&'static str; 2]); 12] {
-    [
-        (Move::Away(0, 1), ["+-+", "+++"]),
-        (Move::Away(1, 0), ["+-+", "-++"]),
-        (Move::Away(1, 2), ["+-+", "-+-"]),
-        (Move::Away(0, 0), ["--+", "-+-"]),
-        (Move::Away(0, 2), ["---", "-+-"]),
-        (Move::Away(1, 1), ["---", "---"]),
-        (Move::Back(1, 2), ["---", "--+"]),
-        (Move::Back(0, 0), ["+--", "--+"]),
-        (Move::Back(1, 0), ["+--", "+-+"]),
-        (Move::Back(0, 2), ["+-+", "+-+"]),
-        (Move::Back(0, 1), ["+++", "+-+"]),
-        (Move::Back(1, 1), ["+++", "+++"]),
-    ]
-}
+static STEPS: [(Move, [&str; 2]); 12] = [
+    (Move::Away(0, 1), ["+-+", "+++"]),
+    (Move::Away(1, 0), ["+-+", "-++"]),
+    (Move::Away(1, 2), ["+-+", "-+-"]),
+    (Move::Away(0, 0), ["--+", "-+-"]),
+    (Move::Away(0, 2), ["---", "-+-"]),
+    (Move::Away(1, 1), ["---", "---"]),
+    (Move::Back(1, 2), ["---", "--+"]),
+    (Move::Back(0, 0), ["+--", "--+"]),
+    (Move::Back(1, 0), ["+--", "+-+"]),
+    (Move::Back(0, 2), ["+-+", "+-+"]),
+    (Move::Back(0, 1), ["+++", "+-+"]),
+    (Move::Back(1, 1), ["+++", "+++"]),
+];
 
 /// Which of the eight places are cleared.
 const CLEARED: [usize; 3] = [1, 5, 6];
@@ -61,9 +59,9 @@ pub fn script<C: Copy>(alloc: Global, cells: &[[C; 2]]) -> Result<Vec<Line<PairC
 /// Reads all, and once more after each move.
 fn add_moves<C: Copy>(lines: &mut Vec<Line<PairCall<C>>>, cells: &[[C; 2]]) -> Result<(), Refusal> {
     add_reads(lines, cells, ["+++", "+++"])?;
-    for (step, local) in steps() {
-        lines.push((call_of(step), Ok(())))?;
-        add_reads(lines, cells, local)?;
+    for (step, local) in &STEPS {
+        lines.push((call_of(*step), Ok(())))?;
+        add_reads(lines, cells, *local)?;
     }
     Ok(())
 }

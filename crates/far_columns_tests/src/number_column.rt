@@ -82,7 +82,7 @@ fn play_over<S: FarStore>(
 }
 
 /// Of five numbers the third is missing, the fourth is set, and the second is cleared; the last four are lent.
-const LENT: [NumberLine; 13] = [
+static LENT: [NumberLine; 13] = [
     (Push(Some(1)), Ok(())),
     (Push(Some(2)), Ok(())),
     (Push(None), Ok(())),
@@ -99,10 +99,10 @@ const LENT: [NumberLine; 13] = [
 ];
 
 /// A ninth number of two row groups has no room.
-const NINTH: [NumberLine; 2] = [(Push(Some(9)), REGION_FULL), (Len(8), Ok(()))];
+static NINTH: [NumberLine; 2] = [(Push(Some(9)), REGION_FULL), (Len(8), Ok(()))];
 
 /// There is no sixth of five numbers.
-const PAST: [NumberLine; 4] = [
+static PAST: [NumberLine; 4] = [
     (Set(5, Some(77)), OUT_OF_RANGE),
     (Number(5, None), OUT_OF_RANGE),
     (Lend(4, 6), OUT_OF_RANGE),
@@ -110,7 +110,7 @@ const PAST: [NumberLine; 4] = [
 ];
 
 /// Of nine numbers the first row group and the last are away.
-const AWAY: [NumberLine; 8] = [
+static AWAY: [NumberLine; 8] = [
     (Away(0), Ok(())),
     (Away(2), Ok(())),
     (Set(8, Some(77)), THIRD_AWAY),
@@ -121,7 +121,7 @@ const AWAY: [NumberLine; 8] = [
     (Number(9, None), OUT_OF_RANGE),
 ];
 
-const LENT_AWAY: [NumberLine; 6] = [
+static LENT_AWAY: [NumberLine; 6] = [
     (Away(0), Ok(())),
     (Away(2), Ok(())),
     (Lend(0, 9), FIRST_AWAY),
@@ -131,14 +131,14 @@ const LENT_AWAY: [NumberLine; 6] = [
 ];
 
 /// Eight numbers fill their row groups, and the last can be set.
-const FULL: [NumberLine; 3] = [
+static FULL: [NumberLine; 3] = [
     (Push(Some(77)), REGION_FULL),
     (Set(7, Some(-8)), Ok(())),
     (Number(7, Some(-8)), Ok(())),
 ];
 
 /// Three numbers in an object that takes no write more.
-const WRITTEN_OUT: [NumberLine; 6] = [
+static WRITTEN_OUT: [NumberLine; 6] = [
     (Set(0, Some(77)), USED_UP),
     (Push(Some(77)), USED_UP),
     (Set(3, Some(77)), OUT_OF_RANGE),

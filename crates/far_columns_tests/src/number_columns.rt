@@ -81,7 +81,7 @@ fn play_moves<R: Wait + Sync + Drop + Copy>(
 }
 
 /// Each number is at its place, in its own column, and each row group has its object, the first column's before the second's.
-const PUSHED: [NumbersLine; 13] = [
+static PUSHED: [NumbersLine; 13] = [
     (MayPush(Some(5), Some(-3)), Ok(())),
     (Push(Some(5), Some(-3)), Ok(())),
     (MayPush(None, Some(7)), Ok(())),
@@ -97,14 +97,14 @@ const PUSHED: [NumbersLine; 13] = [
     (Cell(1, 2, None), Ok(())),
 ];
 
-const NO_ROOM: [NumbersLine; 4] = [
+static NO_ROOM: [NumbersLine; 4] = [
     (MayPush(Some(5), Some(6)), REGION_FULL),
     (Push(Some(5), Some(6)), REGION_FULL),
     (Objects(0), Ok(())),
     (Len(0), Ok(())),
 ];
 
-const WRITTEN_OUT: [NumbersLine; 7] = [
+static WRITTEN_OUT: [NumbersLine; 7] = [
     (Push(Some(5), Some(6)), Ok(())),
     (Push(Some(7), Some(8)), Ok(())),
     (MayPush(Some(9), Some(10)), USED_UP),
@@ -114,7 +114,7 @@ const WRITTEN_OUT: [NumbersLine; 7] = [
     (Cell(1, 1, Some(8)), Ok(())),
 ];
 
-const AWAY: [NumbersLine; 5] = [
+static AWAY: [NumbersLine; 5] = [
     (Push(Some(5), Some(6)), Ok(())),
     (Away(1, 0), Ok(())),
     (MayPush(Some(7), Some(8)), SECOND_AWAY),
@@ -122,7 +122,7 @@ const AWAY: [NumbersLine; 5] = [
     (Len(1), Ok(())),
 ];
 
-const REPEATED: [NumbersLine; 4] = [
+static REPEATED: [NumbersLine; 4] = [
     (Push(Some(5), Some(6)), Ok(())),
     (Len(1), Ok(())),
     (Cell(0, 0, Some(5)), Ok(())),
@@ -130,7 +130,7 @@ const REPEATED: [NumbersLine; 4] = [
 ];
 
 /// The numbers of two columns whose objects go away and come back.
-const MOVED: [[Option<i64>; 2]; 8] = [
+static MOVED: [[Option<i64>; 2]; 8] = [
     [Some(1), None],
     [None, None],
     [Some(3), None],

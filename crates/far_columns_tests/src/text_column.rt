@@ -79,7 +79,7 @@ fn play_over<S: FarStore>(
 }
 
 /// Two texts and a missing one in row groups of two places.
-const PUSHED: [TextLine; 7] = [
+static PUSHED: [TextLine; 7] = [
     (Push(Some(("pear", 1))), Ok(())),
     (Push(None), Ok(())),
     (Push(Some(("fig", 1))), Ok(())),
@@ -90,7 +90,7 @@ const PUSHED: [TextLine; 7] = [
 ];
 
 /// The third text is cleared, and lent with the one before it.
-const LENT: [TextLine; 11] = [
+static LENT: [TextLine; 11] = [
     (Push(Some(("pear", 1))), Ok(())),
     (Push(None), Ok(())),
     (Push(Some(("fig", 1))), Ok(())),
@@ -111,7 +111,7 @@ const LARGE: Layout = Layout {
     ..PAIRS
 };
 
-const TOO_LONG_BY_ONE: [TextLine; 3] = [
+static TOO_LONG_BY_ONE: [TextLine; 3] = [
     (Push(Some(("a", 4096))), Ok(())),
     (Push(Some(("a", 4097))), TOO_LONG),
     (Set(0, Some(("a", 4097))), TOO_LONG),
@@ -119,7 +119,7 @@ const TOO_LONG_BY_ONE: [TextLine; 3] = [
 
 /// 54 letters fill a form, `b` in their place makes room, `c` comes behind it, and then 45 letters are one too many, and 44
 /// are not.
-const FILLED: [TextLine; 8] = [
+static FILLED: [TextLine; 8] = [
     (Push(Some(("a", 54))), Ok(())),
     (Set(0, Some(("b", 1))), Ok(())),
     (Push(Some(("c", 1))), Ok(())),
@@ -131,7 +131,7 @@ const FILLED: [TextLine; 8] = [
 ];
 
 /// A form that is full has no room for a missing text.
-const TOLD: [TextLine; 8] = [
+static TOLD: [TextLine; 8] = [
     (Push(Some(("a", 1))), Ok(())),
     (LenWith(0, Some(("a", 54)), 64), Ok(())),
     (Set(0, Some(("a", 54))), Ok(())),
@@ -142,7 +142,7 @@ const TOLD: [TextLine; 8] = [
     (Object(1, None), Ok(())),
 ];
 
-const ASKED: [TextLine; 4] = [
+static ASKED: [TextLine; 4] = [
     (Push(Some(("a", 1))), Ok(())),
     (MaySet(0, Some(("a", 54))), Ok(())),
     (MaySet(0, Some(("a", 55))), CHUNK_FULL),
@@ -150,7 +150,7 @@ const ASKED: [TextLine; 4] = [
 ];
 
 /// There is no sixth of five texts.
-const PAST: [TextLine; 4] = [
+static PAST: [TextLine; 4] = [
     (Set(5, None), OUT_OF_RANGE),
     (Text(5, None), Err(Refusal::NoRow)),
     (Lend(4, 6), OUT_OF_RANGE),
@@ -158,7 +158,7 @@ const PAST: [TextLine; 4] = [
 ];
 
 /// Of nine texts the first row group and the last are away.
-const AWAY: [TextLine; 9] = [
+static AWAY: [TextLine; 9] = [
     (Away(0), Ok(())),
     (Away(2), Ok(())),
     (Set(1, None), FIRST_AWAY),
@@ -171,7 +171,7 @@ const AWAY: [TextLine; 9] = [
 ];
 
 /// 2,049 letters of two bytes are too long for a text, and 2,048 for a form.
-const COUNTED: [TextLine; 4] = [
+static COUNTED: [TextLine; 4] = [
     (Set(0, Some(("é", 2049))), TOO_LONG),
     (Push(Some(("é", 2049))), TOO_LONG),
     (Set(0, Some(("é", 2048))), CHUNK_FULL),
@@ -179,7 +179,7 @@ const COUNTED: [TextLine; 4] = [
 ];
 
 /// A text that fills its form is cleared: there is room behind it once it is missing.
-const DEAD: [TextLine; 6] = [
+static DEAD: [TextLine; 6] = [
     (Set(0, Some(("a", 54))), Ok(())),
     (Clear(0), Ok(())),
     (Push(None), CHUNK_FULL),
@@ -196,7 +196,7 @@ const WRITTEN_OUT: Layout = Layout {
 };
 
 /// While the row group is away.
-const DUE_AWAY: [TextLine; 7] = [
+static DUE_AWAY: [TextLine; 7] = [
     (Away(0), Ok(())),
     (Set(2, Some(("a", 4097))), TOO_LONG),
     (Push(Some(("a", 4097))), TOO_LONG),
@@ -207,7 +207,7 @@ const DUE_AWAY: [TextLine; 7] = [
 ];
 
 /// While it is here.
-const DUE_HERE: [TextLine; 4] = [
+static DUE_HERE: [TextLine; 4] = [
     (Set(0, Some(("a", 50))), CHUNK_FULL),
     (Push(Some(("a", 50))), CHUNK_FULL),
     (Set(0, Some(("a", 44))), REGION_FULL),
@@ -220,7 +220,7 @@ const WRITTEN_OUT_WITH_ROOM: Layout = Layout {
 };
 
 /// While there is room for another form.
-const DUE_WITH_ROOM: [TextLine; 2] = [
+static DUE_WITH_ROOM: [TextLine; 2] = [
     (Set(0, Some(("a", 44))), USED_UP),
     (Push(Some(("a", 44))), USED_UP),
 ];
@@ -232,7 +232,7 @@ const ONE_SEGMENT: Layout = Layout {
     ..FOURS
 };
 
-const BEGINS: [TextLine; 7] = [
+static BEGINS: [TextLine; 7] = [
     (Set(4, Some(("a", 54))), OUT_OF_RANGE),
     (Push(Some(("a", 54))), REGION_FULL),
     (Set(4, Some(("a", 55))), OUT_OF_RANGE),

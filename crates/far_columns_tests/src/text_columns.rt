@@ -92,7 +92,7 @@ fn play_moves<R: Wait + Sync + Drop + Copy>(
 }
 
 /// Each text is at its place, in its own column.
-const PUSHED: [TextsLine; 10] = [
+static PUSHED: [TextsLine; 10] = [
     (Push(PEAR, RED), Ok(())),
     (Push(FIG, EMPTY), Ok(())),
     (Push(PLUM, BLUE), Ok(())),
@@ -106,7 +106,7 @@ const PUSHED: [TextsLine; 10] = [
 ];
 
 /// Two pairs of texts in room for six forms: one begins row groups, and the other does not.
-const REPEATED: [TextsLine; 7] = [
+static REPEATED: [TextsLine; 7] = [
     (Push(PEAR, RED), Ok(())),
     (Push(FIG, EMPTY), Ok(())),
     (Len(2), Ok(())),
@@ -117,7 +117,7 @@ const REPEATED: [TextsLine; 7] = [
 ];
 
 /// Nothing is changed before texts that may be pushed are pushed.
-const ASKED: [TextsLine; 9] = [
+static ASKED: [TextsLine; 9] = [
     (MayPush(PEAR, RED), Ok(())),
     (Objects(0), Ok(())),
     (Len(0), Ok(())),
@@ -136,7 +136,7 @@ const UNWRITABLE: Layout = Layout {
 };
 
 /// While an object is away, and before it is.
-const BEGUN: [TextsLine; 6] = [
+static BEGUN: [TextsLine; 6] = [
     (Push(LONG, LONG), Ok(())),
     (MayPush(Some(("a", 0)), LONG), CHUNK_FULL),
     (MayPush(Some(("a", 0)), Some(("a", 0))), REGION_FULL),
@@ -151,7 +151,7 @@ const FOUR_SEGMENTS: Layout = Layout {
     ..UNWRITABLE
 };
 
-const WITH_ROOM: [TextsLine; 2] = [
+static WITH_ROOM: [TextsLine; 2] = [
     (Push(LONG, LONG), Ok(())),
     (MayPush(Some(("a", 0)), Some(("a", 0))), USED_UP),
 ];
@@ -162,7 +162,7 @@ const WRITABLE: Layout = Layout {
     ..FOUR_SEGMENTS
 };
 
-const FREE: [TextsLine; 2] = [
+static FREE: [TextsLine; 2] = [
     (Push(LONG, LONG), Ok(())),
     (MayPush(Some(("a", 0)), Some(("a", 0))), Ok(())),
 ];
@@ -179,7 +179,7 @@ const ONES_WITH_ROOM: Layout = Layout {
 };
 
 /// Row groups that begin, before an object of those before them is away, and while one is.
-const BEGINS: [TextsLine; 5] = [
+static BEGINS: [TextsLine; 5] = [
     (Push(LONG, LONG), Ok(())),
     (MayPush(LONG, LONG), REGION_FULL),
     (Away(1, 0), Ok(())),
@@ -187,21 +187,21 @@ const BEGINS: [TextsLine; 5] = [
     (MayPush(Some(("a", 0)), Some(("a", 55))), CHUNK_FULL),
 ];
 
-const BEGINS_WITH_ROOM: [TextsLine; 4] = [
+static BEGINS_WITH_ROOM: [TextsLine; 4] = [
     (Push(LONG, LONG), Ok(())),
     (MayPush(LONG, LONG), Ok(())),
     (Away(1, 0), Ok(())),
     (MayPush(LONG, LONG), Ok(())),
 ];
 
-const AWAY: [TextsLine; 3] = [
+static AWAY: [TextsLine; 3] = [
     (Push(PEAR, RED), Ok(())),
     (Away(1, 0), Ok(())),
     (Push(FIG, EMPTY), SECOND_AWAY),
 ];
 
 /// Three segments have no room for two forms beside two old ones, and room for one.
-const OLD_FORMS: [TextsLine; 7] = [
+static OLD_FORMS: [TextsLine; 7] = [
     (Push(LONG, LONG), Ok(())),
     (Push(EMPTY, EMPTY), REGION_FULL),
     (Len(1), Ok(())),
@@ -218,7 +218,7 @@ const THREE_ONES: Layout = Layout {
 };
 
 /// Of two long texts more the first would find room; two short ones find it.
-const BEHIND: [TextsLine; 10] = [
+static BEHIND: [TextsLine; 10] = [
     (Push(LONG, LONG), Ok(())),
     (Push(LONG, LONG), REGION_FULL),
     (Objects(2), Ok(())),
@@ -232,7 +232,7 @@ const BEHIND: [TextsLine; 10] = [
 ];
 
 /// The form of the second column is full.
-const FULL: [TextsLine; 6] = [
+static FULL: [TextsLine; 6] = [
     (Push(PEAR, LONG), Ok(())),
     (Push(FIG, Some(("b", 1))), CHUNK_FULL),
     (Len(1), Ok(())),
@@ -271,7 +271,7 @@ const ONE_WRITE: Layout = Layout {
     ..FOURS
 };
 
-const WRITTEN_OUT: [TextsLine; 6] = [
+static WRITTEN_OUT: [TextsLine; 6] = [
     (Push(PEAR, RED), Ok(())),
     (Push(FIG, EMPTY), Ok(())),
     (Push(PLUM, BLUE), USED_UP),
@@ -281,7 +281,7 @@ const WRITTEN_OUT: [TextsLine; 6] = [
 ];
 
 /// The texts of two columns whose objects go away and come back.
-const MOVED: [[Word; 2]; 8] = [
+static MOVED: [[Word; 2]; 8] = [
     [PEAR, None],
     [None, None],
     [EMPTY, None],

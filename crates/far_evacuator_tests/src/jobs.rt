@@ -112,7 +112,7 @@ fn begin_frame<S: FarStore>(
 
 #[test]
 fn an_object_that_was_sent_away_stays_away_under_its_name(rt: HostRuntime) -> Result<(), Fail> {
-    const STEPS: &[Step] = &[
+    static STEPS: &[Step] = &[
         Step::Done(Call::Create(&[1, 2])),
         Step::SentAway(0),
         Step::IsAway(0),
@@ -126,7 +126,7 @@ fn an_object_that_was_sent_away_stays_away_under_its_name(rt: HostRuntime) -> Re
 
 #[test]
 fn the_coldest_object_is_the_one_that_was_used_least_lately(rt: HostRuntime) -> Result<(), Fail> {
-    const STEPS: &[Step] = &[
+    static STEPS: &[Step] = &[
         Step::Done(Call::Create(&[1, 2])),
         Step::Done(Call::Create(&[3, 4])),
         Step::Done(Call::Touch(0)),
@@ -149,7 +149,7 @@ fn the_coldest_object_is_the_one_that_was_used_least_lately(rt: HostRuntime) -> 
 
 #[test]
 fn an_object_that_was_not_written_is_not_put_again(rt: HostRuntime) -> Result<(), Fail> {
-    const STEPS: &[Step] = &[
+    static STEPS: &[Step] = &[
         Step::Done(Call::Create(&[1, 2])),
         Step::SentAway(0),
         Step::BroughtBack(0),
@@ -170,7 +170,7 @@ fn an_object_that_was_not_written_is_not_put_again(rt: HostRuntime) -> Result<()
 
 #[test]
 fn a_job_is_accepted_once(rt: HostRuntime) -> Result<(), Fail> {
-    const STEPS: &[Step] = &[
+    static STEPS: &[Step] = &[
         Step::Done(Call::Create(&[1, 2])),
         Step::SentAway(0),
         Step::Refused(Call::Commit, Refusal::StaleJob),
@@ -187,7 +187,7 @@ fn a_job_is_accepted_once(rt: HostRuntime) -> Result<(), Fail> {
 
 #[test]
 fn a_job_of_another_frame_is_stale(rt: HostRuntime) -> Result<(), Fail> {
-    const STEPS: &[Step] = &[
+    static STEPS: &[Step] = &[
         Step::Frame(1),
         Step::Done(Call::Begin(Want::Object(7))),
         Step::Done(Call::Carry),
@@ -207,7 +207,7 @@ fn a_job_of_another_frame_is_stale(rt: HostRuntime) -> Result<(), Fail> {
 
 #[test]
 fn an_object_goes_away_as_often_as_it_may(rt: HostRuntime) -> Result<(), Fail> {
-    const STEPS: &[Step] = &[
+    static STEPS: &[Step] = &[
         Step::Done(Call::Create(&[1, 2])),
         Step::SentAway(0),
         Step::BroughtBack(0),
@@ -227,7 +227,7 @@ fn an_object_goes_away_as_often_as_it_may(rt: HostRuntime) -> Result<(), Fail> {
 
 #[test]
 fn a_pinned_object_stays_until_it_is_unpinned(rt: HostRuntime) -> Result<(), Fail> {
-    const STEPS: &[Step] = &[
+    static STEPS: &[Step] = &[
         Step::Done(Call::Create(&[1, 2])),
         Step::Done(Call::Pin(0)),
         Step::Done(Call::Begin(Want::Object(0))),
@@ -245,7 +245,7 @@ fn a_pinned_object_stays_until_it_is_unpinned(rt: HostRuntime) -> Result<(), Fai
 
 #[test]
 fn a_carry_into_a_full_store_is_refused_and_keeps_its_job(rt: HostRuntime) -> Result<(), Fail> {
-    const STEPS: &[Step] = &[
+    static STEPS: &[Step] = &[
         Step::Done(Call::Create(&[1, 2])),
         Step::Done(Call::Create(&[3, 4])),
         Step::SentAway(0),
@@ -263,7 +263,7 @@ fn a_carry_into_a_full_store_is_refused_and_keeps_its_job(rt: HostRuntime) -> Re
 
 #[test]
 fn a_carry_into_a_full_log_is_a_fault_and_keeps_its_job(rt: HostRuntime) -> Result<(), Fail> {
-    const STEPS: &[Step] = &[
+    static STEPS: &[Step] = &[
         Step::Done(Call::Create(&[1, 2])),
         Step::Done(Call::Create(&[3, 4])),
         Step::SentAway(0),
@@ -283,7 +283,7 @@ fn a_carry_into_a_full_log_is_a_fault_and_keeps_its_job(rt: HostRuntime) -> Resu
 
 #[test]
 fn a_fetch_that_met_a_fault_is_carried_again(rt: HostRuntime) -> Result<(), Fail> {
-    const STEPS: &[Step] = &[
+    static STEPS: &[Step] = &[
         Step::Done(Call::Create(&[1, 2])),
         Step::SentAway(0),
         Step::Done(Call::BeginFetch(0)),
