@@ -8,7 +8,7 @@ use std::sync::Wait;
 use std::{fs, io};
 
 /// Scripts that are run to their end.
-const WHOLE: [&str; 33] = [
+const WHOLE: [&str; 41] = [
     "first_run",
     "bakery",
     "a_key_gets_the_extremes_of_the_rows_left",
@@ -17,6 +17,7 @@ const WHOLE: [&str; 33] = [
     "a_load_and_a_listing",
     "a_load_ends_at_a_refusal",
     "a_minimum_stays_until_its_last_holder_goes",
+    "a_pinned_object_stays",
     "a_row_group_is_scanned_once",
     "a_row_group_made_after_the_registration",
     "a_second_opening",
@@ -25,19 +26,26 @@ const WHOLE: [&str; 33] = [
     "a_wrong_kind_comes_before_a_wrong_width",
     "aggregates_that_cannot_be_had",
     "an_edit_before_the_scan_is_counted_once",
+    "an_evacuation_ends_once",
+    "an_object_comes_back_where_there_is_room",
+    "an_object_that_is_away_refuses_edits",
+    "an_object_written_since_is_not_sent_away",
     "cells_without_a_value",
     "empty_answers",
     "empty_lines_and_carriage_returns",
     "extrema_of_several_row_groups",
     "fields_behind_one_space",
     "filters_of_both_kinds",
+    "jobs_are_numbered_and_spent",
     "keys_are_printed_as_records",
     "kinds_of_tests",
     "limits_of_places_and_edits",
     "numbers_of_aggregates_are_used_again",
     "quotes",
     "refusals_of_edits",
+    "segments_are_compacted",
     "texts_are_measured_by_their_far_form",
+    "the_fill_of_a_segment_stays_until_it_is_empty",
     "the_longest_line_of_limits",
     "thirty_two_aggregates",
     "totals_follow_edits",

@@ -13,7 +13,8 @@ use Rattle.csv.proofs.ReadFacts.{rows-end, rows-more}
 use Rattle.far_frame.specs.declared.step.Reply.{Reply}
 use Rattle.far_frame.specs.declared.step.Reply.TheVariants as reply
 use Rattle.far_types.specs.declared.refusal.Refusal.{Refusal}
-use Rattle.far_frame.specs.Steps.{World, IsStep}
+use Rattle.far_frame.specs.Steps.{IsStep}
+use Rattle.far_frame.specs.Worlds.{World}
 use Rattle.std.specs.Prelude.{codes}
 use Rattle.far_shell.specs.Printing.{numbered_text, refusal_text}
 use Rattle.far_shell.specs.Replies.{AfterReply, Loads, insert_of_record}
@@ -147,23 +148,24 @@ remains-some rem a b fields rows m r first =
 not-refused : (given : Reply) → ((refusal : Refusal) → given ≡ reply.Refused refusal → ⊥) → (ends : Refusal → Type 0) (goes : Type 0) → goes → AfterReply given ends goes
 not-refused (reply.Refused refusal) other ends goes h = absurd (other refusal refl)
 not-refused (reply.Place place) other ends goes h = h
+not-refused (reply.Job n) other ends goes h = h
 not-refused reply.Done other ends goes h = h
 not-refused (reply.Aggregate a) other ends goes h = h
 not-refused (reply.Answer answer) other ends goes h = h
 
-module _ {K : Type 0} (content : K → List ℕ) where
+module _ {K : Type 0} (content : K → List ℕ) (number_of : K → ℕ) where
   -- what a load prints, from a record on
   abbrev pub GoesTo : World K → List (List (List ℕ)) → ℕ → World K → List (List (List ℕ)) → Type 0
-  GoesTo old all count at rows = (said : List ℕ) (new : World K) → Loads content count at rows said new → Loads content 0 old all said new
+  GoesTo old all count at rows = (said : List ℕ) (new : World K) → Loads content number_of count at rows said new → Loads content number_of 0 old all said new
 
   pub loads-none : (old at : World K) (count : ℕ) (said : List ℕ) (all rows : List (List (List ℕ))) → GoesTo old all count at rows → rows ≡ []
-      → said ≡ numbered_text (codes "loaded") count → Loads content 0 old all said at
+      → said ≡ numbered_text (codes "loaded") count → Loads content number_of 0 old all said at
   loads-none old at count said all rows go none is = go said at (rw none (refl, is))
 
   pub loads-refused : (old at new : World K) (count : ℕ) (said : List ℕ) (all rows more : List (List (List ℕ))) (fields : List (List ℕ)) (refusal : Refusal) → GoesTo old all count at rows → rows ≡ fields ∷ more
-      → IsStep content at (insert_of_record at.state.table.schema fields) (reply.Refused refusal) new → said ≡ numbered_text (codes "loaded") count ++ refusal_text refusal → Loads content 0 old all said new
+      → IsStep content number_of at (insert_of_record at.state.table.schema fields) (reply.Refused refusal) new → said ≡ numbered_text (codes "loaded") count ++ refusal_text refusal → Loads content number_of 0 old all said new
   loads-refused old at new count said all rows more fields refusal go some taken is = go said new (rw some (reply.Refused refusal, new, taken, (refl, is)))
 
   pub loads-more : (old at mid : World K) (count : ℕ) (all rows more : List (List (List ℕ))) (fields : List (List ℕ)) (given : Reply) → GoesTo old all count at rows → rows ≡ fields ∷ more
-      → IsStep content at (insert_of_record at.state.table.schema fields) given mid → ((refusal : Refusal) → given ≡ reply.Refused refusal → ⊥) → GoesTo old all (count + 1) mid more
+      → IsStep content number_of at (insert_of_record at.state.table.schema fields) given mid → ((refusal : Refusal) → given ≡ reply.Refused refusal → ⊥) → GoesTo old all (count + 1) mid more
   loads-more old at mid count all rows more fields given go some taken other said new rest = go said new (rw some (given, mid, taken, not-refused given other _ _ rest))

@@ -98,13 +98,13 @@ module _ {K : Type 0} where
   BreaksIn fault.Output at next front = IsOneLine next × IsFront (ListsNext at next) front
   BreaksIn fault.Memory at next front = IsOneLine next × IsFront (ListsNext at next) front
 
-module _ {K : Type 0} (content : K → List ℕ) where
+module _ {K : Type 0} (content : K → List ℕ) (number_of : K → ℕ) where
   -- behind the first command a script breaks off: whole lines are answered, and then no more
   pub record BreaksOff (old : At K) (why : ShellFault) (bytes text : List ℕ) : Type 0 where
     pub before : List ℕ
     pub printed : List ℕ
     pub mid : At K
-    pub answered : Answers content old before printed mid
+    pub answered : Answers content number_of old before printed mid
     pub next : List ℕ
     pub front : List ℕ
     pub cut : BreaksIn why mid next front
@@ -134,7 +134,7 @@ module _ {K : Type 0} (content : K → List ℕ) where
   EndsBy fault.BadStart bytes rest text lost = IsBroken fault.BadStart bytes rest text × (lost ≡ [])
   EndsBy fault.Input bytes rest text lost = IsBroken fault.Input bytes rest text × (lost ≡ [])
   EndsBy fault.Memory bytes rest text lost = IsBroken fault.Memory bytes rest text × (lost ≡ [])
-  EndsBy fault.Output bytes rest text lost = IsScript content bytes text ⊎ ((why : ShellFault) × IsBroken why bytes rest text)
+  EndsBy fault.Output bytes rest text lost = IsScript content number_of bytes text ⊎ ((why : ShellFault) × IsBroken why bytes rest text)
 
   -- a script ends early: of what its first bytes are answered a front was written. How it is split is told by the first
   -- argument

@@ -8,20 +8,38 @@ use Rattle.far_frame.specs.declared.step.Step.{Step}
 use Rattle.far_frame.specs.declared.step.Step.TheVariants as step
 use Rattle.far_frame.specs.declared.step.Reply.{Reply}
 use Rattle.far_frame.specs.declared.step.Reply.TheVariants as reply
-use Rattle.far_frame.specs.Steps.{World, IsStep}
+use Rattle.far_frame.specs.Steps.{IsStep}
+use Rattle.far_frame.specs.Worlds.{World}
 use Rattle.far_shell.specs.declared.command.Command.{Command}
 use Rattle.far_shell.specs.declared.command.Command.TheVariants as command
 use Rattle.far_shell.specs.Fields.{cells_from}
 use Rattle.far_shell.specs.Listings.{listing_of}
 use Rattle.far_shell.specs.Printing.{numbered_text, answer_text, refusal_text}
 
+-- what a step is answered that is done and has nothing to say
+abbrev pub done_text : Step → List ℕ
+done_text (step.Carry n) = codes "carried\n"
+done_text (step.Edit e) = codes "ok\n"
+done_text (step.Watch spec) = codes "ok\n"
+done_text (step.Unwatch a) = codes "ok\n"
+done_text (step.ScanGroup a g) = codes "ok\n"
+done_text (step.Ask a) = codes "ok\n"
+done_text (step.Pin column group) = codes "ok\n"
+done_text (step.Unpin column group) = codes "ok\n"
+done_text (step.BeginEvac column group) = codes "ok\n"
+done_text (step.BeginFetch column group) = codes "ok\n"
+done_text (step.Commit n) = codes "ok\n"
+done_text (step.Install n) = codes "ok\n"
+done_text (step.Compact kind segment) = codes "ok\n"
+
 -- the line of a reply, or the lines of an answer
-abbrev pub reply_text : Reply → List ℕ
-reply_text (reply.Place place) = numbered_text (codes "place") place
-reply_text reply.Done = codes "ok\n"
-reply_text (reply.Aggregate a) = numbered_text (codes "aggregate") a
-reply_text (reply.Answer answer) = answer_text answer
-reply_text (reply.Refused refusal) = refusal_text refusal
+abbrev pub reply_text : List ℕ → Reply → List ℕ
+reply_text done (reply.Place place) = numbered_text (codes "place") place
+reply_text done reply.Done = done
+reply_text done (reply.Aggregate a) = numbered_text (codes "aggregate") a
+reply_text done (reply.Answer answer) = answer_text answer
+reply_text done (reply.Job n) = numbered_text (codes "job") n
+reply_text done (reply.Refused refusal) = refusal_text refusal
 
 -- the insert of a record's fields
 abbrev pub insert_of_record : List Kind → List (List ℕ) → Step
@@ -34,21 +52,22 @@ AfterReply (reply.Place place) ends goes = goes
 AfterReply reply.Done ends goes = goes
 AfterReply (reply.Aggregate a) ends goes = goes
 AfterReply (reply.Answer answer) ends goes = goes
+AfterReply (reply.Job n) ends goes = goes
 
 -- the records of a text, as the csv reader reads them
 abbrev pub records_of : List ℕ → List (List (List ℕ))
 records_of text = records default_config (strip_bom text)
 
-module _ {K : Type 0} (content : K → List ℕ) where
+module _ {K : Type 0} (content : K → List ℕ) (number_of : K → ℕ) where
   -- a step is taken, and the text is its reply
   abbrev pub Takes : World K → Step → List ℕ → World K → Type 0
-  Takes old s text new = (given : Reply) × IsStep content old s given new × (text ≡ reply_text given)
+  Takes old s text new = (given : Reply) × IsStep content number_of old s given new × (text ≡ reply_text (done_text s) given)
 
   -- the records of a load are inserted in order, up to the first that is refused, behind as many as count
   abbrev pub Loads : ℕ → World K → List (List (List ℕ)) → List ℕ → World K → Type 0
   Loads count old [] text new = (new ≡ old) × (text ≡ numbered_text (codes "loaded") count)
   Loads count old (fields ∷ more) text new =
-      (given : Reply) × (mid : World K) × IsStep content old (insert_of_record old.state.table.schema fields) given mid
+      (given : Reply) × (mid : World K) × IsStep content number_of old (insert_of_record old.state.table.schema fields) given mid
       × AfterReply given (λ refusal. (new ≡ mid) × (text ≡ numbered_text (codes "loaded") count ++ refusal_text refusal)) (Loads (count + 1) mid more text new)
 
   -- a command is answered; the rows are the bytes behind its line that belong to it

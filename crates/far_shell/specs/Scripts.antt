@@ -4,7 +4,7 @@ use Rattle.std.specs.List.{list_any, flat_map}
 use Rattle.std.specs.Io.BufRead.{strip_last}
 use Rattle.far_types.specs.Bounds.{IsSchema, AreLimits}
 use Rattle.far_table.specs.State.{empty_state}
-use Rattle.far_frame.specs.Steps.{World}
+use Rattle.far_frame.specs.Worlds.{World}
 use Rattle.far_shell.specs.Openings.{Opened, opening_of}
 use Rattle.far_shell.specs.Commands.{command_of}
 use Rattle.far_shell.specs.Progress.{At}
@@ -40,11 +40,13 @@ Blank bytes [] = bytes ≡ []
 Blank bytes (line ∷ lines) = (rest : List ℕ) × (without_return line ≡ []) × (bytes ≡ line ++ 10 ∷ rest) × Blank rest lines
 
 module _ {K : Type 0} where
-  -- an empty table of these columns and limits, which are what a table may have. No fault was met yet
+  -- an empty table of these columns and limits, which are what a table may have. No job was begun and no fault was met yet
   pub record IsEmpty (opened : Opened) (world : World K) : Type 0 where
     pub schema : IsSchema opened.0
     pub limits : AreLimits opened.1
     pub state : world.state ≡ empty_state opened.0 opened.1 0
+    pub begun : world.begun ≡ 0
+    pub jobs : world.jobs ≡ []
     pub faults : world.faults ≡ 0
 
   -- a line opens an empty table of its columns and limits
@@ -60,13 +62,13 @@ module _ {K : Type 0} where
     pub one : IsOneLine line
     pub opens : ((bytes ≡ blank ++ line ++ 10 ∷ []) × IsOpenedBy (without_return line) at) ⊎ ((bytes ≡ blank ++ line) × IsOpenedBy line at × spent)
 
-module _ {K : Type 0} (content : K → List ℕ) where
+module _ {K : Type 0} (content : K → List ℕ) (number_of : K → ℕ) where
   -- an empty line is no command; any other is text, and the next command
   abbrev pub AnswersLine : At K → List ℕ → List ℕ → List ℕ → At K → Type 0
   AnswersLine old [] rows text new = (rows ≡ []) × (text ≡ []) × (new ≡ old)
   AnswersLine old (c ∷ cs) rows text new =
       IsUtf8 (c ∷ cs) × (new.number ≡ old.number + 1)
-      × ServesLine content new.number old.world (command_of old.world.state.table.schema (c ∷ cs)) rows text new.world
+      × ServesLine content number_of new.number old.world (command_of old.world.state.table.schema (c ∷ cs)) rows text new.world
 
   -- one turn
   abbrev pub IsTurn : At K → Turn → At K → Type 0

@@ -35,6 +35,9 @@ long_number_in left = option_and_then long_number_of (word_in left)
 abbrev pub last_number_in : Option (List ℕ) → Option ℕ
 last_number_in left = if is_none (after left) then number_in left else None
 
+abbrev pub last_long_number_in : Option (List ℕ) → Option ℕ
+last_long_number_in left = if is_none (after left) then long_number_in left else None
+
 -- all words that are left
 abbrev pub words_in : Option (List ℕ) → List (List ℕ)
 words_in None = []

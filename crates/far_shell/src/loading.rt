@@ -9,7 +9,7 @@ use super::field::record_cells;
 use super::page::Page;
 use super::print::{numbered, refused};
 use csv::{ReaderBuilder, StringRecord};
-use far_frame::{Reply, Step, World};
+use far_frame::{Reply, World};
 use far_store::FarStore;
 use far_types::{Edit, Refusal, Row};
 use std::alloc::Global;
@@ -20,11 +20,12 @@ fn insert_record<S: FarStore>(
     world: &mut World<S>,
     fields: &StringRecord,
 ) -> Result<Reply, Refusal>
-    ensures step { IfOk result (λ reply. IsStep S.content world.old (insert_of_record world.old.state.table.schema (fields_of fields.now)) reply world.new) }
+    ensures step { IfOk result (λ reply. IsStep S.content S.number_of world.old (insert_of_record world.old.state.table.schema (fields_of fields.now)) reply world.new) }
+    ensures faults { world.new.faults ≡ world.old.faults }
     ensures memory { IfErr result (λ e. e ≡ Refusal.NoMemory) }
 {
     let cells = record_cells(alloc, world.frame().schema().as_slice(), fields)?;
-    Ok(world.serve(Step::Edit(Edit::Insert(Row::new(cells)))))
+    Ok(world.edit(Edit::Insert(Row::new(cells))))
 }
 
 /// Inserts the records of a text in order, up to the first that is refused, and prints `loaded COUNT` and the refusal, if
@@ -35,7 +36,8 @@ pub fn load<S: FarStore>(
     text: &str,
     reply: &mut Page,
 ) -> Result<(), Refusal>
-    ensures ok { OnOk result (Loads S.content 0 world.old (records_of text.now) reply.new world.new) }
+    ensures ok { OnOk result (Loads S.content S.number_of 0 world.old (records_of text.now) reply.new world.new) }
+    ensures faults { world.new.faults ≡ world.old.faults }
     ensures memory { IfErr result (λ e. e ≡ Refusal.NoMemory) }
 {
     reply.truncate(0);

@@ -18,7 +18,7 @@ pub struct Opening {
     pub limits: Limits,
 }
 
-fn read_kind(word: &str) -> Option<Kind>
+pub fn read_kind(word: &str) -> Option<Kind>
     ensures { result ≡ kind_named word.now }
 {
     if word == "int" {

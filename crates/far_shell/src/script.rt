@@ -37,8 +37,8 @@ fn serve_lines<S: FarStore, R: Read + Drop, W: Write>(
     writer: &mut W,
 ) -> Result<(), ShellFault>
     requires first { progress.old.number ≡ 1 }
-    ensures ok { OnOk result ((bytes : List ℕ) × (text : List ℕ) × Reads R.Read input.old bytes input.new × Prints (W.contents writer.old) output.old.page text (W.contents writer.new) output.new.page × Ends S.content progress.old bytes text × IsSpent R.Read input.new) }
-    ensures err { IfErr result (λ fault. (bytes : List ℕ) × (rest : List ℕ) × (text : List ℕ) × Gives R.Read fault input.old input.new bytes rest × Prints (W.contents writer.old) output.old.page text (W.contents writer.new) output.new.page × BreaksOff S.content progress.old fault bytes text) }
+    ensures ok { OnOk result ((bytes : List ℕ) × (text : List ℕ) × Reads R.Read input.old bytes input.new × Prints (W.contents writer.old) output.old.page text (W.contents writer.new) output.new.page × Ends S.content S.number_of progress.old bytes text × IsSpent R.Read input.new) }
+    ensures err { IfErr result (λ fault. (bytes : List ℕ) × (rest : List ℕ) × (text : List ℕ) × Gives R.Read fault input.old input.new bytes rest × Prints (W.contents writer.old) output.old.page text (W.contents writer.new) output.new.page × BreaksOff S.content S.number_of progress.old fault bytes text) }
     ensures asked { input.new.source.reads ≤ input.old.source.reads }
 {
     for turn in 0..MAX_LINES {
@@ -62,7 +62,7 @@ fn open_table<S: FarStore>(alloc: Global, store: S, opening: Opening) -> Result<
 {
     let schema = Schema::new(opening.kinds)?;
     let frame = Frame::open(alloc, schema, opening.limits, 0)?;
-    let Ok(world) = World::new(frame, store) else {
+    let Ok(world) = World::new(alloc, frame, store) else {
         unreachable!()
     };
     Ok(world)
@@ -109,7 +109,7 @@ fn open<S: FarStore, R: Read + Drop, W: Write>(
     writer: &mut W,
 ) -> Result<Progress<S>, ShellFault>
     ensures ok { IfOk result (λ progress. (bytes : List ℕ) × Reads R.Read input.old bytes input.new × Prints (W.contents writer.old) output.old.page (codes "ok\n") (W.contents writer.new) output.new.page × Opens bytes (IsSpent R.Read input.new) progress) }
-    ensures err { IfErr result (λ fault. (bytes : List ℕ) × (rest : List ℕ) × (text : List ℕ) × Gives R.Read fault input.old input.new bytes rest × Prints (W.contents writer.old) output.old.page text (W.contents writer.new) output.new.page × IsBroken S.content fault bytes rest text) }
+    ensures err { IfErr result (λ fault. (bytes : List ℕ) × (rest : List ℕ) × (text : List ℕ) × Gives R.Read fault input.old input.new bytes rest × Prints (W.contents writer.old) output.old.page text (W.contents writer.new) output.new.page × IsBroken S.content S.number_of fault bytes rest text) }
     ensures asked { input.new.source.reads ≤ input.old.source.reads }
 {
     for turn in 0..MAX_LINES {
@@ -141,8 +141,8 @@ fn serve<S: FarStore, R: Read + Drop, W: Write>(
     writer: &mut W,
 ) -> Result<(), ShellFault>
     requires { output.old.page ≡ [] }
-    ensures ok { OnOk result ((script : List ℕ) × (text : List ℕ) × Reads R.Read input.old script input.new × Prints (W.contents writer.old) [] text (W.contents writer.new) output.new.page × IsScript S.content script text × IsSpent R.Read input.new) }
-    ensures err { IfErr result (λ fault. (bytes : List ℕ) × (rest : List ℕ) × (text : List ℕ) × Gives R.Read fault input.old input.new bytes rest × Prints (W.contents writer.old) [] text (W.contents writer.new) output.new.page × IsBroken S.content fault bytes rest text) }
+    ensures ok { OnOk result ((script : List ℕ) × (text : List ℕ) × Reads R.Read input.old script input.new × Prints (W.contents writer.old) [] text (W.contents writer.new) output.new.page × IsScript S.content S.number_of script text × IsSpent R.Read input.new) }
+    ensures err { IfErr result (λ fault. (bytes : List ℕ) × (rest : List ℕ) × (text : List ℕ) × Gives R.Read fault input.old input.new bytes rest × Prints (W.contents writer.old) [] text (W.contents writer.new) output.new.page × IsBroken S.content S.number_of fault bytes rest text) }
     ensures asked { input.new.source.reads ≤ input.old.source.reads }
 {
     let mut progress = open(alloc, store, input, output, writer)?;
@@ -158,8 +158,8 @@ fn run_over<S: FarStore, R: Read + Drop, W: Write>(
     input: &mut Input<R>,
     writer: &mut W,
 ) -> Result<(), ShellFault>
-    ensures ok { OnOk result ((script : List ℕ) × (text : List ℕ) × Reads R.Read input.old script input.new × IsSpent R.Read input.new × Appends (W.contents writer.old) (W.contents writer.new) text × IsScript S.content script text) }
-    ensures err { IfErr result (λ fault. Breaks S.content (Gives R.Read fault input.old input.new) (W.contents writer.old) (W.contents writer.new) fault) }
+    ensures ok { OnOk result ((script : List ℕ) × (text : List ℕ) × Reads R.Read input.old script input.new × IsSpent R.Read input.new × Appends (W.contents writer.old) (W.contents writer.new) text × IsScript S.content S.number_of script text) }
+    ensures err { IfErr result (λ fault. Breaks S.content S.number_of (Gives R.Read fault input.old input.new) (W.contents writer.old) (W.contents writer.new) fault) }
     ensures asked { input.new.source.reads ≤ input.old.source.reads }
 {
     let mut output = Output::new(alloc);
@@ -186,8 +186,8 @@ pub fn run_input<T: AllocGlobal + Sync + Wait, R: Read + Drop, W: Write>(
     input: &mut Input<R>,
     writer: &mut W,
 ) -> Result<(), ShellFault>
-    ensures ok { OnOk result ((script : List ℕ) × (text : List ℕ) × Reads R.Read input.old script input.new × IsSpent R.Read input.new × Appends (W.contents writer.old) (W.contents writer.new) text × IsScript ⟦<AgentStore<&'static T> as FarTickets>⟧.content script text) }
-    ensures err { IfErr result (λ fault. Breaks ⟦<AgentStore<&'static T> as FarTickets>⟧.content (Gives R.Read fault input.old input.new) (W.contents writer.old) (W.contents writer.new) fault) }
+    ensures ok { OnOk result ((script : List ℕ) × (text : List ℕ) × Reads R.Read input.old script input.new × IsSpent R.Read input.new × Appends (W.contents writer.old) (W.contents writer.new) text × IsScript ⟦<AgentStore<&'static T> as FarTickets>⟧.content ⟦<AgentStore<&'static T> as FarTickets>⟧.number_of script text) }
+    ensures err { IfErr result (λ fault. Breaks ⟦<AgentStore<&'static T> as FarTickets>⟧.content ⟦<AgentStore<&'static T> as FarTickets>⟧.number_of (Gives R.Read fault input.old input.new) (W.contents writer.old) (W.contents writer.new) fault) }
     ensures asked { input.new.source.reads ≤ input.old.source.reads }
 {
     let store = AgentStore::new(rt, rt.alloc(), STORE_CAPACITY)?;
@@ -206,8 +206,8 @@ pub fn run_script<T: AllocGlobal + Sync + Wait, R: Read + Drop, W: Write>(
     reader: R,
     writer: &mut W,
 ) -> Result<(), ShellFault>
-    ensures ok { OnOk result ((script : List ℕ) × (text : List ℕ) × IsWhole (R.remaining reader) script × Appends (W.contents writer.old) (W.contents writer.new) text × IsScript ⟦<AgentStore<&'static T> as FarTickets>⟧.content script text) }
-    ensures err { IfErr result (λ fault. Breaks ⟦<AgentStore<&'static T> as FarTickets>⟧.content (λ bytes rest. IfSome (R.remaining reader) (λ script. script ≡ bytes ++ rest)) (W.contents writer.old) (W.contents writer.new) fault) }
+    ensures ok { OnOk result ((script : List ℕ) × (text : List ℕ) × IsWhole (R.remaining reader) script × Appends (W.contents writer.old) (W.contents writer.new) text × IsScript ⟦<AgentStore<&'static T> as FarTickets>⟧.content ⟦<AgentStore<&'static T> as FarTickets>⟧.number_of script text) }
+    ensures err { IfErr result (λ fault. Breaks ⟦<AgentStore<&'static T> as FarTickets>⟧.content ⟦<AgentStore<&'static T> as FarTickets>⟧.number_of (λ bytes rest. IfSome (R.remaining reader) (λ script. script ≡ bytes ++ rest)) (W.contents writer.old) (W.contents writer.new) fault) }
 {
     let mut input = Input::new(rt.alloc(), reader)?;
     run_input(rt, &mut input, writer)?;

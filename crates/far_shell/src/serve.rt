@@ -1,5 +1,5 @@
 // Lines as commands, and their answers.
-ghost use Rattle.std.specs.Prelude.{◌≡◌, ℕ, List, [], ◌++◌, ◌≤◌, ◌<◌, IfErr, OnOk, IsUtf8, Some};
+ghost use Rattle.std.specs.Prelude.{◌≡◌, ℕ, List, [], ◌++◌, ◌+◌, ◌≤◌, ◌<◌, ◌^◌, IfErr, OnOk, IsUtf8, Some};
 ghost use Rattle.far_frame.specs.declared.step.Reply.{Reply};
 ghost use Rattle.far_frame.specs.Steps.{IsStep};
 ghost use Rattle.far_shell.specs.Breaks.{Fails, FailsBy, Lists, PrintsCut};
@@ -8,7 +8,7 @@ ghost use Rattle.far_shell.specs.Faults.{IfInput};
 ghost use Rattle.far_shell.specs.Flow.{Prints, Reads, Stops, Holds, spanned};
 ghost use Rattle.far_shell.specs.Printing.{numbered_text};
 ghost use Rattle.far_shell.specs.Listings.{listing_of};
-ghost use Rattle.far_shell.specs.Replies.{Serves, ServesLine, Takes, reply_text};
+ghost use Rattle.far_shell.specs.Replies.{Serves, ServesLine, Takes, done_text, reply_text};
 ghost use Rattle.far_shell.specs.Scripts.{AnswersLine};
 
 use super::command::{Command, parse};
@@ -26,28 +26,42 @@ use far_types::Refusal;
 use std::alloc::Global;
 use std::io::{Read, Write};
 
-/// The line of a reply, or the lines of an answer.
-pub fn print_reply(page: &mut Page, reply: &Reply) -> Result<(), Refusal>
-    ensures ok { OnOk result (page.new ≡ page.old ++ reply_text reply.now) }
+/// What a step is answered that is done and has nothing to say.
+fn done(step: &Step) -> &'static str
+    ensures { result.now ≡ done_text step.now }
+{
+    match step {
+        Step::Carry(_) => "carried\n",
+        _ => "ok\n",
+    }
+}
+
+/// The line of a reply, or the lines of an answer; the text is that of a reply that has nothing to say.
+pub fn print_reply(page: &mut Page, done: &str, reply: &Reply) -> Result<(), Refusal>
+    ensures ok { OnOk result (page.new ≡ page.old ++ reply_text done.now reply.now) }
     ensures memory { IfErr result (λ e. e ≡ Refusal.NoMemory) }
 {
     match reply {
         Reply::Place(place) => numbered(page, "place", u64::from(*place)),
-        Reply::Done => page.text("ok\n"),
+        Reply::Done => page.text(done),
         Reply::Aggregate(aggregate) => numbered(page, "aggregate", u64::from(*aggregate)),
         Reply::Answer(found) => answer(page, found),
+        Reply::Job(job) => numbered(page, "job", *job),
         Reply::Refused(refusal) => refused(page, refusal),
     }
 }
 
 /// Takes a step, and prints its reply.
 fn take_step<S: FarStore>(world: &mut World<S>, step: Step, reply: &mut Page) -> Result<(), Refusal>
-    ensures ok { OnOk result (Takes S.content world.old step reply.new world.new) }
+    requires few { world.old.faults < 2 ^ 63 }
+    ensures ok { OnOk result (Takes S.content S.number_of world.old step reply.new world.new) }
+    ensures faults { world.new.faults ≤ world.old.faults + 1 }
     ensures memory { IfErr result (λ e. e ≡ Refusal.NoMemory) }
 {
     reply.truncate(0);
+    let done = done(&step);
     let given = world.serve(step);
-    print_reply(reply, &given)
+    print_reply(reply, done, &given)
 }
 
 /// Answers a command, with the bytes behind its line that belong to it.
@@ -59,9 +73,11 @@ fn answer_command<S: FarStore, R: Read + Drop, W: Write>(
     output: &mut Output,
     writer: &mut W,
 ) -> Result<(), ShellFault>
-    ensures ok { OnOk result ((rows : List ℕ) × (text : List ℕ) × Reads R.Read input.old rows input.new × Prints (W.contents writer.old) output.old.page text (W.contents writer.new) output.new.page × Serves S.content world.old command rows text world.new) }
+    requires few { world.old.faults < 2 ^ 63 }
+    ensures ok { OnOk result ((rows : List ℕ) × (text : List ℕ) × Reads R.Read input.old rows input.new × Prints (W.contents writer.old) output.old.page text (W.contents writer.new) output.new.page × Serves S.content S.number_of world.old command rows text world.new) }
     ensures err { IfErr result (λ fault. PrintsCut fault (λ said. (command ≡ Command.Dump) × (said ≡ listing_of world.old.state)) (W.contents writer.old) output.old.page (W.contents writer.new) output.new.page) }
     ensures stopped { IfErr result (λ fault. IfInput fault (Stops R.Read (λ behind. FailsBy (Some command) behind) input.old input.new)) }
+    ensures faults { world.new.faults ≤ world.old.faults + 1 }
     ensures asked { input.new.source.reads ≤ input.old.source.reads }
 {
     match command {
@@ -93,11 +109,13 @@ fn answer_words<S: FarStore, R: Read + Drop, W: Write>(
     output: &mut Output,
     writer: &mut W,
 ) -> Result<(), ShellFault>
-    requires { Holds R.Read input.old line }
+    requires held { Holds R.Read input.old line }
+    requires few { world.old.faults < 2 ^ 63 }
     ensures text { OnOk result (IsUtf8 (spanned R.Read input.old line)) }
-    ensures ok { OnOk result ((rows : List ℕ) × (text : List ℕ) × Reads R.Read input.old rows input.new × Prints (W.contents writer.old) output.old.page text (W.contents writer.new) output.new.page × ServesLine S.content number world.old (command_of world.old.state.table.schema (spanned R.Read input.old line)) rows text world.new) }
+    ensures ok { OnOk result ((rows : List ℕ) × (text : List ℕ) × Reads R.Read input.old rows input.new × Prints (W.contents writer.old) output.old.page text (W.contents writer.new) output.new.page × ServesLine S.content S.number_of number world.old (command_of world.old.state.table.schema (spanned R.Read input.old line)) rows text world.new) }
     ensures err { IfErr result (λ fault. PrintsCut fault (λ said. (command_of world.old.state.table.schema (spanned R.Read input.old line) ≡ Some Command.Dump) × (said ≡ listing_of world.old.state)) (W.contents writer.old) output.old.page (W.contents writer.new) output.new.page) }
     ensures stopped { IfErr result (λ fault. IfInput fault (Stops R.Read (λ behind. Fails world.old.state.table.schema (spanned R.Read input.old line) behind) input.old input.new)) }
+    ensures faults { world.new.faults ≤ world.old.faults + 1 }
     ensures asked { input.new.source.reads ≤ input.old.source.reads }
 {
     match parse(alloc, world.frame().schema().as_slice(), input.text(line)?)? {
@@ -122,7 +140,7 @@ pub fn answer_line<S: FarStore, R: Read + Drop, W: Write>(
 ) -> Result<(), ShellFault>
     requires held { Holds R.Read input.old line }
     requires few { progress.old.number < 4294967295 }
-    ensures ok { OnOk result ((rows : List ℕ) × (text : List ℕ) × Reads R.Read input.old rows input.new × Prints (W.contents writer.old) output.old.page text (W.contents writer.new) output.new.page × AnswersLine S.content progress.old (spanned R.Read input.old line) rows text progress.new) }
+    ensures ok { OnOk result ((rows : List ℕ) × (text : List ℕ) × Reads R.Read input.old rows input.new × Prints (W.contents writer.old) output.old.page text (W.contents writer.new) output.new.page × AnswersLine S.content S.number_of progress.old (spanned R.Read input.old line) rows text progress.new) }
     ensures err { IfErr result (λ fault. PrintsCut fault (λ said. Lists progress.old (spanned R.Read input.old line) said) (W.contents writer.old) output.old.page (W.contents writer.new) output.new.page) }
     ensures stopped { IfErr result (λ fault. IfInput fault (Stops R.Read (λ behind. Fails progress.old.world.state.table.schema (spanned R.Read input.old line) behind) input.old input.new)) }
     ensures asked { input.new.source.reads ≤ input.old.source.reads }

@@ -1,6 +1,6 @@
 // The words of a line.
 ghost use Rattle.std.specs.Prelude.{◌≡◌, option_map, is_none, IfSome, IfNone, ◌∷◌, [], Some};
-ghost use Rattle.far_shell.specs.Words.{after, word_in, number_in, long_number_in, last_number_in, is_next, words_in};
+ghost use Rattle.far_shell.specs.Words.{after, word_in, number_in, long_number_in, last_number_in, last_long_number_in, is_next, words_in};
 
 use super::number::{long_number, number};
 use std::marker::Model;
@@ -97,5 +97,15 @@ impl<'a> Words<'a> {
     {
         let number = self.number();
         if self.is_empty() { number } else { None }
+    }
+
+    /// The last word as a number below 2^64: there is no other word behind it.
+    pub fn last_long_number(mut self) -> Option<u64>
+        ensures { result ≡ last_long_number_in self.entry }
+    {
+        match self.long_number() {
+            Some(number) if self.is_empty() => Some(number),
+            _ => None,
+        }
     }
 }
