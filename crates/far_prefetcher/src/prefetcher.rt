@@ -1,5 +1,5 @@
 // The access histories of all columns.
-ghost use Rattle.std.specs.Prelude.{◌≡◌, ◌<◌, [], length, replicate, slice_set, IfOk, IfErr};
+ghost use Rattle.std.specs.Prelude.{◌≡◌, [], length, replicate, slice_set, IfOk, IfErr};
 ghost use Rattle.far_prefetcher.specs.Strides.{history_of, proposed, with_seen};
 
 use super::history::History;
@@ -39,23 +39,26 @@ impl Prefetcher {
     }
 
     /// Remembers that a row group of a column was read, and forgets the oldest of that column where 8 are
-    /// remembered. Takes no memory.
+    /// remembered; of a column that is not there, nothing. Takes no memory.
     pub fn saw(&mut self, column: u32, group: u32)
-        requires { column < length self.old }
         ensures { self.new ≡ slice_set self.old column (with_seen (history_of self.old column) group) }
     {
-        self.histories[column as usize].saw(group);
+        if let Some(history) = self.histories.get_mut(column as usize) {
+            history.saw(group);
+        }
     }
 
     /// The row groups of a column to fetch next, of those below `groups`: where the last three differences of its
     /// history are equal and not 0, the next two groups of that stride that exist, and else none. Refused with
     /// `NoMemory` (1) alone.
     pub fn proposals(&self, alloc: Global, column: u32, groups: u32) -> Result<Vec<u32>, Refusal>
-        requires { column < length self.now }
         ensures found { IfOk result (λ proposals. proposals.items ≡ proposed groups (history_of self.now column)) }
         ensures memory { IfErr result (λ e. e ≡ Refusal.NoMemory) }
     {
-        self.histories[column as usize].proposals(alloc, groups)
+        match self.histories.get(column as usize) {
+            Some(history) => history.proposals(alloc, groups),
+            None => Ok(Vec::new(alloc)),
+        }
     }
 }
 

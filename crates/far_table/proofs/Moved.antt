@@ -26,7 +26,7 @@ use Rattle.far_rows.specs.Slots.{Values, kind_of, row_of}
 use Rattle.far_rows.specs.Rows.{Rows, cells_of}
 use Rattle.far_rows.specs.Places.{places_in, places_of}
 use Rattle.far_rows.specs.Moving.{object_at, pinned, unpinned, touched}
-use Rattle.far_rows.specs.Jobs.{IsEvacAccepted, IsFetchAccepted, IsAfterInstall, after_commit, pins_by}
+use Rattle.far_rows.specs.Jobs.{IsEvacAccepted, IsFetchAccepted, IsAfterInstall, HasNoRoom, after_commit, pins_by}
 use Rattle.far_aggregates.specs.Kept.{PlacesFit}
 use Rattle.far_table.specs.TableRows.{TableRows, AreWritten, AreKept, rows_in}
 use Rattle.far_table.specs.Moving.{AreMoved, IsPinned, IsUnpinned, IsTouched, IsCommitted, IsInstalled, IsCompactedOf}
@@ -147,9 +147,10 @@ module _ {K A : Type 0} (number_of : K → ℕ) (old now : Rows K) where
   committed-both (Ok done) carried accepted away pinned = record { accepted = accepted; free = no-pin (pins_by old carried) (λ some. not-refused done refusal.Pinned (pinned.1 (accepted, some))); away = away }
   committed-both (Err given) carried accepted away pinned = accepted
 
-module _ {K A : Type 0} (number_of : K → ℕ) (old now : Rows K) (r : Result A Refusal) where
-  pub installed-both : (content : K → List ℕ) (fetched : ByKind (CarriedFetch K) (CarriedFetch K)) → OnOk r (IsFetchAccepted number_of old fetched) → OnOk r (IsAfterInstall content old fetched now) → OnOk r (IsInstalled content number_of fetched old now)
-  installed-both content fetched accepted back = on-both r accepted back (λ may is. record { accepted = may; back = is })
+  pub installed-both : (r : Result A Refusal) (content : K → List ℕ) (fetched : ByKind (CarriedFetch K) (CarriedFetch K)) → OnOk r (IsFetchAccepted number_of old fetched) → OnOk r (IsAfterInstall content old fetched now)
+      → (IsErrOf r refusal.RegionFull ↔ (IsFetchAccepted number_of old fetched × HasNoRoom content old fetched)) → OnOk r (IsInstalled content number_of fetched old now)
+  installed-both (Ok done) content fetched accepted back full = record { accepted = accepted; room = λ none. not-refused done refusal.RegionFull (full.1 (accepted, none)); back = back }
+  installed-both (Err given) content fetched accepted back full = accepted
 
 module _ {K : Type 0} (content : K → List ℕ) (schema : List Kind) (limits : Limits) (old : Rows K) (coming : Values) (edits : ℕ) where
   written-still : {X : Type 0} (m now : Movement X K) → AreAsWritten m now → AreWritten limits edits m → AreWritten limits edits now

@@ -8,7 +8,7 @@ use Rattle.far_evacuator.specs.Jobs.{CarriedEvacuation, CarriedFetch}
 use Rattle.far_rows.specs.declared.job.ByKind.{ByKind}
 use Rattle.far_rows.specs.Rows.{Rows}
 use Rattle.far_rows.specs.Moving.{object_at, pinned, unpinned, touched}
-use Rattle.far_rows.specs.Jobs.{IsEvacAccepted, IsFetchAccepted, IsAfterInstall, after_commit, pins_by}
+use Rattle.far_rows.specs.Jobs.{IsEvacAccepted, IsFetchAccepted, IsAfterInstall, HasNoRoom, after_commit, pins_by}
 use Rattle.far_table.specs.State.{State}
 use Rattle.far_table.specs.TableRows.{TableRows}
 
@@ -31,9 +31,10 @@ module _ {K : Type 0} where
     pub free : pins_by old carried ≡ 0
     pub away : new ≡ after_commit old carried
 
-  -- a carried fetch is accepted, and its object is back
+  -- a carried fetch is accepted, its object finds room, and is back
   pub record IsInstalled (content : K → List ℕ) (number_of : K → ℕ) (fetched : ByKind (CarriedFetch K) (CarriedFetch K)) (old new : Rows K) : Type 0 where
     pub accepted : IsFetchAccepted number_of old fetched
+    pub room : ¬ (HasNoRoom content old fetched)
     pub back : IsAfterInstall content old fetched new
 
   -- a segment of the objects of a kind is compacted
