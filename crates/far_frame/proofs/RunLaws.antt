@@ -7,7 +7,8 @@ use Rattle.far_store.specs.Faults.{faults_of}
 use Rattle.far_types.specs.Answers.{answer_over}
 use Rattle.far_types.specs.Table.{Place, Registered, left, answer_now, rows_of}
 use Rattle.far_aggregates.specs.Aggregates.{Answers}
-use Rattle.far_table.specs.State.{State}
+use Rattle.far_table.specs.State.{State as LiveState}
+use Rattle.far_frame.specs.State.{State}
 use Rattle.far_table.specs.Watching.{aggregate_at}
 use Rattle.far_frame.specs.declared.step.Step.{Step}
 use Rattle.far_frame.specs.declared.step.Step.TheVariants as step
@@ -38,7 +39,10 @@ replied serves refuses (reply.Place place) f g h = f (reply.Place place) h
 replied serves refuses reply.Done f g h = f reply.Done h
 replied serves refuses (reply.Aggregate a) f g h = f (reply.Aggregate a) h
 replied serves refuses (reply.Answer x) f g h = f (reply.Answer x) h
+replied serves refuses (reply.Ints pieces) f g h = f (reply.Ints pieces) h
+replied serves refuses (reply.Texts pieces) f g h = f (reply.Texts pieces) h
 replied serves refuses (reply.Job n) f g h = f (reply.Job n) h
+replied serves refuses (reply.Next found) f g h = f (reply.Next found) h
 
 either : {A : Type 0} (b : Bool) (x y : A) → y ≡ x → y ≡ cond b x x
 either true x y h = h
@@ -88,14 +92,16 @@ module _ {K : Type 0} (content : K → List ℕ) (number_of : K → ℕ) where
 
   -- only edits change the rows
   accepted-rows : (old new : State K) (s : Step) (given : Reply) → Accepts content old s given new → new.table.places ≡ rows_after s old.table.places
-  accepted-rows old new (step.Edit e) given h = ap (λ t. t.places) h.1.table
-  accepted-rows old new (step.Watch spec) given h = ap (λ (t : State K). t.table.places) h.2.state
-  accepted-rows old new (step.Unwatch a) given h = ap (λ (t : State K). t.table.places) h.1.state
-  accepted-rows old new (step.ScanGroup a g) given h = ap (λ (t : State K). t.table.places) h.1.state
+  accepted-rows old new (step.Edit e) given h = ap (λ t. t.places) h.1.changed.table
+  accepted-rows old new (step.Watch spec) given h = ap (λ (t : LiveState K). t.table.places) h.2.changed.state
+  accepted-rows old new (step.Unwatch a) given h = ap (λ (t : LiveState K). t.table.places) h.1.changed.state
+  accepted-rows old new (step.ScanGroup a g) given h = ap (λ (t : LiveState K). t.table.places) h.1.changed.state
   accepted-rows old new (step.Ask a) given h = ap (λ (t : State K). t.table.places) h.3
-  accepted-rows old new (step.Pin column group) given h = ap (λ t. t.places) h.2.table
-  accepted-rows old new (step.Unpin column group) given h = ap (λ t. t.places) h.2.table
-  accepted-rows old new (step.Compact kind segment) given h = ap (λ t. t.places) h.1.table
+  accepted-rows old new (step.Lend column from to) given h = ap (λ t. t.places) h.used.table
+  accepted-rows old new (step.Pin column group) given h = ap (λ t. t.places) h.2.changed.table
+  accepted-rows old new (step.Unpin column group) given h = ap (λ t. t.places) h.2.changed.table
+  accepted-rows old new (step.Compact kind segment) given h = ap (λ t. t.places) h.1.changed.table
+  accepted-rows old new (step.Prefetch column) given h = ap (λ (t : State K). t.table.places) h.2
   accepted-rows old new (step.BeginEvac column group) given h = absurd h
   accepted-rows old new (step.BeginFetch column group) given h = absurd h
   accepted-rows old new (step.Carry n) given h = absurd h
@@ -108,10 +114,13 @@ module _ {K : Type 0} (content : K → List ℕ) (number_of : K → ℕ) where
   changed-rows old new s reply.Done h = accepted-rows old new s reply.Done h
   changed-rows old new s (reply.Aggregate a) h = accepted-rows old new s (reply.Aggregate a) h
   changed-rows old new s (reply.Answer x) h = accepted-rows old new s (reply.Answer x) h
+  changed-rows old new s (reply.Ints pieces) h = accepted-rows old new s (reply.Ints pieces) h
+  changed-rows old new s (reply.Texts pieces) h = accepted-rows old new s (reply.Texts pieces) h
   changed-rows old new s (reply.Job n) h = accepted-rows old new s (reply.Job n) h
+  changed-rows old new s (reply.Next found) h = accepted-rows old new s (reply.Next found) h
 
   commits-table : (old : State K) (w : WorkOf K) (new : State K) → Commits number_of old w new → new.table ≡ old.table
-  commits-table old (work.Carried carried) new h = h.table
+  commits-table old (work.Carried carried) new h = h.changed.table
   commits-table old (work.Evac evac) new h = absurd h
   commits-table old (work.Fetch fetch) new h = absurd h
   commits-table old (work.Fetched fetched) new h = absurd h
@@ -119,10 +128,10 @@ module _ {K : Type 0} (content : K → List ℕ) (number_of : K → ℕ) where
   pub pinned-stays : (old : World K) (n : ℕ) (job : JobRecord K) (carried : ByKind (CarriedEvacuation K) (CarriedEvacuation K)) → job_at old.jobs n ≡ Some job → job.work ≡ work.Carried carried → pins_by old.state.rows carried ≢ 0 → (new : World K) → ¬ (IsStep content number_of old (step.Commit n) reply.Done new)
   pinned-stays old n job carried is phase pins new k =
       let found : IsSomeAnd (Some job) (λ j. Commits number_of old.state j.work new.state) = subst (λ (o : Option (JobRecord K)). IsSomeAnd o (λ j. Commits number_of old.state j.work new.state)) is k.ended in
-      pins (subst (λ (w : WorkOf K). Commits number_of old.state w new.state) phase found).rows.free
+      pins (subst (λ (w : WorkOf K). Commits number_of old.state w new.state) phase found).changed.rows.free
 
   installs-table : (old : State K) (w : WorkOf K) (new : State K) → Installs number_of old content w new → new.table ≡ old.table
-  installs-table old (work.Fetched fetched) new h = h.table
+  installs-table old (work.Fetched fetched) new h = h.changed.table
   installs-table old (work.Evac evac) new h = absurd h
   installs-table old (work.Carried carried) new h = absurd h
   installs-table old (work.Fetch fetch) new h = absurd h
@@ -147,9 +156,11 @@ module _ {K : Type 0} (content : K → List ℕ) (number_of : K → ℕ) where
 
   -- a step that moves objects or is about a job leaves the table as it is
   pub moved-table : (old : World K) (s : Step) (given : Reply) (new : World K) → is_movement s ≡ true → IsStep content number_of old s given new → new.state.table ≡ old.state.table
-  moved-table old (step.Pin column group) given new is k = replied (λ served. Accepts content old.state (step.Pin column group) served new.state) (λ why. Refuses old.state (step.Pin column group) why new.state) given (λ served h. h.2.table) (λ why h. ap (λ (t : State K). t.table) h.0) k.0
-  moved-table old (step.Unpin column group) given new is k = replied (λ served. Accepts content old.state (step.Unpin column group) served new.state) (λ why. Refuses old.state (step.Unpin column group) why new.state) given (λ served h. h.2.table) (λ why h. ap (λ (t : State K). t.table) h.0) k.0
-  moved-table old (step.Compact kind segment) given new is k = replied (λ served. Accepts content old.state (step.Compact kind segment) served new.state) (λ why. Refuses old.state (step.Compact kind segment) why new.state) given (λ served h. h.1.table) (λ why h. ap (λ (t : State K). t.table) h.0) k.0
+  moved-table old (step.Lend column from to) given new is k = replied (λ served. Accepts content old.state (step.Lend column from to) served new.state) (λ why. Refuses old.state (step.Lend column from to) why new.state) given (λ served h. h.used.table) (λ why h. ap (λ (t : State K). t.table) h.0) k.0
+  moved-table old (step.Prefetch column) given new is k = replied (λ served. Accepts content old.state (step.Prefetch column) served new.state) (λ why. Refuses old.state (step.Prefetch column) why new.state) given (λ served h. ap (λ (t : State K). t.table) h.2) (λ why h. ap (λ (t : State K). t.table) h.0) k.0
+  moved-table old (step.Pin column group) given new is k = replied (λ served. Accepts content old.state (step.Pin column group) served new.state) (λ why. Refuses old.state (step.Pin column group) why new.state) given (λ served h. h.2.changed.table) (λ why h. ap (λ (t : State K). t.table) h.0) k.0
+  moved-table old (step.Unpin column group) given new is k = replied (λ served. Accepts content old.state (step.Unpin column group) served new.state) (λ why. Refuses old.state (step.Unpin column group) why new.state) given (λ served h. h.2.changed.table) (λ why h. ap (λ (t : State K). t.table) h.0) k.0
+  moved-table old (step.Compact kind segment) given new is k = replied (λ served. Accepts content old.state (step.Compact kind segment) served new.state) (λ why. Refuses old.state (step.Compact kind segment) why new.state) given (λ served h. h.1.changed.table) (λ why h. ap (λ (t : State K). t.table) h.0) k.0
   moved-table old (step.BeginEvac column group) given new is k = begun-table old new given (IsEvacJob old.state.rows column group) (evac_refusal old.state.rows column group) k
   moved-table old (step.BeginFetch column group) given new is k = begun-table old new given (IsFetchJob old.state.rows column group) (fetch_refusal old.state.rows column group) k
   moved-table old (step.Carry n) given new is k = carry-table old new given n k
@@ -170,6 +181,8 @@ module _ {K : Type 0} (content : K → List ℕ) (number_of : K → ℕ) where
   step-rows old (step.Unwatch a) given new h = changed-rows old.state new.state (step.Unwatch a) given h.0
   step-rows old (step.ScanGroup a g) given new h = changed-rows old.state new.state (step.ScanGroup a g) given h.0
   step-rows old (step.Ask a) given new h = changed-rows old.state new.state (step.Ask a) given h.0
+  step-rows old (step.Lend column from to) given new h = moved-rows old (step.Lend column from to) given new refl h
+  step-rows old (step.Prefetch column) given new h = moved-rows old (step.Prefetch column) given new refl h
   step-rows old (step.Pin column group) given new h = moved-rows old (step.Pin column group) given new refl h
   step-rows old (step.Unpin column group) given new h = moved-rows old (step.Unpin column group) given new refl h
   step-rows old (step.Compact kind segment) given new h = moved-rows old (step.Compact kind segment) given new refl h
@@ -192,6 +205,8 @@ module _ {K : Type 0} (content : K → List ℕ) (number_of : K → ℕ) where
   refused-state old (step.Unwatch a) why new h = h.0.0
   refused-state old (step.ScanGroup a g) why new h = h.0.0
   refused-state old (step.Ask a) why new h = h.0.0
+  refused-state old (step.Lend column from to) why new h = h.0.0
+  refused-state old (step.Prefetch column) why new h = h.0.0
   refused-state old (step.Pin column group) why new h = h.0.0
   refused-state old (step.Unpin column group) why new h = h.0.0
   refused-state old (step.Compact kind segment) why new h = h.0.0
@@ -211,6 +226,8 @@ module _ {K : Type 0} (content : K → List ℕ) (number_of : K → ℕ) where
   step-faults old (step.Unwatch a) given new h = table-faults old new h.1
   step-faults old (step.ScanGroup a g) given new h = table-faults old new h.1
   step-faults old (step.Ask a) given new h = table-faults old new h.1
+  step-faults old (step.Lend column from to) given new h = table-faults old new h.1
+  step-faults old (step.Prefetch column) given new h = table-faults old new h.1
   step-faults old (step.Pin column group) given new h = table-faults old new h.1
   step-faults old (step.Unpin column group) given new h = table-faults old new h.1
   step-faults old (step.Compact kind segment) given new h = table-faults old new h.1

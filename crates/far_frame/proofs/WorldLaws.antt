@@ -8,7 +8,7 @@ use Rattle.far_aggregates.specs.Aggregates.{joined}
 use Rattle.far_types.specs.declared.refusal.Refusal.{Refusal}
 use Rattle.far_types.specs.MayRefuse.{MayRefuse}
 use Rattle.far_rows.specs.Jobs.{AreAt}
-use Rattle.far_table.specs.State.{State}
+use Rattle.far_frame.specs.State.{State}
 use Rattle.far_frame.specs.Changes.{Replies, done_or}
 use Rattle.far_frame.specs.Jobs.{JobRecord, WorkOf, IsJobAt}
 use Rattle.far_frame.specs.Waiting.{Waiting, is_number, job_at, one_more, with_job, without_job, AreJobsAt, RefusalAt, spends}

@@ -12,7 +12,8 @@ use Rattle.far_types.specs.Table.{Table}
 use Rattle.far_aggregates.specs.Aggregates.{Answers, ask_refusal}
 use Rattle.far_rows.specs.Rows.{Rows}
 use Rattle.far_rows.specs.Moving.{pin_refusal, unpin_refusal}
-use Rattle.far_table.specs.State.{State}
+use Rattle.far_frame.specs.State.{State, live, Alters}
+use Rattle.far_frame.specs.Lending.{IsLent, lend_refusal, next_groups, prefetch_refusal}
 use Rattle.far_table.specs.Edits.{edit_due}
 use Rattle.far_table.specs.Live.{IsEdited}
 use Rattle.far_table.specs.Moving.{IsMoved, IsPinned, IsUnpinned, IsCompactedOf, segments_of, HasNoOther}
@@ -29,12 +30,20 @@ Replies serves refuses (reply.Place place) = serves (reply.Place place)
 Replies serves refuses reply.Done = serves reply.Done
 Replies serves refuses (reply.Aggregate a) = serves (reply.Aggregate a)
 Replies serves refuses (reply.Answer answer) = serves (reply.Answer answer)
+Replies serves refuses (reply.Ints pieces) = serves (reply.Ints pieces)
+Replies serves refuses (reply.Texts pieces) = serves (reply.Texts pieces)
 Replies serves refuses (reply.Job n) = serves (reply.Job n)
+Replies serves refuses (reply.Next found) = serves (reply.Next found)
 
 -- the reply of a call that says nothing where it is done
 abbrev pub done_or : Result Unit Refusal → Reply
 done_or (Ok done) = reply.Done
 done_or (Err given) = reply.Refused given
+
+-- a reply gives these row groups to fetch next
+abbrev pub Proposes : List ℕ → Reply → Type 0
+Proposes groups (reply.Next found) = found.items ≡ groups
+Proposes groups _ = ⊥
 
 -- what an edit that is made is answered: the place of a row that was appended
 abbrev pub edit_reply : Table → Edit → Reply
@@ -51,14 +60,16 @@ module _ {K : Type 0} where
 
   -- why a step on the table is refused; the steps of jobs are none
   abbrev pub WhyRefused : State K → Step → Refusal → Type 0
-  WhyRefused s (step.Edit e) given = MayRefuse (edit_due s e) true given
+  WhyRefused s (step.Edit e) given = MayRefuse (edit_due (live s) e) true given
   WhyRefused s (step.Watch spec) given = MayRefuse (watch_refusal s.table spec) true given
   WhyRefused s (step.Unwatch a) given = MayRefuse (unwatch_refusal (aggregate_at s.table a)) false given
-  WhyRefused s (step.ScanGroup a g) given = MayRefuse (scan_refusal s (aggregate_at s.table a) g) true given
+  WhyRefused s (step.ScanGroup a g) given = MayRefuse (scan_refusal (live s) (aggregate_at s.table a) g) true given
   WhyRefused s (step.Ask a) given = MayRefuse (ask_refusal (aggregate_at s.table a)) true given
+  WhyRefused s (step.Lend column from to) given = MayRefuse (lend_refusal s.rows column from to) true given
   WhyRefused s (step.Pin column group) given = MayRefuse (pin_refusal s.rows column group) false given
   WhyRefused s (step.Unpin column group) given = MayRefuse (unpin_refusal s.rows column group) false given
   WhyRefused s (step.Compact kind segment) given = CompactRefusal kind segment s.rows given
+  WhyRefused s (step.Prefetch column) given = MayRefuse (prefetch_refusal s.table column) true given
   WhyRefused s (step.BeginEvac column group) given = ⊥
   WhyRefused s (step.BeginFetch column group) given = ⊥
   WhyRefused s (step.Carry n) given = ⊥
@@ -73,14 +84,16 @@ module _ {K : Type 0} where
     -- a step is accepted: nothing refuses it, and its reply and its effect are those of the plain table. An answer is computed
     -- anew from the rows as they are now
     abbrev pub Accepts : State K → Step → Reply → State K → Type 0
-    Accepts old (step.Edit e) given new = (given ≡ edit_reply old.table e) × IsEdited content old e new
-    Accepts old (step.Watch spec) given new = (a : ℕ) × (given ≡ reply.Aggregate a) × IsWatched old new spec a
-    Accepts old (step.Unwatch a) given new = (given ≡ reply.Done) × IsUnwatched old new a
-    Accepts old (step.ScanGroup a g) given new = (given ≡ reply.Done) × IsScanned old new a g
+    Accepts old (step.Edit e) given new = (given ≡ edit_reply old.table e) × Alters (λ before after. IsEdited content before e after) old new
+    Accepts old (step.Watch spec) given new = (a : ℕ) × (given ≡ reply.Aggregate a) × Alters (λ before after. IsWatched before after spec a) old new
+    Accepts old (step.Unwatch a) given new = (given ≡ reply.Done) × Alters (λ before after. IsUnwatched before after a) old new
+    Accepts old (step.ScanGroup a g) given new = (given ≡ reply.Done) × Alters (λ before after. IsScanned before after a g) old new
     Accepts old (step.Ask a) given new = (answer : Answer) × (given ≡ reply.Answer answer) × Answers old.table.places (aggregate_at old.table a) answer × (new ≡ old)
-    Accepts old (step.Pin column group) given new = (given ≡ reply.Done) × (pin_refusal old.rows column group ≡ None) × IsMoved (IsPinned column group) old new
-    Accepts old (step.Unpin column group) given new = (given ≡ reply.Done) × (unpin_refusal old.rows column group ≡ None) × IsMoved (IsUnpinned column group) old new
-    Accepts old (step.Compact kind segment) given new = (given ≡ reply.Done) × IsMoved (IsCompactedOf kind segment) old new
+    Accepts old (step.Lend column from to) given new = IsLent column from to old given new
+    Accepts old (step.Pin column group) given new = (given ≡ reply.Done) × (pin_refusal old.rows column group ≡ None) × Alters (IsMoved (IsPinned column group)) old new
+    Accepts old (step.Unpin column group) given new = (given ≡ reply.Done) × (unpin_refusal old.rows column group ≡ None) × Alters (IsMoved (IsUnpinned column group)) old new
+    Accepts old (step.Compact kind segment) given new = (given ≡ reply.Done) × Alters (IsMoved (IsCompactedOf kind segment)) old new
+    Accepts old (step.Prefetch column) given new = (prefetch_refusal old.table column ≡ None) × Proposes (next_groups old.table old.seen column) given × (new ≡ old)
     Accepts old (step.BeginEvac column group) given new = ⊥
     Accepts old (step.BeginFetch column group) given new = ⊥
     Accepts old (step.Carry n) given new = ⊥

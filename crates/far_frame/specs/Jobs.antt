@@ -10,7 +10,7 @@ use Rattle.far_rows.specs.declared.job.ByKind.{ByKind}
 use Rattle.far_rows.specs.Rows.{Rows}
 use Rattle.far_rows.specs.Coldest.{coldest}
 use Rattle.far_rows.specs.Jobs.{of_either, IsCarriedEvac, IsCarriedFetch, IsEvacBegun, IsFetchBegun, IsEvacAccepted, IsFetchAccepted, evac_refusal, fetch_refusal, pins_by, HasNoRoom}
-use Rattle.far_table.specs.State.{State}
+use Rattle.far_frame.specs.State.{State, Alters}
 use Rattle.far_table.specs.Moving.{IsMoved, IsCommitted, IsInstalled}
 use Rattle.far_frame.specs.declared.job.JobKind.{JobKind}
 use Rattle.far_frame.specs.declared.job.JobKind.TheVariants as kind
@@ -114,7 +114,7 @@ module _ {K : Type 0} where
   module _ (number_of : K → ℕ) (old : State K) where
     -- a job is an evacuation that was carried and is accepted, and its object is away
     abbrev pub Commits : WorkOf K → State K → Type 0
-    Commits (work.Carried carried) new = IsMoved (IsCommitted number_of carried) old new
+    Commits (work.Carried carried) new = Alters (IsMoved (IsCommitted number_of carried)) old new
     Commits (work.Evac evac) new = ⊥
     Commits (work.Fetch fetch) new = ⊥
     Commits (work.Fetched fetched) new = ⊥
@@ -130,7 +130,7 @@ module _ {K : Type 0} where
     module _ (content : K → List ℕ) where
       -- a job is a fetch that was carried and is accepted, and its object is back
       abbrev pub Installs : WorkOf K → State K → Type 0
-      Installs (work.Fetched fetched) new = IsMoved (IsInstalled content number_of fetched) old new
+      Installs (work.Fetched fetched) new = Alters (IsMoved (IsInstalled content number_of fetched)) old new
       Installs (work.Evac evac) new = ⊥
       Installs (work.Carried carried) new = ⊥
       Installs (work.Fetch fetch) new = ⊥
@@ -140,7 +140,7 @@ module _ {K : Type 0} where
       abbrev pub InstallRefusal : WorkOf K → Refusal → Type 0
       InstallRefusal (work.Fetched fetched) given = ((given ≡ refusal.StaleJob) × ¬ (IsFetchAccepted number_of old.rows fetched))
           ⊎ (((given ≡ refusal.RegionFull) × IsFetchAccepted number_of old.rows fetched × HasNoRoom content old.rows fetched)
-          ⊎ (given ≡ refusal.NoMemory))
+          ⊎ ((given ≡ refusal.NoMemory) × ¬ (¬ (IsFetchAccepted number_of old.rows fetched)) × ¬ (HasNoRoom content old.rows fetched)))
       InstallRefusal (work.Evac evac) given = given ≡ refusal.StaleJob
       InstallRefusal (work.Carried carried) given = given ≡ refusal.StaleJob
       InstallRefusal (work.Fetch fetch) given = given ≡ refusal.StaleJob

@@ -1,3 +1,5 @@
+pub mod State
+pub mod Lending
 pub mod Steps
 pub mod Changes
 pub mod Worlds

@@ -12,7 +12,10 @@ is_refused (reply.Place place) = false
 is_refused reply.Done = false
 is_refused (reply.Aggregate a) = false
 is_refused (reply.Answer answer) = false
+is_refused (reply.Ints pieces) = false
+is_refused (reply.Texts pieces) = false
 is_refused (reply.Job n) = false
+is_refused (reply.Next found) = false
 is_refused (reply.Refused refusal) = true
 
 -- only edits change the rows
@@ -22,9 +25,11 @@ rows_after (step.Watch spec) places = places
 rows_after (step.Unwatch a) places = places
 rows_after (step.ScanGroup a g) places = places
 rows_after (step.Ask a) places = places
+rows_after (step.Lend column from to) places = places
 rows_after (step.Pin column group) places = places
 rows_after (step.Unpin column group) places = places
 rows_after (step.Compact kind segment) places = places
+rows_after (step.Prefetch column) places = places
 rows_after (step.BeginEvac column group) places = places
 rows_after (step.BeginFetch column group) places = places
 rows_after (step.Carry n) places = places
@@ -37,13 +42,14 @@ plain_rows [] replies places = places
 plain_rows (s ∷ steps) [] places = places
 plain_rows (s ∷ steps) (given ∷ replies) places = plain_rows steps replies (cond (is_refused given) places (rows_after s places))
 
--- the step pins objects, moves them, or is about a job that does
+-- the step lends a part of a column, pins objects, moves them, tells which to move next, or is about a job that does
 abbrev pub is_movement : Step → Bool
 is_movement (step.Edit e) = false
 is_movement (step.Watch spec) = false
 is_movement (step.Unwatch a) = false
 is_movement (step.ScanGroup a g) = false
 is_movement (step.Ask a) = false
+is_movement (step.Lend column from to) = true
 is_movement (step.Pin column group) = true
 is_movement (step.Unpin column group) = true
 is_movement (step.BeginEvac column group) = true
@@ -52,3 +58,4 @@ is_movement (step.Carry n) = true
 is_movement (step.Commit n) = true
 is_movement (step.Install n) = true
 is_movement (step.Compact kind segment) = true
+is_movement (step.Prefetch column) = true

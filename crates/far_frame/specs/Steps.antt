@@ -20,9 +20,11 @@ module _ {K : Type 0} (content : K → List ℕ) (number_of : K → ℕ) (old : 
   IsStep (step.Unwatch a) given new = OnTable (step.Unwatch a) given new
   IsStep (step.ScanGroup a g) given new = OnTable (step.ScanGroup a g) given new
   IsStep (step.Ask a) given new = OnTable (step.Ask a) given new
+  IsStep (step.Lend column from to) given new = OnTable (step.Lend column from to) given new
   IsStep (step.Pin column group) given new = OnTable (step.Pin column group) given new
   IsStep (step.Unpin column group) given new = OnTable (step.Unpin column group) given new
   IsStep (step.Compact kind segment) given new = OnTable (step.Compact kind segment) given new
+  IsStep (step.Prefetch column) given new = OnTable (step.Prefetch column) given new
   IsStep (step.BeginEvac column group) given new = Replies (λ served. IsBegun (IsEvacJob old.state.rows column group) old served new) (λ why. IsNotBegun (evac_refusal old.state.rows column group) old why new) given
   IsStep (step.BeginFetch column group) given new = Replies (λ served. IsBegun (IsFetchJob old.state.rows column group) old served new) (λ why. IsNotBegun (fetch_refusal old.state.rows column group) old why new) given
   IsStep (step.Carry n) given new = Replies (λ served. IsCarry content n old served new) (λ why. IsNoCarry n old why new) given

@@ -8,7 +8,7 @@ use Rattle.far_types.specs.FirstOf.{first_of}
 use Rattle.far_types.specs.MayRefuse.{MayRefuse}
 use Rattle.far_store.specs.Faults.{faults_of}
 use Rattle.far_rows.specs.Jobs.{AreAt}
-use Rattle.far_table.specs.State.{State}
+use Rattle.far_frame.specs.State.{State}
 use Rattle.far_frame.specs.declared.step.Reply.{Reply}
 use Rattle.far_frame.specs.declared.step.Reply.TheVariants as reply
 use Rattle.far_frame.specs.Jobs.{JobRecord, WorkOf, CarryRefusal}

@@ -6,15 +6,17 @@ ghost use Rattle.far_types.specs.Bounds.{AreLimits};
 ghost use Rattle.far_aggregates.specs.Aggregates.{is_left};
 ghost use Rattle.far_aggregates.specs.Readings.{plain_in};
 ghost use Rattle.far_rows.specs.Jobs.{AreAt};
-ghost use Rattle.far_table.specs.State.{empty_state};
 ghost use Rattle.far_table.specs.Watching.{aggregate_at};
 ghost use Rattle.far_frame.specs.Changes.{Accepts, Refuses};
+ghost use Rattle.far_frame.specs.State.{empty_state, live};
 ghost use Rattle.far_frame.specs.declared.step.Step.TheVariants as step;
 ghost use Rattle.far_frame.specs.declared.step.Reply.TheVariants as reply;
 
+mod lending;
 mod moving;
 
 use super::view::View;
+use far_prefetcher::Prefetcher;
 use far_store::FarTickets;
 use far_table::LiveTable;
 use far_types::{Answer, Cell, Limits, Refusal, Row, Schema, Spec};
@@ -22,20 +24,22 @@ use std::alloc::Global;
 use std::marker::Model;
 
 /// A table whose rows lie in objects that are local or away, and whose aggregates are kept up to date under every edit.
-/// Contracts see its state: the plain table, and the rows over objects that hold its places.
+/// Contracts see its state: the plain table, the rows over objects that hold its places, and what was read of each column lately.
 ///
 /// All calls of one table that take a store are given the store to which its objects went.
 #[derive(Drop)]
 pub struct Frame<S: FarTickets> {
+    alloc: Global,
     table: LiveTable<S>,
+    prefetcher: Prefetcher,
 }
 
 impl<S: FarTickets> Model for Frame<S> {
-    ghost use Rattle.far_table.specs.State.{State};
+    ghost use Rattle.far_frame.specs.State.{State};
 
     ghost Value = { State S.Ticket };
 
-    ghost view = { λ f. f.table };
+    ghost view = { λ f. record { table = f.table.table; rows = f.table.rows; seen = f.prefetcher } };
 }
 
 impl<S: FarTickets> Frame<S> {
@@ -54,8 +58,14 @@ impl<S: FarTickets> Frame<S> {
         ensures here { IfOk result (λ frame. (name : List ℕ) → AreAt S.is_of name frame.rows) }
         ensures bad { IfErr result (λ e. ((e ≡ Refusal.BadSchema) × ¬ (AreLimits limits)) ⊎ ((e ≡ Refusal.NoMemory) × AreLimits limits)) }
     {
+        let columns = schema.len();
         let table = LiveTable::open(alloc, schema, limits, number)?;
-        Ok(Frame { table })
+        let prefetcher = Prefetcher::new(alloc, columns as u32)?;
+        Ok(Frame {
+            alloc,
+            table,
+            prefetcher,
+        })
     }
 
     /// Appends a row and gives its place. Refused with `WrongKind` (5) where a cell is of another kind than its column,
@@ -129,7 +139,7 @@ impl<S: FarTickets> Frame<S> {
 
     /// The rows, lent in place. Takes no memory.
     pub fn scope(&self) -> View<'_, S>
-        ensures { result ≡ self.now }
+        ensures { result ≡ live self.now }
     {
         View::new(&self.table)
     }
@@ -143,7 +153,8 @@ impl<S: FarTickets> Frame<S> {
 
     /// The limits of the table. Takes no memory.
     pub fn limits(&self) -> &Limits
-        ensures { result.now ≡ self.now.table.limits }
+        ensures same { result.now ≡ self.now.table.limits }
+        ensures bounds { AreLimits self.now.table.limits }
     {
         self.table.rows().limits()
     }

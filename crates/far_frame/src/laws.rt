@@ -1,11 +1,13 @@
 // The promises of a run in the subject's own words, as they follow from the relation of steps.
-ghost use Rattle.std.specs.Prelude.{◌≡◌, ◌≢◌, ℕ, List, ◌∷◌, [], ◌++◌, Some, true};
+ghost use Rattle.std.specs.Prelude.{◌≡◌, ◌≢◌, ℕ, List, ◌∷◌, [], ◌++◌, Some, true, false, slice_range};
+ghost use Rattle.std.specs.List.{flat_map};
 ghost use Rattle.far_types.specs.declared.answer.Answer.{Answer};
 ghost use Rattle.far_types.specs.declared.edit.Edit.{Edit};
 ghost use Rattle.far_types.specs.declared.refusal.Refusal.{Refusal};
 ghost use Rattle.far_types.specs.Edits.{edited};
 ghost use Rattle.far_types.specs.MayRefuse.{MayRefuse};
-ghost use Rattle.far_types.specs.Table.{Registered, left, answer_now};
+ghost use Rattle.far_types.specs.Bounds.{AreLimits};
+ghost use Rattle.far_types.specs.Table.{Registered, left, answer_now, part};
 ghost use Rattle.far_evacuator.specs.Jobs.{CarriedEvacuation};
 ghost use Rattle.far_rows.specs.declared.job.ByKind.{ByKind};
 ghost use Rattle.far_rows.specs.Jobs.{pins_by};
@@ -17,7 +19,8 @@ ghost use Rattle.far_frame.specs.declared.step.Reply.TheVariants as reply;
 ghost use Rattle.far_frame.specs.declared.step.Step.{Step};
 ghost use Rattle.far_frame.specs.declared.step.Step.TheVariants as step;
 ghost use Rattle.far_frame.specs.Jobs.{JobRecord};
-ghost use Rattle.far_frame.specs.Runs.{is_movement, plain_rows};
+ghost use Rattle.far_frame.specs.Lending.{flags_of, pieces_in};
+ghost use Rattle.far_frame.specs.Runs.{is_movement, is_refused, plain_rows};
 ghost use Rattle.far_frame.specs.Waiting.{job_at, without_job};
 ghost use Rattle.far_frame.specs.Steps.{IsStep, IsRun};
 ghost use Rattle.far_frame.specs.Worlds.{World};
@@ -46,12 +49,18 @@ pub fn an_edit_is_that_of_the_plain_list<S: FarTickets>()
     ensures refused { (old : World S.Ticket) → (e : Edit) → (given : Refusal) → (new : World S.Ticket) → IsStep S.content S.number_of old (step.Edit e) (reply.Refused given) new → MayRefuse (edit_due old.state e) true given }
 {}
 
-/// A step that is refused changes no row, column, aggregate or object. A step on the table changes nothing at all.
+/// A part of a column that is lent is, joined, that part of its column, with the flags of its places; dead places are in it too.
+pub fn a_lent_part_is_that_of_its_column<S: FarTickets>()
+    ensures cells { (old : World S.Ticket) → AreLimits old.state.table.limits → (column from to : ℕ) → (given : Reply) → (new : World S.Ticket) → is_refused given ≡ false → IsStep S.content S.number_of old (step.Lend column from to) given new → flat_map (λ piece. piece.cells) (pieces_in given) ≡ part column from to old.state.table.places }
+    ensures flags { (old : World S.Ticket) → AreLimits old.state.table.limits → (column from to : ℕ) → (given : Reply) → (new : World S.Ticket) → is_refused given ≡ false → IsStep S.content S.number_of old (step.Lend column from to) given new → flat_map (λ piece. piece.flags) (pieces_in given) ≡ slice_range (flags_of old.state.table.places) from to }
+{}
+
+/// A step that is refused changes no row, column, aggregate or object, and nothing that is remembered of lendings.
 pub fn a_refused_step_changes_nothing<S: FarTickets>()
     ensures { (old : World S.Ticket) → (s : Step) → (given : Refusal) → (new : World S.Ticket) → IsStep S.content S.number_of old s (reply.Refused given) new → new.state ≡ old.state }
 {}
 
-/// Pins, jobs in any phase and compactions change no row, no aggregate and no answer.
+/// Lendings, pins, jobs in any phase and compactions change no row, no aggregate and no answer.
 pub fn movement_changes_no_row<S: FarTickets>()
     ensures { (old : World S.Ticket) → (s : Step) → (given : Reply) → (new : World S.Ticket) → is_movement s ≡ true → IsStep S.content S.number_of old s given new → new.state.table ≡ old.state.table }
 {}

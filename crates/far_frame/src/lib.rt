@@ -5,6 +5,7 @@
 pub mod frame;
 pub mod job;
 pub mod laws;
+pub mod piece;
 pub mod step;
 pub mod view;
 mod waiting;
@@ -12,6 +13,7 @@ pub mod world;
 
 pub use frame::Frame;
 pub use job::{Job, JobKind};
+pub use piece::{IntPiece, TextPiece};
 pub use step::{Reply, Step};
 pub use view::View;
 pub use world::{World, run};

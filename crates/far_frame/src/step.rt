@@ -2,6 +2,7 @@
 ghost use Rattle.std.specs.Prelude.{◌≡◌};
 ghost use Rattle.far_frame.specs.Changes.{done_or};
 
+use super::piece::{IntPiece, TextPiece};
 use far_types::{Answer, Edit, Kind, Refusal, Spec};
 
 /// One request to a table.
@@ -17,6 +18,15 @@ pub enum Step {
     ScanGroup(u32, u32),
     /// Asks the aggregate of a number.
     Ask(u32),
+    /// Lends the places `from` up to `to` of a column, as copies.
+    Lend {
+        /// The column.
+        column: u32,
+        /// The first place.
+        from: u32,
+        /// The place behind the last.
+        to: u32,
+    },
     /// Keeps the object of a row group of a column from going away, once more.
     Pin {
         /// The column.
@@ -53,6 +63,8 @@ pub enum Step {
     Install(u64),
     /// Compacts a segment, the second, of the objects of a kind.
     Compact(Kind, u32),
+    /// Asks which row groups of a column to fetch next.
+    Prefetch(u32),
 }
 
 /// The reply to a step: there is one for each.
@@ -66,8 +78,14 @@ pub enum Reply {
     Aggregate(u32),
     /// What the aggregate answers.
     Answer(Answer),
+    /// A part of a column of numbers, a piece for each row group that has some of it.
+    Ints(Vec<IntPiece>),
+    /// A part of a column of texts, a piece for each row group that has some of it.
+    Texts(Vec<TextPiece>),
     /// The number of a job that was begun.
     Job(u64),
+    /// The row groups to fetch next.
+    Next(Vec<u32>),
     /// Why nothing was changed.
     Refused(Refusal),
 }

@@ -1,14 +1,19 @@
 // The rows of a table, lent in place.
-ghost use Rattle.std.specs.Prelude.{◌≡◌, ◌<◌, ◌≤◌, ◌/◌, ℕ, None, Some, length, option_map, slice_get, IfOk, OnOk};
+ghost use Rattle.std.specs.Prelude.{◌≡◌, ◌<◌, ◌≤◌, ◌/◌, ℕ, None, Some, length, map, option_map, option_copied, slice_get, slice_range, IfOk, OnOk};
 ghost use Rattle.far_types.specs.FirstOf.{first_of};
 ghost use Rattle.far_scopes.specs.Refusing.{refusal_in};
-ghost use Rattle.far_rows.specs.Refusing.{absents};
+ghost use Rattle.far_types.specs.Lent.{text_cell};
+ghost use Rattle.far_types.specs.Table.{column as column_of, part};
+ghost use Rattle.far_rows.specs.Refusing.{absents, ints_refusal, text_refusal, texts_refusal};
+ghost use Rattle.far_rows.specs.Slots.{kind_of};
+ghost use Rattle.far_frame.specs.Lending.{flags_of, ints_lent, lent_part};
 ghost use Rattle.far_frame.specs.Views.{away};
 
+use far_columns::{Lents, TextCells};
 use far_rows::RowRef;
 use far_store::FarTickets;
 use far_table::LiveTable;
-use far_types::{LentRow, Refusal};
+use far_types::{Kind, LentRow, Refusal};
 use std::marker::Model;
 
 /// The rows of a table, lent where they lie: no object comes, goes or changes while a view is there. Contracts see the table's
@@ -89,5 +94,65 @@ impl<'a, S: FarTickets> View<'a, S> {
             return Err(Refusal::NoRow);
         }
         rows.row_ref(place as usize)
+    }
+
+    /// The kind of a column; `None` where there is no such column. Takes no memory.
+    pub(crate) fn kind(&self, column: u32) -> Option<Kind>
+        ensures schema { result ≡ slice_get self.now.table.schema column }
+        ensures slot { result ≡ option_map kind_of (slice_get self.now.rows.slots column) }
+    {
+        let rows = self.table.rows();
+        // It tells that the kinds are those of the columns.
+        let _held = rows.held();
+        rows.schema().get(column as usize)
+    }
+
+    /// The numbers of the places `from` up to `to` of a column, lent in place with the flags of their places: a piece for each row
+    /// group that has some of them. Takes no memory.
+    ///
+    /// Refused with `NoColumn` (4), `WrongKind` (5) where the column is of texts, `OutOfRange` (14) where `from` is above `to` or
+    /// `to` is past the places, `Absent` (16) where the object of a row group that has some of them is away, naming the first: the
+    /// first that applies.
+    pub fn ints(&self, column: u32, from: u32, to: u32) -> Result<Lents<'_, S>, Refusal>
+        ensures lent { IfOk result (λ lents. map ints_lent lents ≡ lent_part self.now.table column from to) }
+        ensures refused { refusal_in result ≡ ints_refusal self.now.rows column from to }
+    {
+        let rows = self.table.rows();
+        // They tell what the rows are, and how many.
+        let _len = rows.len();
+        let _limits = rows.limits();
+        rows.held()
+            .ints(column as usize, from as usize, to as usize)
+    }
+
+    /// The texts of the places `from` up to `to` of a column, lent in place, each with the flag of its place. Takes no memory.
+    ///
+    /// Refused with `NoColumn` (4), `WrongKind` (5) where the column is of numbers, `OutOfRange` (14) where `from` is above `to` or
+    /// `to` is past the places, `Absent` (16) where the object of a row group that has some of them is away, naming the first: the
+    /// first that applies.
+    pub fn texts(&self, column: u32, from: u32, to: u32) -> Result<TextCells<'_, S>, Refusal>
+        ensures cells { IfOk result (λ lent. map (λ cell. text_cell cell.0) lent ≡ part column from to self.now.table.places) }
+        ensures flags { IfOk result (λ lent. map (λ cell. cell.1) lent ≡ slice_range (flags_of self.now.table.places) from to) }
+        ensures refused { refusal_in result ≡ texts_refusal self.now.rows column from to }
+    {
+        let rows = self.table.rows();
+        // It tells what the rows are.
+        let _len = rows.len();
+        rows.held()
+            .texts(column as usize, from as usize, to as usize)
+    }
+
+    /// The text of a place, lent in place; `None` where it is missing. A dead place has its text still. Takes no memory.
+    ///
+    /// Refused with `NoColumn` (4), `WrongKind` (5) where the column is of numbers, `NoRow` (8) past the places, `Absent` (16) where
+    /// the object of the place's row group is away: the first that applies.
+    pub fn text(&self, column: u32, place: u32) -> Result<Option<&str>, Refusal>
+        ensures text { IfOk result (λ text. slice_get (column_of column self.now.table.places) place ≡ Some (text_cell (option_copied text))) }
+        ensures refused { refusal_in result ≡ text_refusal self.now.rows column place }
+    {
+        let rows = self.table.rows();
+        // It tells what the rows are.
+        let _len = rows.len();
+        rows.held().text(column as usize, place as usize)
     }
 }

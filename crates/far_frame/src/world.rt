@@ -4,6 +4,7 @@ ghost use Rattle.far_rows.specs.Jobs.{AreAt};
 ghost use Rattle.far_frame.specs.Steps.{IsStep, IsRun};
 
 mod jobs;
+mod lending;
 mod serving;
 
 use super::frame::Frame;
@@ -97,6 +98,9 @@ impl<S: FarStore> World<S> {
             Step::Unwatch(a) => serving::unwatch(&mut self.frame, a),
             Step::ScanGroup(a, group) => serving::scan_group(&mut self.frame, a, group),
             Step::Ask(a) => serving::ask(&self.frame, a),
+            Step::Lend { column, from, to } => {
+                lending::lend(&mut self.frame, self.alloc, column, from, to)
+            }
             Step::Pin { column, group } => serving::pin(&mut self.frame, column, group),
             Step::Unpin { column, group } => serving::unpin(&mut self.frame, column, group),
             Step::BeginEvac { column, group } => self.begin_evac(column, group),
@@ -105,15 +109,16 @@ impl<S: FarStore> World<S> {
             Step::Commit(n) => self.commit(n),
             Step::Install(n) => self.install(n),
             Step::Compact(kind, segment) => serving::compact(&mut self.frame, kind, segment),
+            Step::Prefetch(column) => serving::prefetch(&self.frame, column),
         }
     }
 }
 
 /// Serves steps in order, with one reply to each: the replies and the new state are a run of the plain table from the
-/// old one. So after any list of steps, in which edits, registrations, pins and every phase of evacuations and fetches follow one
-/// another anyhow, each aggregate that answers gives what folding it over the rows as they are gives, each edit's reply is the plain
-/// list's, and a refused step changes no row, column or answer. Refused with `NoMemory` (1) alone, before any step, and then nothing
-/// is changed.
+/// old one. So after any list of steps, in which edits, registrations, lendings, pins and every phase of evacuations and fetches
+/// follow one another anyhow, each aggregate that answers gives what folding it over the rows as they are gives, each lent slice is
+/// that part of its column, each edit's reply is the plain list's, and a refused step changes no row, column or answer. Refused with
+/// `NoMemory` (1) alone, before any step, and then nothing is changed.
 pub fn run<S: FarStore>(world: &mut World<S>, steps: Vec<Step>) -> Result<Vec<Reply>, Refusal>
     requires few { world.old.faults + length steps.items < 2 ^ 63 }
     ensures run { IfOk result (λ replies. IsRun S.content S.number_of world.old steps.items replies.items world.new) }

@@ -5,6 +5,7 @@ ghost use Rattle.far_scopes.specs.Refusing.{refusal_in};
 ghost use Rattle.far_rows.specs.Moving.{pin_refusal, unpin_refusal};
 ghost use Rattle.far_rows.specs.Jobs.{AreAt, evac_refusal, fetch_refusal};
 ghost use Rattle.far_table.specs.Moving.{IsMoved, IsPinned, IsUnpinned, IsCompactedOf, segments_of, HasNoOther};
+ghost use Rattle.far_frame.specs.State.{Alters};
 ghost use Rattle.far_frame.specs.Jobs.{IsJobAt, IsEvacJob, IsFetchJob, IsColdestJob, Commits, CommitRefusal, Installs, InstallRefusal};
 
 use super::Frame;
@@ -18,7 +19,7 @@ impl<S: FarTickets> Frame<S> {
     /// Refused with `NoColumn` (4), `OutOfRange` (14) where no place of the row group is used, `Absent` (16) where the object is
     /// away, `EditsUsedUp` (24) where it has 65,535 pins: the first that applies. Then nothing is changed.
     pub fn pin(&mut self, column: u32, group: u32) -> Result<(), Refusal>
-        ensures pinned { OnOk result (IsMoved (IsPinned column group) self.old self.new) }
+        ensures pinned { OnOk result (Alters (IsMoved (IsPinned column group)) self.old self.new) }
         ensures here { (name : List ℕ) → AreAt S.is_of name self.old.rows → AreAt S.is_of name self.new.rows }
         ensures refused { refusal_in result ≡ pin_refusal self.old.rows column group }
         ensures err { OnErr result (self.new ≡ self.old) }
@@ -31,7 +32,7 @@ impl<S: FarTickets> Frame<S> {
     /// Refused with `NoColumn` (4), `OutOfRange` (14) where no place of the row group is used, `NotPinned` (18) where the object has
     /// no pin: the first that applies. Then nothing is changed.
     pub fn unpin(&mut self, column: u32, group: u32) -> Result<(), Refusal>
-        ensures unpinned { OnOk result (IsMoved (IsUnpinned column group) self.old self.new) }
+        ensures unpinned { OnOk result (Alters (IsMoved (IsUnpinned column group)) self.old self.new) }
         ensures here { (name : List ℕ) → AreAt S.is_of name self.old.rows → AreAt S.is_of name self.new.rows }
         ensures refused { refusal_in result ≡ unpin_refusal self.old.rows column group }
         ensures err { OnErr result (self.new ≡ self.old) }
@@ -155,7 +156,7 @@ impl<S: FarTickets> Frame<S> {
     /// Refused with `OutOfRange` (14) exactly where there is no such segment, with `RegionFull` (17) exactly where there is
     /// one and no other is without parts, else with `NoMemory` (1) alone. Then nothing is changed.
     pub fn compact(&mut self, kind: Kind, segment: u32) -> Result<(), Refusal>
-        ensures compacted { OnOk result (IsMoved (IsCompactedOf kind segment) self.old self.new) }
+        ensures compacted { OnOk result (Alters (IsMoved (IsCompactedOf kind segment)) self.old self.new) }
         ensures here { (name : List ℕ) → AreAt S.is_of name self.old.rows → AreAt S.is_of name self.new.rows }
         ensures missing { IsErrOf result Refusal.OutOfRange ↔ (segments_of kind self.old.rows ≤ segment) }
         ensures full { IsErrOf result Refusal.RegionFull ↔ ((segment < segments_of kind self.old.rows) × HasNoOther kind segment self.old.rows) }

@@ -43,10 +43,7 @@ pub(super) fn unwatch<S: FarTickets>(frame: &mut Frame<S>, a: u32) -> Reply
     ensures changes { Changes S.content frame.old (Step.Unwatch a) result frame.new }
     ensures rows { frame.new.rows ≡ frame.old.rows }
 {
-    match frame.unwatch(a) {
-        Ok(()) => Reply::Done,
-        Err(refusal) => Reply::Refused(refusal),
-    }
+    Reply::done_or(frame.unwatch(a))
 }
 
 /// Builds a row group into an aggregate.
@@ -54,10 +51,7 @@ pub(super) fn scan_group<S: FarTickets>(frame: &mut Frame<S>, a: u32, group: u32
     ensures changes { Changes S.content frame.old (Step.ScanGroup a group) result frame.new }
     ensures rows { frame.new.rows ≡ frame.old.rows }
 {
-    match frame.scan_group(a, group) {
-        Ok(()) => Reply::Done,
-        Err(refusal) => Reply::Refused(refusal),
-    }
+    Reply::done_or(frame.scan_group(a, group))
 }
 
 /// Asks an aggregate.
@@ -75,10 +69,7 @@ pub(super) fn pin<S: FarTickets>(frame: &mut Frame<S>, column: u32, group: u32) 
     ensures changes { Changes S.content frame.old (Step.Pin column group) result frame.new }
     ensures here { (name : List ℕ) → AreAt S.is_of name frame.old.rows → AreAt S.is_of name frame.new.rows }
 {
-    match frame.pin(column, group) {
-        Ok(()) => Reply::Done,
-        Err(refusal) => Reply::Refused(refusal),
-    }
+    Reply::done_or(frame.pin(column, group))
 }
 
 /// Pins an object once less.
@@ -86,10 +77,7 @@ pub(super) fn unpin<S: FarTickets>(frame: &mut Frame<S>, column: u32, group: u32
     ensures changes { Changes S.content frame.old (Step.Unpin column group) result frame.new }
     ensures here { (name : List ℕ) → AreAt S.is_of name frame.old.rows → AreAt S.is_of name frame.new.rows }
 {
-    match frame.unpin(column, group) {
-        Ok(()) => Reply::Done,
-        Err(refusal) => Reply::Refused(refusal),
-    }
+    Reply::done_or(frame.unpin(column, group))
 }
 
 /// Compacts a segment.
@@ -97,8 +85,15 @@ pub(super) fn compact<S: FarTickets>(frame: &mut Frame<S>, kind: Kind, segment: 
     ensures changes { Changes S.content frame.old (Step.Compact kind segment) result frame.new }
     ensures here { (name : List ℕ) → AreAt S.is_of name frame.old.rows → AreAt S.is_of name frame.new.rows }
 {
-    match frame.compact(kind, segment) {
-        Ok(()) => Reply::Done,
+    Reply::done_or(frame.compact(kind, segment))
+}
+
+/// Asks which row groups of a column to fetch next.
+pub(super) fn prefetch<S: FarTickets>(frame: &Frame<S>, column: u32) -> Reply
+    ensures { Changes S.content frame.now (Step.Prefetch column) result frame.now }
+{
+    match frame.proposals(column) {
+        Ok(groups) => Reply::Next(groups),
         Err(refusal) => Reply::Refused(refusal),
     }
 }

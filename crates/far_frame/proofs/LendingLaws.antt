@@ -1,0 +1,245 @@
+-- Parts of columns, as rows lend them and as the plain table has them.
+use Rattle.std.proofs.Common.{◌≡◌, ℕ, zero, suc, ◌+◌, ◌-◌, ◌*◌, ◌/◌, ◌<◌, ◌≤◌, ℤ, min, Bool, true, false, cond, List, [], ◌∷◌, length, map, take, drop, get_or, Option, None, Some, inl, inr, refl, sym, ap, subst, ◌∙◌, arith, take-take, drop-drop}
+use Rattle.std.specs.Prelude.{◌||◌, nat_lt, is_none, option_map, slice_get, slice_index_or, slice_range}
+use Rattle.std.specs.List.{flat_map, range_with_len, zip}
+use Rattle.std.specs.Option.{option_map_or}
+use Rattle.std.proofs.lemmas.Bool.{cases_lt, cases_Bool, le-ltb, lt-ltb}
+use Rattle.std.proofs.lemmas.List.{length-map, drop-take}
+use Rattle.std.proofs.lemmas.List.Edits.{length-between}
+use Rattle.std.proofs.lemmas.Nat.{le-div}
+use Rattle.std.proofs.lemmas.Option.{none-some, same_Some, slice_get-map, slice_get_within, slice_get-get_or, get_or_from_slice_get}
+use Rattle.std.proofs.Math.Nat.{div-mul-le_self, eq-or-lt_of_le}
+use Rattle.far_types.specs.declared.cell.Cell.{Cell}
+use Rattle.far_types.specs.declared.cell.Cell.TheVariants as cell
+use Rattle.far_types.specs.declared.cell.Kind.{Kind}
+use Rattle.far_types.specs.declared.cell.Kind.TheVariants as kind
+use Rattle.far_types.specs.declared.refusal.Refusal.{Refusal}
+use Rattle.far_types.specs.declared.refusal.Refusal.TheVariants as refusal
+use Rattle.far_types.specs.Bounds.{is_int, is_text}
+use Rattle.far_types.specs.Cells.{cell_at}
+use Rattle.far_types.specs.FirstOf.{first_of}
+use Rattle.far_types.specs.Lent.{int_cell, text_cell}
+use Rattle.far_types.specs.Table.{Place, column as column_of, part}
+use Rattle.far_vector.specs.Pieces.{pieces_of, touched as touched_groups, touched_count}
+use Rattle.far_vector.proofs.PieceLaws.{none-pieces, pieces-step, end, further, ends}
+use Rattle.far_columns.specs.Numbers.{Numbers, with_flags}
+use Rattle.far_rows.specs.declared.slot.Slot.{Slot}
+use Rattle.far_rows.specs.declared.slot.Slot.TheVariants as slot
+use Rattle.far_rows.specs.Slots.{kind_of, column_in}
+use Rattle.far_rows.specs.Rows.{Rows, AreRows, all_numbers, all_texts, cells_of}
+use Rattle.far_rows.specs.Places.{places_in, row_at}
+use Rattle.far_rows.specs.Refusing.{no_column, no_range, of_numbers, absent_in, absent_at, ints_refusal, texts_refusal}
+use Rattle.far_rows.specs.Lending.{lent_ints, numbers_of}
+use Rattle.far_rows.proofs.CellsLong.{column-long}
+use Rattle.far_rows.proofs.LentNumbers.{range-map}
+use Rattle.far_rows.proofs.Places.{length-places, places-column, placed}
+use Rattle.far_frame.specs.Lending.{Piece, piece_of, flags_of, ints_lent, lend_refusal}
+
+-- a part of some places in a column
+module _ (c : ℕ) (places : List Place) (from to : ℕ) where
+  pub cells-range : slice_range (column_of c places) from to ≡ column_of c (slice_range places from to)
+  cells-range = range-map (λ (place : Place). cell_at c place.cells) places from to
+
+  pub flags-range : slice_range (flags_of places) from to ≡ flags_of (slice_range places from to)
+  flags-range = range-map (λ (place : Place). place.alive) places from to
+
+  pub piece-range : record { cells = slice_range (column_of c places) from to; flags = slice_range (flags_of places) from to } ≡ piece_of c (slice_range places from to)
+  piece-range = λ i. record { cells = cells-range i; flags = flags-range i }
+
+-- numbers that are those of a column of some places, lent row group by row group with the flags of the places
+module _ (size : ℕ) (some : 0 < size) (c : ℕ) (nums : Numbers) (places : List Place) (same : column_of c places ≡ map int_cell nums) where
+  abbrev IsCut : ℕ → ℕ → Type 0
+  IsCut from to = map ints_lent (with_flags (pieces_of nums size from to) (slice_range (flags_of places) from to)) ≡ map (piece_of c) (pieces_of places size from to)
+
+  as-long : length nums ≡ length places
+  as-long = sym (length-map nums int_cell) ∙ sym (ap length same) ∙ length-map places (λ (place : Place). cell_at c place.cells)
+
+  cut-none : (from to : ℕ) → to ≡ from → IsCut from to
+  cut-none from to e = subst (IsCut from) (sym e) (rw (none-pieces nums size some from, none-pieces places size some from) refl)
+
+  module _ (from to : ℕ) (more : from < to) (within : to ≤ length places) where
+    abbrev mid : ℕ
+    mid = end size some from to more
+
+    mid-low : from < mid
+    mid-low = further size some from to more
+
+    mid-high : mid ≤ to
+    mid-high = ends size some from to more
+
+    first-long : length (slice_range nums from mid) ≡ mid - from
+    first-long = length-between nums from mid (omega (arith, as-long, within, mid-high))
+
+    parted : to - from ≡ mid - from + (to - mid)
+    parted = omega (arith, mid-low, mid-high)
+
+    first-flags : take (mid - from) (slice_range (flags_of places) from to) ≡ slice_range (flags_of places) from mid
+    first-flags = take-take (mid - from) (to - from) (drop from (flags_of places)) (omega (arith, parted))
+
+    other-flags : drop (mid - from) (slice_range (flags_of places) from to) ≡ slice_range (flags_of places) mid to
+    other-flags = ap (λ n. drop (mid - from) (take n (drop from (flags_of places)))) parted ∙ drop-take (mid - from) (to - mid) (drop from (flags_of places))
+        ∙ ap (take (to - mid)) (drop-drop (mid - from) from (flags_of places) ∙ (let e : from + (mid - from) ≡ mid = omega (arith, mid-low) in ap (λ n. drop n (flags_of places)) e))
+
+    first-cells : map int_cell (slice_range nums from mid) ≡ column_of c (slice_range places from mid)
+    first-cells = sym (range-map int_cell nums from mid) ∙ sym (ap (λ cells. slice_range cells from mid) same) ∙ cells-range c places from mid
+
+    cut-step : IsCut mid to → IsCut from to
+    cut-step rest =
+        ap (λ pieces. map ints_lent (with_flags pieces (slice_range (flags_of places) from to))) (pieces-step nums size some from to more)
+        ∙ ap (λ n. ints_lent (slice_range nums from mid, take n (slice_range (flags_of places) from to)) ∷ map ints_lent (with_flags (pieces_of nums size mid to) (drop n (slice_range (flags_of places) from to)))) first-long
+        ∙ (λ i. record { cells = first-cells i; flags = (first-flags ∙ flags-range c places from mid) i } ∷ map ints_lent (with_flags (pieces_of nums size mid to) (other-flags i)))
+        ∙ ap (λ pieces. piece_of c (slice_range places from mid) ∷ pieces) rest
+        ∙ sym (ap (map (piece_of c)) (pieces-step places size some from to more))
+
+  cut-up : (n from to : ℕ) → to ≤ from + n → from ≤ to → to ≤ length places → IsCut from to
+  cut-up zero from to near low within = cut-none from to (omega (arith, near, low))
+  cut-up (suc n) from to near low within = elim (cases_lt from to) [
+    | inl more ↦ cut-step from to more within (cut-up n (end size some from to more) to (omega (arith, near, further size some from to more)) (ends size some from to more) within)
+    | inr past ↦ cut-none from to (omega (arith, past, low))
+  ]
+
+  pub all-cut : (from to : ℕ) → from ≤ to → to ≤ length places → IsCut from to
+  all-cut from to low within = cut-up to from to (omega arith) low within
+
+-- what is left of a part behind its first piece
+module _ (size : ℕ) (some : 0 < size) (c : ℕ) (places : List Place) where
+  pub lent-none : (from to : ℕ) → to ≤ from → from ≤ to → map (piece_of c) (pieces_of places size from to) ≡ []
+  lent-none from to past low = (let e : to ≡ from = omega (arith, past, low) in ap (λ n. map (piece_of c) (pieces_of places size from n)) e ∙ ap (map (piece_of c)) (none-pieces places size some from))
+
+  pub lent-step : (from to : ℕ) (more : from < to) → map (piece_of c) (pieces_of places size from to)
+      ≡ record { cells = slice_range (column_of c places) from (min to ((from / size + 1) * size)); flags = slice_range (flags_of places) from (min to ((from / size + 1) * size)) } ∷ map (piece_of c) (pieces_of places size (min to ((from / size + 1) * size)) to)
+  lent-step from to more = ap (map (piece_of c)) (pieces-step places size some from to more)
+      ∙ ap (λ one. one ∷ map (piece_of c) (pieces_of places size (end size some from to more) to)) (sym (piece-range c places from (end size some from to more)))
+
+-- of refusals in their order none is due
+first-off : (case : Bool × Refusal) (cases : List (Bool × Refusal)) → first_of (case ∷ cases) ≡ None → (case.0 ≡ false) × (first_of cases ≡ None)
+first-off (true, why) cases none = absurd cc
+first-off (false, why) cases none = (refl, none)
+
+first-on : (case : Bool × Refusal) (cases : List (Bool × Refusal)) → case.0 ≡ false → first_of cases ≡ None → first_of (case ∷ cases) ≡ None
+first-on case cases off none = rw off none
+
+neither : (a b : Bool) → (a || b) ≡ false → (a ≡ false) × (b ≡ false)
+neither true b off = absurd cc
+neither false b off = (refl, off)
+
+not-below : (a b : ℕ) → nat_lt a b ≡ false → b ≤ a
+not-below a b off = elim (cases_lt a b) [ inl less ↦ absurd (let on : true ≡ false = sym (lt-ltb a b less) ∙ off in cc) | inr past ↦ past ]
+
+-- each row group of a range is let through, or the first that is not is told
+off-range : (f : ℕ → Bool × Refusal) (a n : ℕ) → first_of (map f (range_with_len a n)) ≡ None → (k : ℕ) → a ≤ k → k < a + n → (f k).0 ≡ false
+off-range f a zero none k low high = absurd (omega (arith, low, high))
+off-range f a (suc n) none k low high =
+    let parts = first-off (f a) (map f (range_with_len (a + 1) n)) none in
+    elim (eq-or-lt_of_le low) [ inl e ↦ subst (λ (m : ℕ). (f m).0 ≡ false) e parts.0 | inr above ↦ off-range f (a + 1) n parts.1 k (omega (arith, above)) (omega (arith, high)) ]
+
+on-range : (f : ℕ → Bool × Refusal) (a n : ℕ) → ((k : ℕ) → a ≤ k → k < a + n → (f k).0 ≡ false) → first_of (map f (range_with_len a n)) ≡ None
+on-range f a zero each = refl
+on-range f a (suc n) each = first-on (f a) (map f (range_with_len (a + 1) n)) (each a (omega arith) (omega arith)) (on-range f (a + 1) n (λ k low high. each k (omega (arith, low)) (omega (arith, high))))
+
+same-group : (size a b : ℕ) → 0 < size → a ≤ b → a / size ≤ b / size
+same-group size a b some low = le-div (a / size) b size some (let down = div-mul-le_self a size in omega (arith, down, low))
+
+-- what lets a part through lets each part of it through
+part-through : (f : ℕ → Bool × Refusal) (size from to a b : ℕ) → 0 < size → from ≤ a → b ≤ to → first_of (map f (touched_groups size from to)) ≡ None → first_of (map f (touched_groups size a b)) ≡ None
+part-through f size from to a b some low high none = elim (cases_lt a b) [
+  | inl more ↦ on-range f (a / size) (touched_count size a b) (λ k above below.
+      let count : touched_count size a b ≡ (b - 1) / size + 1 - a / size = rw (lt-ltb a b more) refl in
+      let all : touched_count size from to ≡ (to - 1) / size + 1 - from / size = rw (lt-ltb from to (omega (arith, more, low, high))) refl in
+      let first = same-group size from a some low in
+      let last = same-group size (b - 1) (to - 1) some (omega (arith, high)) in
+      off-range f (from / size) (touched_count size from to) none k (omega (arith, first, above)) (omega (arith, above, below, count, all, first, last)))
+  | inr past ↦ (let count : touched_count size a b ≡ 0 = rw (le-ltb a b past) refl in ap (λ n. first_of (map f (range_with_len (a / size) n))) count)
+]
+
+placed-flags : (rows : ℕ → List Cell) (n : ℕ) (flags : List Bool) → flags_of (placed rows n flags) ≡ flags
+placed-flags rows n [] = refl
+placed-flags rows n (flag ∷ flags) = ap (λ rest. flag ∷ rest) (placed-flags rows (n + 1) flags)
+
+module _ {K : Type 0} (content : K → List ℕ) (r : Rows K) (are : AreRows content r) where
+  abbrev places : List Place
+  places = places_in content r
+
+  place-flags : flags_of places ≡ r.alive
+  place-flags = placed-flags (row_at (cells_of content r)) 0 r.alive
+
+  range-within : (from to : ℕ) → (no_range r from to).0 ≡ false → (from ≤ to) × (to ≤ length places)
+  range-within from to off =
+      let both = neither (nat_lt to from) (nat_lt (length r.alive) to) off in
+      (not-below to from both.0, (let high = not-below (length r.alive) to both.1 in let long = length-places (cells_of content r) r.alive in omega (arith, high, long)))
+
+  module _ (column : ℕ) where
+    -- the cells of a column are the places' of it
+    column-read : (cells : List Cell) → slice_get (cells_of content r) column ≡ Some cells → column_of column places ≡ cells
+    column-read cells lies =
+        let within : column < length r.slots = subst (λ (n : ℕ). column < n) (length-map r.slots (column_in (all_numbers content r) (all_texts content r))) (slice_get_within (cells_of content r) column cells lies) in
+        places-column (cells_of content r) r.alive column (column-long content r are column within) ∙ get_or_from_slice_get (cells_of content r) column cells [] lies
+
+    pub part-read : (from to : ℕ) (cells : List Cell) → option_map (λ (all : List Cell). slice_range all from to) (slice_get (cells_of content r) column) ≡ Some cells → cells ≡ part column from to places
+    part-read from to cells is = by (slice_get (cells_of content r) column) refl is where
+      by : (found : Option (List Cell)) → slice_get (cells_of content r) column ≡ found → option_map (λ (all : List Cell). slice_range all from to) found ≡ Some cells → cells ≡ part column from to places
+      by None lies is = absurd (none-some cells is)
+      by (Some all) lies is = sym (same_Some (slice_range all from to) cells is) ∙ ap (λ l. slice_range l from to) (sym (column-read all lies))
+
+    pub cell-read : (place : ℕ) (one : Cell) → place < length r.alive → option_map (λ (all : List Cell). slice_index_or all place cell.Missing) (slice_get (cells_of content r) column) ≡ Some one → slice_get (column_of column places) place ≡ Some one
+    cell-read place one below is = by (slice_get (cells_of content r) column) refl is where
+      long : (all : List Cell) → column_of column places ≡ all → place < length all
+      long all same = (let wide = sym (ap length same) ∙ length-map places (λ (p : Place). cell_at column p.cells) ∙ length-places (cells_of content r) r.alive in omega (arith, wide, below))
+
+      by : (found : Option (List Cell)) → slice_get (cells_of content r) column ≡ found → option_map (λ (all : List Cell). slice_index_or all place cell.Missing) found ≡ Some one → slice_get (column_of column places) place ≡ Some one
+      by None lies is = absurd (none-some one is)
+      by (Some all) lies is =
+          let same = column-read all lies in
+          ap (λ l. slice_get l place) same ∙ slice_get-get_or all place cell.Missing (long all same) ∙ ap Some (same_Some (get_or all place cell.Missing) one is)
+
+    pub flags-read : (from to : ℕ) → slice_range r.alive from to ≡ slice_range (flags_of places) from to
+    flags-read from to = ap (λ (flags : List Bool). slice_range flags from to) (sym place-flags)
+
+    module _ (from to : ℕ) where
+      ints-by : (found : Option Slot) → slice_get r.slots column ≡ found
+          → first_of ((is_none found, refusal.NoColumn) ∷ (is_text (option_map kind_of found), refusal.WrongKind) ∷ no_range r from to ∷ map (λ g. option_map_or (absent_at r column g) found (false, refusal.StaleJob)) (touched_groups r.size from to)) ≡ None
+          → map ints_lent (option_map_or (λ (s : Slot). with_flags (pieces_of (numbers_of content r s) r.size from to) (slice_range r.alive from to)) found []) ≡ map (piece_of column) (pieces_of places r.size from to)
+      ints-by None lies none = absurd cc
+      ints-by (Some (slot.Text i)) lies none = absurd cc
+      ints-by (Some (slot.Number i)) lies none =
+          let s : Slot = slot.Number i in
+          let nums = numbers_of content r s in
+          let same = column-read (map int_cell nums) (slice_get-map (column_in (all_numbers content r) (all_texts content r)) r.slots column ∙ ap (option_map (column_in (all_numbers content r) (all_texts content r))) lies) in
+          let range = range-within from to (first-off (no_range r from to) (map (λ g. absent_at r column g s) (touched_groups r.size from to)) none).0 in
+          ap (λ (flags : List Bool). map ints_lent (with_flags (pieces_of nums r.size from to) flags)) (flags-read from to) ∙ all-cut r.size are.some column nums places same from to range.0 range.1
+
+      -- a part of a column of numbers is lent as the plain table has it
+      pub ints-part : ints_refusal r column from to ≡ None → map ints_lent (lent_ints content r column from to) ≡ map (piece_of column) (pieces_of places r.size from to)
+      ints-part none = ints-by (slice_get r.slots column) refl none
+
+      -- each part of what can be lent of a column of texts can be lent
+      pub texts-part : (a b : ℕ) → from ≤ a → a ≤ b → b ≤ to → texts_refusal r column from to ≡ None → texts_refusal r column a b ≡ None
+      texts-part a b low between high none =
+          let known = first-off (no_column r column) _ none in
+          let kind = first-off (of_numbers r column) _ known.1 in
+          let range = first-off (no_range r from to) _ kind.1 in
+          let whole = range-within from to range.0 in
+          let long = length-places (cells_of content r) r.alive in
+          first-on (no_column r column) _ known.0 (first-on (of_numbers r column) _ kind.0 (first-on (no_range r a b) _
+          (rw (le-ltb b a between, le-ltb (length r.alive) b (omega (arith, high, whole.1, long))) refl)
+          (part-through (absent_in r column) r.size from to a b are.some low high range.1)))
+
+module _ {K : Type 0} (r : Rows K) (column from to : ℕ) where
+  skips : (off : Bool) (cases : List (Bool × Refusal)) → off ≡ false → first_of (no_column r column ∷ (off, refusal.WrongKind) ∷ cases) ≡ first_of (no_column r column ∷ cases)
+  skips off cases is = rw is refl
+
+  abbrev there : List (Bool × Refusal)
+  there = no_range r from to ∷ map (absent_in r column) (touched_groups r.size from to)
+
+  -- a column of numbers is lent as numbers, one of texts as texts, and none as nothing
+  pub lends-ints : option_map kind_of (slice_get r.slots column) ≡ Some kind.Int → ints_refusal r column from to ≡ lend_refusal r column from to
+  lends-ints is = skips (is_text (option_map kind_of (slice_get r.slots column))) there (ap is_text is)
+
+  pub lends-texts : option_map kind_of (slice_get r.slots column) ≡ Some kind.Text → texts_refusal r column from to ≡ lend_refusal r column from to
+  lends-texts is = skips (is_int (option_map kind_of (slice_get r.slots column))) there (ap is_int is)
+
+  pub lends-none : option_map kind_of (slice_get r.slots column) ≡ None → lend_refusal r column from to ≡ Some refusal.NoColumn
+  lends-none is = by (slice_get r.slots column) is where
+    by : (found : Option Slot) → option_map kind_of found ≡ None → first_of ((is_none found, refusal.NoColumn) ∷ there) ≡ Some refusal.NoColumn
+    by None none = refl
+    by (Some s) none = absurd (none-some (kind_of s) (sym none))

@@ -1,0 +1,99 @@
+-- Parts of columns that are lent, in the plain table's words, and what is remembered of them.
+use Rattle.std.specs.Prelude.{◌≡◌, ℕ, Bool, ℤ, nat_lt, not, List, [], ◌∷◌, map, length, slice_get, slice_set, Option, Some, None}
+use Rattle.std.specs.List.{fold}
+use Rattle.std.specs.Option.{option_map_or}
+use Rattle.far_types.specs.declared.cell.Cell.{Cell}
+use Rattle.far_types.specs.declared.cell.Kind.{Kind}
+use Rattle.far_types.specs.declared.cell.Kind.TheVariants as kind
+use Rattle.far_types.specs.declared.refusal.Refusal.{Refusal}
+use Rattle.far_types.specs.declared.refusal.Refusal.TheVariants as refusal
+use Rattle.far_types.specs.FirstOf.{first_of}
+use Rattle.far_types.specs.Lent.{int_cell, text_cell}
+use Rattle.far_types.specs.Table.{Table, Place, column as column_of, groups}
+use Rattle.far_vector.specs.Pieces.{pieces_of, touched as touched_groups}
+use Rattle.far_prefetcher.specs.Strides.{history_of, with_seen, proposed}
+use Rattle.far_rows.specs.Rows.{Rows}
+use Rattle.far_rows.specs.Moving.{object_at, touched}
+use Rattle.far_rows.specs.Refusing.{no_column, no_range, absent_in}
+use Rattle.far_frame.specs.declared.piece.IntPiece.{IntPiece}
+use Rattle.far_frame.specs.declared.piece.TextPiece.{TextPiece}
+use Rattle.far_frame.specs.declared.step.Reply.{Reply}
+use Rattle.far_frame.specs.declared.step.Reply.TheVariants as reply
+use Rattle.far_frame.specs.State.{State}
+
+-- places of one row group that follow each other: the cells of a column there, and whether each place is alive
+pub record Piece : Type 0 where
+  pub cells : List Cell
+  pub flags : List Bool
+
+-- the flags of all places
+abbrev pub flags_of : List Place → List Bool
+flags_of places = map (λ place. place.alive) places
+
+-- what some places have in a column
+abbrev pub piece_of : ℕ → List Place → Piece
+piece_of column places = record { cells = column_of column places; flags = flags_of places }
+
+-- what is lent of a part of a column: a piece for each row group that has some of its places
+abbrev pub lent_part : Table → ℕ → ℕ → ℕ → List Piece
+lent_part table column from to = map (piece_of column) (pieces_of table.places table.limits.group from to)
+
+-- a lent piece of numbers, and one of texts
+abbrev pub ints_lent : List (Option ℤ) × List Bool → Piece
+ints_lent lent = record { cells = map int_cell lent.0; flags = lent.1 }
+
+abbrev pub texts_lent : List (Option (List ℕ) × Bool) → Piece
+texts_lent lent = record { cells = map (λ cell. text_cell cell.0) lent; flags = map (λ cell. cell.1) lent }
+
+-- a copied one
+abbrev pub int_piece : IntPiece → Piece
+int_piece copy = record { cells = map int_cell copy.values.items; flags = copy.flags.items }
+
+abbrev pub text_piece : TextPiece → Piece
+text_piece copy = record { cells = map text_cell copy.values.items; flags = copy.flags.items }
+
+-- the pieces that a reply gives
+abbrev pub pieces_in : Reply → List Piece
+pieces_in (reply.Ints copies) = map int_piece copies.items
+pieces_in (reply.Texts copies) = map text_piece copies.items
+pieces_in _ = []
+
+-- a reply gives these pieces of a column of this kind
+abbrev pub Gives : Option Kind → List Piece → Reply → Type 0
+Gives of pieces (reply.Ints copies) = (of ≡ Some kind.Int) × (map int_piece copies.items ≡ pieces)
+Gives of pieces (reply.Texts copies) = (of ≡ Some kind.Text) × (map text_piece copies.items ≡ pieces)
+Gives of pieces _ = ⊥
+
+-- what was read of a column lately, once some row groups of it are lent, in order
+abbrev pub all_seen : List (List ℕ) → ℕ → List ℕ → List (List ℕ)
+all_seen seen column lent = fold (λ histories g. slice_set histories column (with_seen (history_of histories column) g)) seen lent
+
+-- there is no such column
+abbrev pub prefetch_refusal : Table → ℕ → Option Refusal
+prefetch_refusal table column = first_of ((not (nat_lt column (length table.schema)), refusal.NoColumn) ∷ [])
+
+-- the row groups of a column to fetch next
+abbrev pub next_groups : Table → List (List ℕ) → ℕ → List ℕ
+next_groups table seen column = proposed (groups table.limits.group (length table.places)) (history_of seen column)
+
+module _ {K : Type 0} where
+  -- the objects of some row groups of a column are used, in order
+  abbrev pub all_used : Rows K → ℕ → List ℕ → Rows K
+  all_used r column lent = fold (λ rows g. option_map_or (touched rows) (object_at rows column g) rows) r lent
+
+  -- why a part of a column is not lent: there is no such column; the places are not all there; the object of a row group that
+  -- has some of them is away, the first such
+  abbrev pub lend_refusal : Rows K → ℕ → ℕ → ℕ → Option Refusal
+  lend_refusal r column from to = first_of (no_column r column ∷ no_range r from to ∷ map (absent_in r column) (touched_groups r.size from to))
+
+  -- row groups of a column are seen: their objects are used, in order, and they are remembered
+  pub record AreSeen (column : ℕ) (lent : List ℕ) (old new : State K) : Type 0 where
+    pub table : new.table ≡ old.table
+    pub rows : new.rows ≡ all_used old.rows column lent
+    pub seen : new.seen ≡ all_seen old.seen column lent
+
+  -- a part of a column is lent
+  pub record IsLent (column from to : ℕ) (old : State K) (given : Reply) (new : State K) : Type 0 where
+    pub due : lend_refusal old.rows column from to ≡ None
+    pub says : Gives (slice_get old.table.schema column) (lent_part old.table column from to) given
+    pub used : AreSeen column (touched_groups old.rows.size from to) old new

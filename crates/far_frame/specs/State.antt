@@ -1,0 +1,29 @@
+-- A table with what was read of it lately.
+use Rattle.std.specs.Prelude.{◌≡◌, ℕ, List, [], length, replicate}
+use Rattle.far_types.specs.declared.cell.Kind.{Kind}
+use Rattle.far_types.specs.declared.limits.Limits.{Limits}
+use Rattle.far_types.specs.Table.{Table, empty_table}
+use Rattle.far_rows.specs.Rows.{Rows}
+use Rattle.far_rows.specs.Opening.{empty_rows}
+use Rattle.far_table.specs.State.{State as LiveState}
+
+-- all that a step on the table can see or change: the plain table, the rows over objects that hold its places, and the last
+-- row groups that were lent of each column
+pub record State (K : Type 0) : Type 0 where
+  pub table : Table
+  pub rows : Rows K
+  pub seen : List (List ℕ)
+
+-- a table as it is opened
+abbrev pub empty_state : {K : Type 0} → List Kind → Limits → ℕ → State K
+empty_state schema limits number = record { table = empty_table schema limits; rows = empty_rows schema limits number; seen = replicate (length schema) [] }
+
+module _ {K : Type 0} where
+  -- the table and its rows alone
+  abbrev pub live : State K → LiveState K
+  live s = record { table = s.table; rows = s.rows }
+
+  -- the table and its rows change so, and what was read of it lately stays
+  pub record Alters (change : LiveState K → LiveState K → Type 0) (old new : State K) : Type 0 where
+    pub changed : change (live old) (live new)
+    pub seen : new.seen ≡ old.seen

@@ -1,0 +1,74 @@
+// What was read of a table lately, and what to fetch next by it.
+ghost use Rattle.std.specs.Prelude.{◌≡◌, ℕ, List, None, [], ◌∷◌, IfOk, IfErr, OnOk, OnErr};
+ghost use Rattle.far_types.specs.MayRefuse.{MayRefuse};
+ghost use Rattle.far_scopes.specs.Refusing.{refusal_in};
+ghost use Rattle.far_vector.specs.Pieces.{touched};
+ghost use Rattle.far_rows.specs.Jobs.{AreAt};
+ghost use Rattle.far_rows.specs.Moving.{object_refusal};
+ghost use Rattle.far_frame.specs.Lending.{AreSeen, next_groups, prefetch_refusal};
+
+use super::Frame;
+use far_store::FarTickets;
+use far_types::Refusal;
+
+impl<S: FarTickets> Frame<S> {
+    /// Remembers that a row group of a column was read, and uses its object: it is hot and used last, if it is local. Takes no
+    /// memory.
+    ///
+    /// Refused with `NoColumn` (4), `OutOfRange` (14) where no place of the row group is used: the first that applies. Then nothing
+    /// is changed.
+    pub fn saw(&mut self, column: u32, group: u32) -> Result<(), Refusal>
+        ensures seen { OnOk result (AreSeen column (group ∷ []) self.old self.new) }
+        ensures here { (name : List ℕ) → AreAt S.is_of name self.old.rows → AreAt S.is_of name self.new.rows }
+        ensures refused { refusal_in result ≡ object_refusal self.old.rows column group }
+        ensures err { OnErr result (self.new ≡ self.old) }
+    {
+        self.table.touch(column, group)?;
+        self.prefetcher.saw(column, group);
+        Ok(())
+    }
+
+    /// Uses the object of a row group of a column, if there is one, and remembers the row group. Takes no memory.
+    fn see_one(&mut self, column: u32, group: u32)
+        ensures seen { AreSeen column (group ∷ []) self.old self.new }
+        ensures here { (name : List ℕ) → AreAt S.is_of name self.old.rows → AreAt S.is_of name self.new.rows }
+    {
+        // Where there is no such object nothing is used.
+        let _used = self.table.touch(column, group);
+        self.prefetcher.saw(column, group);
+    }
+
+    /// Remembers the row groups that have places `from` up to `to` of a column, in order, and uses their objects. Takes no memory.
+    pub(crate) fn see(&mut self, column: u32, from: u32, to: u32)
+        ensures seen { AreSeen column (touched self.old.table.limits.group from to) self.old self.new }
+        ensures here { (name : List ℕ) → AreAt S.is_of name self.old.rows → AreAt S.is_of name self.new.rows }
+    {
+        let size = self.limits().group as usize;
+        let mut place = from as usize;
+        while place < to as usize {
+            let group = place / size;
+            self.see_one(column, group as u32);
+            place = (group + 1) * size;
+        }
+    }
+
+    /// The row groups of a column to fetch next: where the last three differences of the row groups that were seen of it are equal
+    /// and not 0, the next two of that stride that exist, and else none.
+    ///
+    /// Refused with `NoColumn` (4) exactly where there is no such column, else with `NoMemory` (1) alone.
+    pub fn proposals(&self, column: u32) -> Result<Vec<u32>, Refusal>
+        ensures found { IfOk result (λ found. found.items ≡ next_groups self.now.table self.now.seen column) }
+        ensures column { OnOk result (prefetch_refusal self.now.table column ≡ None) }
+        ensures refused { IfErr result (MayRefuse (prefetch_refusal self.now.table column) true) }
+    {
+        let rows = self.table.rows();
+        if column as usize >= rows.schema().len() {
+            return Err(Refusal::NoColumn);
+        }
+        // They tell that a table has at most 16,777,216 places.
+        let _limits = rows.limits();
+        let _len = rows.len();
+        self.prefetcher
+            .proposals(self.alloc, column, rows.groups() as u32)
+    }
+}
