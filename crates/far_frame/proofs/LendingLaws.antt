@@ -1,10 +1,10 @@
 -- Parts of columns, as rows lend them and as the plain table has them.
-use Rattle.std.proofs.Common.{◌≡◌, ℕ, zero, suc, ◌+◌, ◌-◌, ◌*◌, ◌/◌, ◌<◌, ◌≤◌, ℤ, min, Bool, true, false, cond, List, [], ◌∷◌, length, map, take, drop, get_or, Option, None, Some, inl, inr, refl, sym, ap, subst, ◌∙◌, arith, take-take, drop-drop}
+use Rattle.std.proofs.Common.{◌≡◌, ℕ, zero, suc, ◌+◌, ◌-◌, ◌*◌, ◌/◌, ◌<◌, ◌≤◌, ℤ, min, Bool, true, false, cond, List, [], ◌∷◌, ◌++◌, length, map, take, drop, get_or, Option, None, Some, inl, inr, refl, sym, ap, subst, ◌∙◌, arith, take-take, drop-drop}
 use Rattle.std.specs.Prelude.{◌||◌, nat_lt, is_none, option_map, slice_get, slice_index_or, slice_range}
 use Rattle.std.specs.List.{flat_map, range_with_len, zip}
 use Rattle.std.specs.Option.{option_map_or}
 use Rattle.std.proofs.lemmas.Bool.{cases_lt, cases_Bool, le-ltb, lt-ltb}
-use Rattle.std.proofs.lemmas.List.{length-map, drop-take}
+use Rattle.std.proofs.lemmas.List.{length-map, map-append, drop-take}
 use Rattle.std.proofs.lemmas.List.Edits.{length-between}
 use Rattle.std.proofs.lemmas.Nat.{le-div}
 use Rattle.std.proofs.lemmas.Option.{none-some, same_Some, slice_get-map, slice_get_within, slice_get-get_or, get_or_from_slice_get}
@@ -19,9 +19,10 @@ use Rattle.far_types.specs.Bounds.{is_int, is_text}
 use Rattle.far_types.specs.Cells.{cell_at}
 use Rattle.far_types.specs.FirstOf.{first_of}
 use Rattle.far_types.specs.Lent.{int_cell, text_cell}
-use Rattle.far_types.specs.Table.{Place, column as column_of, part}
+use Rattle.far_types.specs.Bounds.{AreLimits}
+use Rattle.far_types.specs.Table.{Table, Place, column as column_of, part}
 use Rattle.far_vector.specs.Pieces.{pieces_of, touched as touched_groups, touched_count}
-use Rattle.far_vector.proofs.PieceLaws.{none-pieces, pieces-step, end, further, ends}
+use Rattle.far_vector.proofs.PieceLaws.{none-pieces, pieces-step, joined-pieces, end, further, ends}
 use Rattle.far_columns.specs.Numbers.{Numbers, with_flags}
 use Rattle.far_rows.specs.declared.slot.Slot.{Slot}
 use Rattle.far_rows.specs.declared.slot.Slot.TheVariants as slot
@@ -33,7 +34,9 @@ use Rattle.far_rows.specs.Lending.{lent_ints, numbers_of}
 use Rattle.far_rows.proofs.CellsLong.{column-long}
 use Rattle.far_rows.proofs.LentNumbers.{range-map}
 use Rattle.far_rows.proofs.Places.{length-places, places-column, placed}
-use Rattle.far_frame.specs.Lending.{Piece, piece_of, flags_of, ints_lent, lend_refusal}
+use Rattle.far_frame.specs.declared.step.Reply.{Reply}
+use Rattle.far_frame.specs.declared.step.Reply.TheVariants as reply
+use Rattle.far_frame.specs.Lending.{Piece, Gives, piece_of, pieces_in, flags_of, ints_lent, lent_part, lend_refusal}
 
 -- a part of some places in a column
 module _ (c : ℕ) (places : List Place) (from to : ℕ) where
@@ -243,3 +246,37 @@ module _ {K : Type 0} (r : Rows K) (column from to : ℕ) where
     by : (found : Option Slot) → option_map kind_of found ≡ None → first_of ((is_none found, refusal.NoColumn) ∷ there) ≡ Some refusal.NoColumn
     by None none = refl
     by (Some s) none = absurd (none-some (kind_of s) (sym none))
+
+  pub lends-low : lend_refusal r column from to ≡ None → from ≤ to
+  lends-low none = not-below to from (neither (nat_lt to from) (nat_lt (length r.alive) to) (first-off (no_range r from to) (map (absent_in r column) (touched_groups r.size from to)) (first-off (no_column r column) there none).1).0).0
+
+pieces-given : (of : Option Kind) (pieces : List Piece) (given : Reply) → Gives of pieces given → pieces_in given ≡ pieces
+pieces-given of pieces (reply.Ints copies) is = is.1
+pieces-given of pieces (reply.Texts copies) is = is.1
+pieces-given of pieces (reply.Place place) is = absurd is
+pieces-given of pieces reply.Done is = absurd is
+pieces-given of pieces (reply.Aggregate a) is = absurd is
+pieces-given of pieces (reply.Answer answer) is = absurd is
+pieces-given of pieces (reply.Job n) is = absurd is
+pieces-given of pieces (reply.Next found) is = absurd is
+pieces-given of pieces (reply.Refused why) is = absurd is
+
+-- pieces joined are the piece of all their places
+joined : {X : Type 0} (field : Piece → List X) (of : Place → X) (c : ℕ) → ((places : List Place) → field (piece_of c places) ≡ map of places) → (pieces : List (List Place)) → flat_map field (map (piece_of c) pieces) ≡ map of (flat_map (λ p. p) pieces)
+joined field of c each [] = refl
+joined field of c each (one ∷ pieces) = (λ i. each one i ++ joined field of c each pieces i) ∙ sym (map-append of one (flat_map (λ p. p) pieces))
+
+-- what a lending gives, joined
+module _ (table : Table) (limits : AreLimits table.limits) (column from to : ℕ) (low : from ≤ to) (given : Reply) (gives : Gives (slice_get table.schema column) (lent_part table column from to) given) where
+  all : flat_map (λ p. p) (pieces_of table.places table.limits.group from to) ≡ slice_range table.places from to
+  all = joined-pieces table.places table.limits.group limits.group_low from to low
+
+  pub given-cells : flat_map (λ piece. piece.cells) (pieces_in given) ≡ part column from to table.places
+  given-cells = ap (flat_map (λ piece. piece.cells)) (pieces-given (slice_get table.schema column) (lent_part table column from to) given gives)
+      ∙ joined (λ piece. piece.cells) (λ place. cell_at column place.cells) column (λ places. refl) (pieces_of table.places table.limits.group from to)
+      ∙ ap (column_of column) all ∙ sym (cells-range column table.places from to)
+
+  pub given-flags : flat_map (λ piece. piece.flags) (pieces_in given) ≡ slice_range (flags_of table.places) from to
+  given-flags = ap (flat_map (λ piece. piece.flags)) (pieces-given (slice_get table.schema column) (lent_part table column from to) given gives)
+      ∙ joined (λ piece. piece.flags) (λ place. place.alive) column (λ places. refl) (pieces_of table.places table.limits.group from to)
+      ∙ ap flags_of all ∙ sym (flags-range column table.places from to)

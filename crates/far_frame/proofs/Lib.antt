@@ -3,3 +3,5 @@ mod ViewLaws
 mod FrameLaws
 mod WaitingLaws
 mod WorldLaws
+mod LendingLaws
+mod SeenLaws

@@ -1,11 +1,14 @@
 -- A run goes on by one step.
 use Rattle.std.proofs.Common.{◌≡◌, ◌≢◌, ℕ, ◌+◌, ◌≤◌, ◌==◌, Bool, true, false, if◌then◌else◌, cond, arith, List, [], ◌∷◌, ◌++◌, IsSomeAnd, ap, ◌∙◌, subst, refl, Option, None, Some}
+use Rattle.std.specs.Prelude.{slice_range}
+use Rattle.std.specs.List.{flat_map}
 use Rattle.far_types.specs.declared.answer.Answer.{Answer}
 use Rattle.far_types.specs.declared.refusal.Refusal.{Refusal}
 use Rattle.far_types.specs.Refusals.{number_of as refusal_number}
 use Rattle.far_store.specs.Faults.{faults_of}
 use Rattle.far_types.specs.Answers.{answer_over}
-use Rattle.far_types.specs.Table.{Place, Registered, left, answer_now, rows_of}
+use Rattle.far_types.specs.Bounds.{AreLimits}
+use Rattle.far_types.specs.Table.{Place, Registered, left, answer_now, rows_of, part}
 use Rattle.far_aggregates.specs.Aggregates.{Answers}
 use Rattle.far_table.specs.State.{State as LiveState}
 use Rattle.far_frame.specs.State.{State}
@@ -19,6 +22,8 @@ use Rattle.far_evacuator.specs.Jobs.{CarriedEvacuation}
 use Rattle.far_rows.specs.declared.job.ByKind.{ByKind}
 use Rattle.far_rows.specs.Jobs.{evac_refusal, fetch_refusal, pins_by}
 use Rattle.far_frame.specs.Changes.{Replies, Accepts, Refuses, Changes}
+use Rattle.far_frame.specs.Lending.{IsLent, flags_of, pieces_in}
+use Rattle.far_frame.proofs.LendingLaws.{given-cells, given-flags, lends-low}
 use Rattle.far_frame.specs.Jobs.{JobRecord, WorkOf, IsEvacJob, IsFetchJob, Commits, CommitRefusal, Installs, InstallRefusal}
 use Rattle.far_frame.specs.declared.job.Work.TheVariants as work
 use Rattle.far_frame.specs.Steps.{IsStep, IsRun}
@@ -43,6 +48,18 @@ replied serves refuses (reply.Ints pieces) f g h = f (reply.Ints pieces) h
 replied serves refuses (reply.Texts pieces) f g h = f (reply.Texts pieces) h
 replied serves refuses (reply.Job n) f g h = f (reply.Job n) h
 replied serves refuses (reply.Next found) f g h = f (reply.Next found) h
+
+-- a reply that is no refusal serves
+served : (serves : Reply → Type 0) (refuses : Refusal → Type 0) (given : Reply) → is_refused given ≡ false → Replies serves refuses given → serves given
+served serves refuses (reply.Refused why) no h = absurd (let on : true ≡ false = no in cc)
+served serves refuses (reply.Place place) no h = h
+served serves refuses reply.Done no h = h
+served serves refuses (reply.Aggregate a) no h = h
+served serves refuses (reply.Answer x) no h = h
+served serves refuses (reply.Ints pieces) no h = h
+served serves refuses (reply.Texts pieces) no h = h
+served serves refuses (reply.Job n) no h = h
+served serves refuses (reply.Next found) no h = h
 
 either : {A : Type 0} (b : Bool) (x y : A) → y ≡ x → y ≡ cond b x x
 either true x y h = h
@@ -82,6 +99,17 @@ module _ {K : Type 0} (content : K → List ℕ) (number_of : K → ℕ) where
 
   pub answer-built : (old : World K) (a : ℕ) (x : Answer) (new : World K) (r : Registered) → aggregate_at old.state.table a ≡ Some r → IsStep content number_of old (step.Ask a) (reply.Answer x) new → left r.unbuilt ≡ 0
   answer-built old a x new r h k = (answered old a x new r h k).0
+
+  -- what is lent is that part of its column
+  module _ (old : World K) (limits : AreLimits old.state.table.limits) (column from to : ℕ) (given : Reply) (new : World K) (no : is_refused given ≡ false) (taken : IsStep content number_of old (step.Lend column from to) given new) where
+    lent : IsLent column from to old.state given new.state
+    lent = served (λ served. IsLent column from to old.state served new.state) (λ why. Refuses old.state (step.Lend column from to) why new.state) given no taken.0
+
+    pub lent-cells : flat_map (λ piece. piece.cells) (pieces_in given) ≡ part column from to old.state.table.places
+    lent-cells = given-cells old.state.table limits column from to (lends-low old.state.rows column from to lent.due) given lent.says
+
+    pub lent-flags : flat_map (λ piece. piece.flags) (pieces_in given) ≡ slice_range (flags_of old.state.table.places) from to
+    lent-flags = given-flags old.state.table limits column from to (lends-low old.state.rows column from to lent.due) given lent.says
 
   -- where the state stays, so does the world
   same-world : (old new : World K) → new.state ≡ old.state → new ≡ record old { state = new.state } → new ≡ old

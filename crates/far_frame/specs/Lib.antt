@@ -7,3 +7,4 @@ pub mod Waiting
 pub mod Runs
 pub mod Views
 pub mod Jobs
+pub mod Renewing

@@ -5,6 +5,7 @@ ghost use Rattle.far_frame.specs.Steps.{IsStep, IsRun};
 
 mod jobs;
 mod lending;
+mod renewing;
 mod serving;
 
 use super::frame::Frame;

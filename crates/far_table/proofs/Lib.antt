@@ -18,3 +18,4 @@ mod LiveTaking
 mod LiveScanning
 mod Moved
 mod LiveMoved
+mod Renewed

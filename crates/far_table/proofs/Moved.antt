@@ -32,12 +32,12 @@ use Rattle.far_table.specs.TableRows.{TableRows, AreWritten, AreKept, rows_in}
 use Rattle.far_table.specs.Moving.{AreMoved, IsPinned, IsUnpinned, IsTouched, IsCommitted, IsInstalled, IsCompactedOf}
 
 -- objects were written as often as before, and may be written as often
-pub record AreAsWritten {X K : Type 0} (old new : Movement X K) : Type 0 where
+pub record AreAsWritten {X K L : Type 0} (old : Movement X K) (new : Movement X L) : Type 0 where
   pub changes : new.changes ≡ old.changes
   pub versions : (o : ℕ) → version_of new o ≡ version_of old o
 
--- only objects moved, none of which was written
-pub record AreStill {K : Type 0} (old new : Rows K) : Type 0 where
+-- only objects moved, none of which was written; they may be of another store
+pub record AreStill {K L : Type 0} (old : Rows K) (new : Rows L) : Type 0 where
   pub slots : new.slots ≡ old.slots
   pub size : new.size ≡ old.size
   pub numbers : new.numbers ≡ old.numbers
@@ -47,7 +47,7 @@ pub record AreStill {K : Type 0} (old new : Rows K) : Type 0 where
   pub text_objects : AreAsWritten old.text_objects new.text_objects
 
 module _ {K : Type 0} where
-  abbrev writes : List (Entry K) → ℕ → ℕ
+  abbrev pub writes : List (Entry K) → ℕ → ℕ
   writes entries o = option_map_or (λ e. e.version) (slice_get entries o) 0
 
   with-later : (e : Entry K) (entries : List (Entry K)) (o : ℕ) (change : Entry K → Entry K) → with_entry (e ∷ entries) (suc o) change ≡ e ∷ with_entry entries o change
@@ -153,14 +153,14 @@ module _ {K A : Type 0} (number_of : K → ℕ) (old now : Rows K) where
   installed-both (Err given) content fetched accepted back full = accepted
 
 module _ {K : Type 0} (content : K → List ℕ) (schema : List Kind) (limits : Limits) (old : Rows K) (coming : Values) (edits : ℕ) where
-  written-still : {X : Type 0} (m now : Movement X K) → AreAsWritten m now → AreWritten limits edits m → AreWritten limits edits now
+  written-still : {X L : Type 0} (m : Movement X K) (now : Movement X L) → AreAsWritten m now → AreWritten limits edits m → AreWritten limits edits now
   written-still m now kept are = record { changes = kept.changes ∙ are.changes; versions = λ o. (let before = are.versions o in let same = kept.versions o in omega (arith, before, same)) }
 
-  module _ (now : Rows K) (cells : cells_of content now ≡ cells_of content old) (still : AreStill old now) where
-    still-places : places_in content now ≡ places_in content old
+  module _ {L : Type 0} (new_content : L → List ℕ) (now : Rows L) (cells : cells_of new_content now ≡ cells_of content old) (still : AreStill old now) where
+    pub still-places : places_in new_content now ≡ places_in content old
     still-places = λ i. places_of (cells i) (still.alive i)
 
-    still-kept : AreKept content schema limits old coming edits → AreKept content schema limits now coming edits
+    pub still-kept : AreKept content schema limits old coming edits → AreKept new_content schema limits now coming edits
     still-kept kept = record {
       bounds = kept.bounds;
       kinds = ap (map kind_of) still.slots ∙ kept.kinds;
@@ -178,11 +178,11 @@ module _ {K : Type 0} (content : K → List ℕ) (schema : List Kind) (limits : 
   -- a call moved objects, or was refused
   module _ {A : Type 0} (t : TableRows K) (is : rows_in content schema limits old coming edits ≡ t) (r : Result A Refusal) (now : Rows K) (moves : Rows K → Rows K → Type 0) (ok : OnOk r (moves old now)) (err : OnErr r (now ≡ old)) (cells : cells_of content now ≡ cells_of content old) (still : moves old now → AreStill old now) where
     pub moved-kept : AreKept content schema limits old coming edits → AreKept content schema limits now coming edits
-    moved-kept kept = still-kept now cells (by-outcome r ok err still (λ (same : now ≡ old). subst (AreStill old) (sym same) (nothing-still old))) kept
+    moved-kept kept = still-kept content now cells (by-outcome r ok err still (λ (same : now ≡ old). subst (AreStill old) (sym same) (nothing-still old))) kept
 
     pub moved-rows : OnOk r (AreMoved moves t (rows_in content schema limits now coming edits))
     moved-rows = on_ok_weaker r (λ (done : moves old now). (
-        let places = still-places now cells (still done) in
+        let places = still-places content now cells (still done) in
         subst (λ (was : TableRows K). AreMoved moves was (rows_in content schema limits now coming edits)) is
         record { stays = λ i. record { schema = schema; limits = limits; places = places i; edits = edits; coming = coming; held = now }; held = done }
         )) ok

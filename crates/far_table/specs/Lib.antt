@@ -5,3 +5,4 @@ pub mod Groups
 pub mod Live
 pub mod Watching
 pub mod Moving
+pub mod Renewing

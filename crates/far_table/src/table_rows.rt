@@ -15,6 +15,7 @@ ghost use Rattle.far_table.specs.TableRows.{AreOpened};
 mod asking;
 mod editing;
 mod moving;
+mod renewing;
 
 use super::row_group::RowGroup;
 use far_rows::{NewRow, NewRowRef, RowRef, Rows};

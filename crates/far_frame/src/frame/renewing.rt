@@ -1,0 +1,43 @@
+// A table that goes on with another far store.
+ghost use Rattle.std.specs.Prelude.{◌≡◌, ◌+◌, ◌<◌, ◌^◌, [], ◌∷◌, IfOk, IfErr};
+ghost use Rattle.far_store.specs.Faults.{faults_of};
+ghost use Rattle.far_rows.specs.Jobs.{AreAt};
+ghost use Rattle.far_frame.specs.Jobs.{IsOneOf};
+ghost use Rattle.far_frame.specs.Renewing.{IsMigrated};
+
+use super::Frame;
+use far_store::{FarRead, FarStore, Meter};
+use far_types::Refusal;
+
+impl<S: FarRead> Frame<S> {
+    /// The same table with its far copies in another store: each content of an object that is away is put there. Every row,
+    /// aggregate and answer stays, and what is local, which is dirty now. Jobs that were begun are not for the new table.
+    ///
+    /// Refused with `FarFault` (21) where one of the stores fails, exactly where the meter rises, by one; with `FarFull` (22) where
+    /// the new one gives out no more numbers; and with `NoMemory` (1). Then the table is handed back as it was; what was put
+    /// stays in the new store.
+    pub fn migrate<N: FarStore>(
+        frame: Frame<S>,
+        store: &S,
+        new_store: &N,
+        meter: &mut Meter,
+    ) -> Result<Frame<N>, (Refusal, Frame<S>)>
+        requires few { meter.old < 2 ^ 63 }
+        requires here { AreAt S.is_of (S.name store.now) frame.rows }
+        ensures migrated { IfOk result (IsMigrated S.content N.content frame) }
+        ensures there { IfOk result (λ new. AreAt N.is_of (N.name new_store.now) new.rows) }
+        ensures back { IfErr result (λ e. e.1 ≡ frame) }
+        ensures refused { IfErr result (λ e. IsOneOf (21 ∷ 22 ∷ 1 ∷ []) e.0) }
+        ensures met { IfErr result (λ e. meter.new ≡ meter.old + faults_of e.0) }
+        ensures none { IfOk result (λ new. meter.new ≡ meter.old) }
+    {
+        match frame.table.renewal(store, new_store, meter) {
+            Ok(renewal) => Ok(Frame {
+                alloc: frame.alloc,
+                table: frame.table.renew(renewal),
+                prefetcher: frame.prefetcher,
+            }),
+            Err(refusal) => Err((refusal, frame)),
+        }
+    }
+}

@@ -1,0 +1,55 @@
+// A world that goes on with another far store.
+ghost use Rattle.std.specs.Prelude.{◌≡◌, ◌+◌, ◌<◌, ◌^◌, [], ◌∷◌, IfOk, IfErr};
+ghost use Rattle.far_store.specs.Faults.{faults_of};
+ghost use Rattle.far_frame.specs.Jobs.{IsOneOf};
+ghost use Rattle.far_frame.specs.Renewing.{IsMigratedTo};
+
+use super::World;
+use crate::frame::Frame;
+use crate::waiting::Waiting;
+use far_store::FarStore;
+use far_types::Refusal;
+
+impl<S: FarStore> World<S> {
+    /// The same table with its far copies in another store. All numbers of jobs that were begun are spent, and the count goes on.
+    ///
+    /// Refused with `FarFault` (21) where one of the stores fails, which is counted; with `FarFull` (22) where the new one gives
+    /// out no more numbers; and with `NoMemory` (1). Then the world is handed back as it was, jobs included, but for its count of
+    /// faults.
+    pub fn migrate<N: FarStore>(self, new_store: N) -> Result<World<N>, (Refusal, World<S>)>
+        requires few { self.faults < 2 ^ 62 }
+        ensures migrated { IfOk result (IsMigratedTo S.content N.content (N.name new_store) self) }
+        ensures back { IfErr result (λ e. e.1 ≡ record self { faults = self.faults + faults_of e.0 }) }
+        ensures refused { IfErr result (λ e. IsOneOf (21 ∷ 22 ∷ 1 ∷ []) e.0) }
+    {
+        let World {
+            alloc,
+            frame,
+            store,
+            begun,
+            jobs,
+            mut meter,
+        } = self;
+        match Frame::migrate(frame, &store, &new_store, &mut meter) {
+            Ok(frame) => Ok(World {
+                alloc,
+                frame,
+                store: new_store,
+                begun,
+                jobs: Waiting::new(alloc),
+                meter,
+            }),
+            Err((refusal, frame)) => Err((
+                refusal,
+                World {
+                    alloc,
+                    frame,
+                    store,
+                    begun,
+                    jobs,
+                    meter,
+                },
+            )),
+        }
+    }
+}

@@ -1,0 +1,44 @@
+-- Far copies went into another store: what always holds of the rows of a table holds still, and the places stay.
+use Rattle.std.proofs.Common.{◌≡◌, ℕ, zero, suc, List, [], ◌∷◌, length, map, Option, refl, sym, ap, subst, ◌∙◌, arith}
+use Rattle.std.specs.List.{zip}
+use Rattle.far_types.specs.declared.cell.Kind.{Kind}
+use Rattle.far_types.specs.declared.limits.Limits.{Limits}
+use Rattle.far_scopes.specs.declared.entry.Entry.{Entry}
+use Rattle.far_scopes.specs.Movement.{Movement}
+use Rattle.far_scopes.specs.Renewal.{Renews, renewed, renewed_entry}
+use Rattle.far_rows.specs.Slots.{Values}
+use Rattle.far_rows.specs.Rows.{Rows, cells_of}
+use Rattle.far_rows.specs.Renewal.{RowsTickets, RenewsRows, renewed_rows}
+use Rattle.far_table.specs.TableRows.{TableRows, AreKept, rows_in}
+use Rattle.far_table.specs.Renewing.{renewed_table_rows}
+use Rattle.far_table.proofs.Moved.{AreAsWritten, AreStill, writes, still-kept, still-places}
+
+module _ {K L : Type 0} where
+  writes-renewed : (entries : List (Entry K)) (tickets : List (Option L)) → length tickets ≡ length entries → (o : ℕ) → writes (map (λ (e : Entry K × Option L). renewed_entry e.0 e.1) (zip entries tickets)) o ≡ writes entries o
+  writes-renewed [] tickets even o = refl
+  writes-renewed (e ∷ entries) [] even o = absurd (omega (arith, even))
+  writes-renewed (e ∷ entries) (ticket ∷ tickets) even zero = refl
+  writes-renewed (e ∷ entries) (ticket ∷ tickets) even (suc o) = writes-renewed entries tickets (omega (arith, even)) o
+
+  module _ (content : K → List ℕ) (new_content : L → List ℕ) where
+    renewed-unwritten : {X : Type 0} (m : Movement X K) (tickets : List (Option L)) → Renews content new_content m tickets → AreAsWritten m (renewed m tickets)
+    renewed-unwritten m tickets renews = record { changes = refl; versions = writes-renewed m.entries tickets renews.even }
+
+    module _ (r : Rows K) (tickets : RowsTickets L) (renews : RenewsRows content new_content r tickets) where
+      renewed-still : AreStill r (renewed_rows r tickets)
+      renewed-still = record { slots = refl; size = refl; numbers = refl; texts = refl; alive = refl;
+        number_objects = renewed-unwritten r.number_objects tickets.numbers renews.numbers;
+        text_objects = renewed-unwritten r.text_objects tickets.texts renews.texts }
+
+      module _ (schema : List Kind) (limits : Limits) (coming : Values) (edits : ℕ) (now : Rows L) (is : now ≡ renewed_rows r tickets) (cells : cells_of new_content now ≡ cells_of content r) where
+        still : AreStill r now
+        still = subst (AreStill r) (sym is) renewed-still
+
+        pub renewed-kept : AreKept content schema limits r coming edits → AreKept new_content schema limits now coming edits
+        renewed-kept kept = still-kept content schema limits r coming edits new_content now cells still kept
+
+        pub renewed-rows : (t : TableRows K) → rows_in content schema limits r coming edits ≡ t → rows_in new_content schema limits now coming edits ≡ renewed_table_rows t tickets
+        renewed-rows t view = (
+            let places = still-places content schema limits r coming edits new_content now cells still in
+            (λ i. record { schema = schema; limits = limits; places = places i; edits = edits; coming = coming; held = is i })
+            ∙ ap (λ (u : TableRows K). renewed_table_rows u tickets) view)

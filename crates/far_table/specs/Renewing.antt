@@ -1,0 +1,13 @@
+-- A table whose far copies go into another store: everything else stays.
+use Rattle.far_rows.specs.Renewal.{RowsTickets, renewed_rows}
+use Rattle.far_table.specs.State.{State}
+use Rattle.far_table.specs.TableRows.{TableRows}
+
+module _ {K L : Type 0} where
+  -- the rows of a table under these tickets
+  abbrev pub renewed_table_rows : TableRows K → RowsTickets L → TableRows L
+  renewed_table_rows t tickets = record { schema = t.schema; limits = t.limits; places = t.places; edits = t.edits; coming = t.coming; held = renewed_rows t.held tickets }
+
+  -- a table under these tickets
+  abbrev pub renewed_state : State K → RowsTickets L → State L
+  renewed_state s tickets = record { table = s.table; rows = renewed_rows s.rows tickets }
