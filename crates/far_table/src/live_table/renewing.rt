@@ -42,12 +42,11 @@ impl<S: FarTickets> LiveTable<S> {
         ensures renewed { result ≡ renewed_state self renewal }
         ensures there { (name : List ℕ) → AreTicketsAt N.is_of name renewal → AreAt N.is_of name result.rows }
     {
-        TableRows {
-            schema: self.schema,
-            limits: self.limits,
+        LiveTable {
+            alloc: self.alloc,
             rows: self.rows.renew(renewal),
-            coming: self.coming,
-            edits: self.edits,
+            registrations: self.registrations,
+            aggregates: self.aggregates,
         }
     }
 }
