@@ -1,10 +1,11 @@
 -- Parts of columns, as rows lend them and as the plain table has them.
-use Rattle.std.proofs.Common.{◌≡◌, ℕ, zero, suc, ◌+◌, ◌-◌, ◌*◌, ◌/◌, ◌<◌, ◌≤◌, ℤ, min, Bool, true, false, cond, List, [], ◌∷◌, ◌++◌, length, map, take, drop, get_or, Option, None, Some, inl, inr, refl, sym, ap, subst, ◌∙◌, arith, take-take, drop-drop}
-use Rattle.std.specs.Prelude.{◌||◌, nat_lt, is_none, option_map, slice_get, slice_index_or, slice_range}
-use Rattle.std.specs.List.{flat_map, range_with_len, zip}
+use Rattle.std.proofs.Common.{◌≡◌, ℕ, zero, suc, ◌+◌, ◌-◌, ◌*◌, ◌/◌, ◌<◌, ◌≤◌, ℤ, min, Bool, true, false, cond, List, [], ◌∷◌, ◌++◌, length, map, take, drop, get_or, Option, None, Some, Result, inl, inr, refl, sym, ap, subst, ◌∙◌, arith, take-take, drop-drop}
+use Rattle.std.specs.Prelude.{◌||◌, nat_lt, not, is_none, IfOk, option_map, slice_get, slice_index_or, slice_range}
+use Rattle.std.specs.declared.result.Result.TheVariants.{Ok, Err}
+use Rattle.std.specs.List.{flat_map, range_with_len}
 use Rattle.std.specs.Option.{option_map_or}
 use Rattle.std.proofs.lemmas.Bool.{cases_lt, cases_Bool, le-ltb, lt-ltb}
-use Rattle.std.proofs.lemmas.List.{length-map, map-append, drop-take}
+use Rattle.std.proofs.lemmas.List.{length-map, map-append, append_assoc, append-nil, drop-take}
 use Rattle.std.proofs.lemmas.List.Edits.{length-between}
 use Rattle.std.proofs.lemmas.Nat.{le-div}
 use Rattle.std.proofs.lemmas.Option.{none-some, same_Some, slice_get-map, slice_get_within, slice_get-get_or, get_or_from_slice_get}
@@ -21,6 +22,7 @@ use Rattle.far_types.specs.FirstOf.{first_of}
 use Rattle.far_types.specs.Lent.{int_cell, text_cell}
 use Rattle.far_types.specs.Bounds.{AreLimits}
 use Rattle.far_types.specs.Table.{Table, Place, column as column_of, part}
+use Rattle.far_scopes.specs.Refusing.{refusal_in}
 use Rattle.far_vector.specs.Pieces.{pieces_of, touched as touched_groups, touched_count}
 use Rattle.far_vector.proofs.PieceLaws.{none-pieces, pieces-step, joined-pieces, end, further, ends}
 use Rattle.far_columns.specs.Numbers.{Numbers, with_flags}
@@ -29,14 +31,20 @@ use Rattle.far_rows.specs.declared.slot.Slot.TheVariants as slot
 use Rattle.far_rows.specs.Slots.{kind_of, column_in}
 use Rattle.far_rows.specs.Rows.{Rows, AreRows, all_numbers, all_texts, cells_of}
 use Rattle.far_rows.specs.Places.{places_in, row_at}
-use Rattle.far_rows.specs.Refusing.{no_column, no_range, of_numbers, absent_in, absent_at, ints_refusal, texts_refusal}
+use Rattle.far_rows.specs.Refusing.{no_column, no_range, no_row, of_numbers, absent_in, absent_at, ints_refusal, text_refusal, texts_refusal}
 use Rattle.far_rows.specs.Lending.{lent_ints, numbers_of}
 use Rattle.far_rows.proofs.CellsLong.{column-long}
 use Rattle.far_rows.proofs.LentNumbers.{range-map}
 use Rattle.far_rows.proofs.Places.{length-places, places-column, placed}
+use Rattle.far_frame.specs.declared.piece.TextPiece.{TextPiece}
 use Rattle.far_frame.specs.declared.step.Reply.{Reply}
 use Rattle.far_frame.specs.declared.step.Reply.TheVariants as reply
-use Rattle.far_frame.specs.Lending.{Piece, Gives, piece_of, pieces_in, flags_of, ints_lent, lent_part, lend_refusal}
+use Rattle.far_table.specs.State.{State as LiveState}
+use Rattle.far_table.specs.TableRows.{TableRows}
+use Rattle.far_types.specs.declared.limits.Limits.{Limits}
+use Rattle.far_frame.specs.State.{State}
+use Rattle.far_frame.specs.Changes.{Replies}
+use Rattle.far_frame.specs.Lending.{Piece, Gives, AreSeen, IsLent, piece_of, pieces_in, flags_of, ints_lent, texts_lent, text_piece, lent_part, lend_refusal}
 
 -- a part of some places in a column
 module _ (c : ℕ) (places : List Place) (from to : ℕ) where
@@ -129,6 +137,9 @@ neither false b off = (refl, off)
 not-below : (a b : ℕ) → nat_lt a b ≡ false → b ≤ a
 not-below a b off = elim (cases_lt a b) [ inl less ↦ absurd (let on : true ≡ false = sym (lt-ltb a b less) ∙ off in cc) | inr past ↦ past ]
 
+is-below : (a b : ℕ) → not (nat_lt a b) ≡ false → a < b
+is-below a b off = elim (cases_lt a b) [ inl less ↦ less | inr past ↦ absurd (let on : true ≡ false = sym (ap not (le-ltb a b past)) ∙ off in cc) ]
+
 -- each row group of a range is let through, or the first that is not is told
 off-range : (f : ℕ → Bool × Refusal) (a n : ℕ) → first_of (map f (range_with_len a n)) ≡ None → (k : ℕ) → a ≤ k → k < a + n → (f k).0 ≡ false
 off-range f a zero none k low high = absurd (omega (arith, low, high))
@@ -215,18 +226,6 @@ module _ {K : Type 0} (content : K → List ℕ) (r : Rows K) (are : AreRows con
       pub ints-part : ints_refusal r column from to ≡ None → map ints_lent (lent_ints content r column from to) ≡ map (piece_of column) (pieces_of places r.size from to)
       ints-part none = ints-by (slice_get r.slots column) refl none
 
-      -- each part of what can be lent of a column of texts can be lent
-      pub texts-part : (a b : ℕ) → from ≤ a → a ≤ b → b ≤ to → texts_refusal r column from to ≡ None → texts_refusal r column a b ≡ None
-      texts-part a b low between high none =
-          let known = first-off (no_column r column) _ none in
-          let kind = first-off (of_numbers r column) _ known.1 in
-          let range = first-off (no_range r from to) _ kind.1 in
-          let whole = range-within from to range.0 in
-          let long = length-places (cells_of content r) r.alive in
-          first-on (no_column r column) _ known.0 (first-on (of_numbers r column) _ kind.0 (first-on (no_range r a b) _
-          (rw (le-ltb b a between, le-ltb (length r.alive) b (omega (arith, high, whole.1, long))) refl)
-          (part-through (absent_in r column) r.size from to a b are.some low high range.1)))
-
 module _ {K : Type 0} (r : Rows K) (column from to : ℕ) where
   skips : (off : Bool) (cases : List (Bool × Refusal)) → off ≡ false → first_of (no_column r column ∷ (off, refusal.WrongKind) ∷ cases) ≡ first_of (no_column r column ∷ cases)
   skips off cases is = rw is refl
@@ -246,6 +245,19 @@ module _ {K : Type 0} (r : Rows K) (column from to : ℕ) where
     by : (found : Option Slot) → option_map kind_of found ≡ None → first_of ((is_none found, refusal.NoColumn) ∷ there) ≡ Some refusal.NoColumn
     by None none = refl
     by (Some s) none = absurd (none-some (kind_of s) (sym none))
+
+  -- each part of what can be lent of a column of texts can be lent
+  pub texts-part : 0 < r.size → (a b : ℕ) → from ≤ a → a ≤ b → b ≤ to → texts_refusal r column from to ≡ None → texts_refusal r column a b ≡ None
+  texts-part some a b low between high none =
+      let groups : ℕ → ℕ → List (Bool × Refusal) = λ m n. map (absent_in r column) (touched_groups r.size m n) in
+      let known = first-off (no_column r column) (of_numbers r column ∷ no_range r from to ∷ groups from to) none in
+      let kind = first-off (of_numbers r column) (no_range r from to ∷ groups from to) known.1 in
+      let range = first-off (no_range r from to) (groups from to) kind.1 in
+      let within = not-below (length r.alive) to (neither (nat_lt to from) (nat_lt (length r.alive) to) range.0).1 in
+      first-on (no_column r column) (of_numbers r column ∷ no_range r a b ∷ groups a b) known.0
+      (first-on (of_numbers r column) (no_range r a b ∷ groups a b) kind.0
+      (first-on (no_range r a b) (groups a b) (rw (le-ltb b a between, le-ltb (length r.alive) b (omega (arith, high, within))) refl)
+      (part-through (absent_in r column) r.size from to a b some low high range.1)))
 
   pub lends-low : lend_refusal r column from to ≡ None → from ≤ to
   lends-low none = not-below to from (neither (nat_lt to from) (nat_lt (length r.alive) to) (first-off (no_range r from to) (map (absent_in r column) (touched_groups r.size from to)) (first-off (no_column r column) there none).1).0).0
@@ -280,3 +292,84 @@ module _ (table : Table) (limits : AreLimits table.limits) (column from to : ℕ
   given-flags = ap (flat_map (λ piece. piece.flags)) (pieces-given (slice_get table.schema column) (lent_part table column from to) given gives)
       ∙ joined (λ piece. piece.flags) (λ place. place.alive) column (λ places. refl) (pieces_of table.places table.limits.group from to)
       ∙ ap flags_of all ∙ sym (flags-range column table.places from to)
+
+-- the rows of a table are those that hold its places
+pub record AreHeld {K : Type 0} (content : K → List ℕ) (held : Rows K) (table : Table) : Type 0 where
+  pub rows : AreRows content held
+  pub places : table.places ≡ places_in content held
+  pub size : held.size ≡ table.limits.group
+
+pub are-held : {K : Type 0} (content : K → List ℕ) (t : TableRows K) (held : Rows K) (inside s : LiveState K) → held ≡ t.held → AreRows content t.held → t.places ≡ places_in content t.held → t.held.size ≡ t.limits.group
+    → t.limits ≡ inside.table.limits → t.places ≡ inside.table.places → inside ≡ s → AreHeld content held s.table
+are-held {K} content t held inside s is are places even limits of view = record {
+  rows = subst (AreRows content) (sym is) are;
+  places = sym (ap (λ (u : LiveState K). u.table.places) view) ∙ sym of ∙ places ∙ ap (places_in content) (sym is);
+  size = ap (λ (r : Rows K). r.size) is ∙ even ∙ ap (λ (l : Limits). l.group) limits ∙ ap (λ (u : LiveState K). u.table.limits.group) view;
+}
+
+-- what rows lend, told of the places that they hold
+module _ {K : Type 0} (content : K → List ℕ) (held : Rows K) (table : Table) (are : AreHeld content held table) (column : ℕ) where
+  pub lent-ints : (from to : ℕ) (r : Result (List (Numbers × List Bool)) Refusal) → IfOk r (λ lents. lents ≡ lent_ints content held column from to) → refusal_in r ≡ ints_refusal held column from to
+      → IfOk r (λ lents. map ints_lent lents ≡ lent_part table column from to)
+  lent-ints from to (Ok lents) lent due = ap (map ints_lent) lent ∙ ints-part content held are.rows column from to (sym due) ∙ (λ i. map (piece_of column) (pieces_of (sym are.places i) (are.size i) from to))
+  lent-ints from to (Err e) lent due = lent
+
+  pub lent-texts : (from to : ℕ) (r : Result (List (Option (List ℕ) × Bool)) Refusal) → IfOk r (λ lent. option_map (λ (cells : List Cell). slice_range cells from to) (slice_get (cells_of content held) column) ≡ Some (map (λ (t : Option (List ℕ) × Bool). text_cell t.0) lent))
+      → IfOk r (λ lent. map (λ (cell : Option (List ℕ) × Bool). text_cell cell.0) lent ≡ part column from to table.places)
+  lent-texts from to (Ok lent) cells = part-read content held are.rows column from to (map (λ (t : Option (List ℕ) × Bool). text_cell t.0) lent) cells ∙ ap (part column from to) (sym are.places)
+  lent-texts from to (Err e) cells = cells
+
+  pub lent-flags : (from to : ℕ) (r : Result (List (Option (List ℕ) × Bool)) Refusal) → IfOk r (λ lent. map (λ (t : Option (List ℕ) × Bool). t.1) lent ≡ slice_range held.alive from to)
+      → IfOk r (λ lent. map (λ (t : Option (List ℕ) × Bool). t.1) lent ≡ slice_range (flags_of table.places) from to)
+  lent-flags from to (Ok lent) flags = flags ∙ flags-read content held are.rows column from to ∙ ap (λ (places : List Place). slice_range (flags_of places) from to) (sym are.places)
+  lent-flags from to (Err e) flags = flags
+
+  pub lent-text : {X : Type 0} (text_of : X → Option (List ℕ)) (place : ℕ) (r : Result X Refusal) → IfOk r (λ text. option_map (λ (cells : List Cell). slice_index_or cells place cell.Missing) (slice_get (cells_of content held) column) ≡ Some (text_cell (text_of text)))
+      → refusal_in r ≡ text_refusal held column place → IfOk r (λ text. slice_get (column_of column table.places) place ≡ Some (text_cell (text_of text)))
+  lent-text text_of place (Ok text) one due =
+      let known = first-off (no_column held column) (of_numbers held column ∷ no_row held place ∷ absent_in held column (place / held.size) ∷ []) (sym due) in
+      let kind = first-off (of_numbers held column) (no_row held place ∷ absent_in held column (place / held.size) ∷ []) known.1 in
+      let row = first-off (no_row held place) (absent_in held column (place / held.size) ∷ []) kind.1 in
+      ap (λ (places : List Place). slice_get (column_of column places) place) are.places ∙ cell-read content held are.rows column place (text_cell (text_of text)) (is-below place (length held.alive) row.0) one
+  lent-text text_of place (Err e) one due = one
+
+-- one more of what is lent is copied
+module _ {Y L : Type 0} (f : L → Y) (all : List Y) where
+  pub copied-more : (had new : List Y) (y : Y) (lents rest : List L) (x : L) → new ≡ had ++ y ∷ [] → lents ≡ x ∷ rest → y ≡ f x → had ++ map f lents ≡ all → new ++ map f rest ≡ all
+  copied-more had new y lents rest x more is same before =
+      ap (λ l. l ++ map f rest) more ∙ append_assoc had (y ∷ []) (map f rest) ∙ ap (λ z. had ++ z ∷ map f rest) same ∙ sym (ap (λ l. had ++ map f l) is) ∙ before
+
+  pub copied-all : (had : List Y) (lents : List L) → lents ≡ [] → had ++ map f lents ≡ all → had ≡ all
+  copied-all had lents none before = sym (append-nil had) ∙ sym (ap (λ l. had ++ map f l) none) ∙ before
+
+pub copies-pushed : {X Y : Type 0} (shown : X → Y) (had new : List X) (x : X) → new ≡ had ++ x ∷ [] → map shown new ≡ map shown had ++ shown x ∷ []
+copies-pushed shown had new x more = ap (map shown) more ∙ map-append shown had (x ∷ [])
+
+-- what is copied is what a lending replies
+pub lent-reply : {K : Type 0} (column from to : ℕ) (old new : State K) (given : Reply) (refuses : Refusal → Type 0) → Gives (slice_get old.table.schema column) (lent_part old.table column from to) given → lend_refusal old.rows column from to ≡ None
+    → AreSeen column (touched_groups old.rows.size from to) old new → Replies (λ served. IsLent column from to old served new) refuses given
+lent-reply column from to old new (reply.Ints copies) refuses gives due seen = record { due = due; says = gives; used = seen }
+lent-reply column from to old new (reply.Texts copies) refuses gives due seen = record { due = due; says = gives; used = seen }
+lent-reply column from to old new (reply.Place place) refuses gives due seen = absurd gives
+lent-reply column from to old new reply.Done refuses gives due seen = absurd gives
+lent-reply column from to old new (reply.Aggregate a) refuses gives due seen = absurd gives
+lent-reply column from to old new (reply.Answer answer) refuses gives due seen = absurd gives
+lent-reply column from to old new (reply.Job n) refuses gives due seen = absurd gives
+lent-reply column from to old new (reply.Next found) refuses gives due seen = absurd gives
+lent-reply column from to old new (reply.Refused why) refuses gives due seen = absurd gives
+
+-- a piece of texts more is copied
+module _ (column : ℕ) (places : List Place) (size : ℕ) (some : 0 < size) (start to : ℕ) (more : start < to) (all : List Piece) where
+  pub copied-texts-more : (had new : List TextPiece) (copy : TextPiece) (lent : List (Option (List ℕ) × Bool)) → new ≡ had ++ copy ∷ [] → text_piece copy ≡ texts_lent lent
+      → map (λ (cell : Option (List ℕ) × Bool). text_cell cell.0) lent ≡ part column start (min to ((start / size + 1) * size)) places → map (λ (cell : Option (List ℕ) × Bool). cell.1) lent ≡ slice_range (flags_of places) start (min to ((start / size + 1) * size))
+      → map text_piece had ++ map (piece_of column) (pieces_of places size start to) ≡ all → map text_piece new ++ map (piece_of column) (pieces_of places size (min to ((start / size + 1) * size)) to) ≡ all
+  copied-texts-more had new copy lent pushed same cells flags before =
+      let behind = map (piece_of column) (pieces_of places size (min to ((start / size + 1) * size)) to) in
+      ap (λ l. l ++ behind) (copies-pushed text_piece had new copy pushed)
+      ∙ append_assoc (map text_piece had) (text_piece copy ∷ []) behind
+      ∙ ap (λ one. map text_piece had ++ one ∷ behind) (same ∙ (λ i. record { cells = cells i; flags = flags i }))
+      ∙ ap (λ l. map text_piece had ++ l) (sym (lent-step size some column places start to more))
+      ∙ before
+
+  pub next-further : start < min to ((start / size + 1) * size)
+  next-further = further size some start to more

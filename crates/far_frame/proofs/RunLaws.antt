@@ -51,15 +51,15 @@ replied serves refuses (reply.Next found) f g h = f (reply.Next found) h
 
 -- a reply that is no refusal serves
 served : (serves : Reply → Type 0) (refuses : Refusal → Type 0) (given : Reply) → is_refused given ≡ false → Replies serves refuses given → serves given
-served serves refuses (reply.Refused why) no h = absurd (let on : true ≡ false = no in cc)
-served serves refuses (reply.Place place) no h = h
-served serves refuses reply.Done no h = h
-served serves refuses (reply.Aggregate a) no h = h
-served serves refuses (reply.Answer x) no h = h
-served serves refuses (reply.Ints pieces) no h = h
-served serves refuses (reply.Texts pieces) no h = h
-served serves refuses (reply.Job n) no h = h
-served serves refuses (reply.Next found) no h = h
+served serves refuses (reply.Refused why) is h = absurd (let on : true ≡ false = is in cc)
+served serves refuses (reply.Place place) is h = h
+served serves refuses reply.Done is h = h
+served serves refuses (reply.Aggregate a) is h = h
+served serves refuses (reply.Answer x) is h = h
+served serves refuses (reply.Ints pieces) is h = h
+served serves refuses (reply.Texts pieces) is h = h
+served serves refuses (reply.Job n) is h = h
+served serves refuses (reply.Next found) is h = h
 
 either : {A : Type 0} (b : Bool) (x y : A) → y ≡ x → y ≡ cond b x x
 either true x y h = h
@@ -101,9 +101,9 @@ module _ {K : Type 0} (content : K → List ℕ) (number_of : K → ℕ) where
   answer-built old a x new r h k = (answered old a x new r h k).0
 
   -- what is lent is that part of its column
-  module _ (old : World K) (limits : AreLimits old.state.table.limits) (column from to : ℕ) (given : Reply) (new : World K) (no : is_refused given ≡ false) (taken : IsStep content number_of old (step.Lend column from to) given new) where
+  module _ (old : World K) (limits : AreLimits old.state.table.limits) (column from to : ℕ) (given : Reply) (new : World K) (accepted : is_refused given ≡ false) (taken : IsStep content number_of old (step.Lend column from to) given new) where
     lent : IsLent column from to old.state given new.state
-    lent = served (λ served. IsLent column from to old.state served new.state) (λ why. Refuses old.state (step.Lend column from to) why new.state) given no taken.0
+    lent = served (λ served. IsLent column from to old.state served new.state) (λ why. Refuses old.state (step.Lend column from to) why new.state) given accepted taken.0
 
     pub lent-cells : flat_map (λ piece. piece.cells) (pieces_in given) ≡ part column from to old.state.table.places
     lent-cells = given-cells old.state.table limits column from to (lends-low old.state.rows column from to lent.due) given lent.says

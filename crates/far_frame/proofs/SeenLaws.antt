@@ -44,6 +44,9 @@ touched-next size from to some more = touched-step size some from to more ∙ ap
       let left : rest size some from to more ≡ 0 = elim (cases_lt (from / size) ((to - 1) / size)) [ inl later ↦ absurd (let over = rows size some from to more later in omega (arith, over, down, past, more)) | inr at ↦ omega (arith, at) ] in
       (ap (range_with_len (from / size + 1)) left ∙ ap (range_with_len (next / size)) (sym none)))
 
+pub touched-none : (size from to : ℕ) → to ≤ from → touched_groups size from to ≡ []
+touched-none size from to past = (let none : touched_count size from to ≡ 0 = rw (le-ltb from to past) refl in ap (range_with_len (from / size)) none)
+
 module _ {K : Type 0} (old : State K) (column group : ℕ) where
   abbrev used : Rows K
   used = option_map_or (touched old.rows) (object_at old.rows column group) old.rows

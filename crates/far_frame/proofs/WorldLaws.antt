@@ -1,11 +1,13 @@
 -- What always holds of a world holds after each step, and what is known where one is refused.
-use Rattle.std.proofs.Common.{◌≡◌, ℕ, Bool, true, false, cond, List, Option, Some, None, refl, sym, ap, subst, ◌∙◌, IfSome, IfErr, OnOk, OnErr, Result, IsSomeAnd}
+use Rattle.std.proofs.Common.{◌≡◌, ℕ, Bool, true, false, cond, List, Option, Some, None, refl, sym, ap, subst, ◌∙◌, IfSome, IfErr, OnOk, OnErr, Result, IsSomeAnd, ◌⊎◌, ◌↔◌, inl, inr}
+use Rattle.std.specs.Prelude.{IsErrOf}
 use Rattle.std.specs.declared.result.Result.TheVariants.{Ok, Err}
 use Rattle.std.specs.Map.{lookup}
 use Rattle.std.specs.Ordering.{nat_cmp}
 use Rattle.std.proofs.lemmas.Map.Views.{All-values-insert_entry, All-values-set_value, All-map-remove_entry, IfSome-lookup_from_All}
 use Rattle.far_aggregates.specs.Aggregates.{joined}
 use Rattle.far_types.specs.declared.refusal.Refusal.{Refusal}
+use Rattle.far_types.specs.declared.refusal.Refusal.TheVariants as refusal
 use Rattle.far_types.specs.MayRefuse.{MayRefuse}
 use Rattle.far_rows.specs.Jobs.{AreAt}
 use Rattle.far_frame.specs.State.{State}
@@ -24,6 +26,23 @@ same-some x y h = cc
 pub due-may : (due : Option Refusal) (e : Refusal) → Some e ≡ due → MayRefuse due true e
 due-may (Some d) e h = same-some e d h
 due-may None e h = absurd (none-is-some e (sym h))
+
+no-stale : {A : Type 0} (e : Refusal) (r : Result A Refusal) → r ≡ Err e → e ≡ refusal.NoMemory → r ≡ Err refusal.StaleJob → ⊥
+no-stale e r is m s = (let same = sym is ∙ s in cc)
+
+no-full : {A : Type 0} (e : Refusal) (r : Result A Refusal) → r ≡ Err e → e ≡ refusal.NoMemory → r ≡ Err refusal.RegionFull → ⊥
+no-full e r is m s = (let same = sym is ∙ s in cc)
+
+-- why an install is refused, want of memory too
+pub install-refused : {A : Type 0} (r : Result A Refusal) (accepted roomless : Type 0) → (IsErrOf r refusal.StaleJob ↔ (¬ accepted)) → (IsErrOf r refusal.RegionFull ↔ (accepted × roomless)) → IfErr r (λ e. (e ≡ refusal.StaleJob) ⊎ ((e ≡ refusal.RegionFull) ⊎ (e ≡ refusal.NoMemory)))
+    → IfErr r (λ e. ((e ≡ refusal.StaleJob) × ¬ accepted) ⊎ (((e ≡ refusal.RegionFull) × accepted × roomless) ⊎ ((e ≡ refusal.NoMemory) × ¬ (¬ accepted) × ¬ roomless)))
+install-refused (Ok done) accepted roomless stale full is = is
+install-refused (Err e) accepted roomless stale full (inl s) = inl (s, stale.0 (ap Err s))
+install-refused (Err e) accepted roomless stale full (inr (inl f)) = (let both = full.0 (ap Err f) in inr (inl (f, both.0, both.1)))
+install-refused {A} (Err e) accepted roomless stale full (inr (inr m)) =
+    let r : Result A Refusal = Err e in
+    let let_in : ¬ (¬ accepted) = λ no. no-stale e r refl m (stale.1 no) in
+    inr (inr (m, let_in, λ none. let_in (λ may. no-full e r refl m (full.1 (may, none)))))
 
 module _ {K : Type 0} (is_of : K → List ℕ → Type 0) (name : List ℕ) where
   abbrev IsHere : Option (JobRecord K) → Type 0

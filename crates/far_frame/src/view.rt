@@ -1,5 +1,5 @@
 // The rows of a table, lent in place.
-ghost use Rattle.std.specs.Prelude.{◌≡◌, ◌<◌, ◌≤◌, ◌/◌, ℕ, None, Some, length, map, option_map, option_copied, slice_get, slice_range, IfOk, OnOk};
+ghost use Rattle.std.specs.Prelude.{◌≡◌, ◌<◌, ◌≤◌, ◌/◌, ◌^◌, ℕ, None, Some, length, map, option_map, option_copied, slice_get, slice_range, IfOk, OnOk};
 ghost use Rattle.far_types.specs.FirstOf.{first_of};
 ghost use Rattle.far_scopes.specs.Refusing.{refusal_in};
 ghost use Rattle.far_types.specs.Lent.{text_cell};
@@ -105,6 +105,19 @@ impl<'a, S: FarTickets> View<'a, S> {
         // It tells that the kinds are those of the columns.
         let _held = rows.held();
         rows.schema().get(column as usize)
+    }
+
+    /// How many places a row group has. Takes no memory.
+    pub(crate) fn size(&self) -> usize
+        ensures rows { result ≡ self.now.rows.size }
+        ensures limit { result ≡ self.now.table.limits.group }
+        ensures some { 0 < result }
+        ensures small { result ≤ 2 ^ 16 }
+    {
+        let rows = self.table.rows();
+        // It tells that the rows are cut as the limits say.
+        let _held = rows.held();
+        rows.limits().group as usize
     }
 
     /// The numbers of the places `from` up to `to` of a column, lent in place with the flags of their places: a piece for each row

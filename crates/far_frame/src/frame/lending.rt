@@ -1,5 +1,5 @@
 // What was read of a table lately, and what to fetch next by it.
-ghost use Rattle.std.specs.Prelude.{◌≡◌, ℕ, List, None, [], ◌∷◌, IfOk, IfErr, OnOk, OnErr};
+ghost use Rattle.std.specs.Prelude.{◌≡◌, ℕ, List, true, None, [], ◌∷◌, IfOk, IfErr, OnOk, OnErr};
 ghost use Rattle.far_types.specs.MayRefuse.{MayRefuse};
 ghost use Rattle.far_scopes.specs.Refusing.{refusal_in};
 ghost use Rattle.far_vector.specs.Pieces.{touched};
@@ -40,10 +40,10 @@ impl<S: FarTickets> Frame<S> {
 
     /// Remembers the row groups that have places `from` up to `to` of a column, in order, and uses their objects. Takes no memory.
     pub(crate) fn see(&mut self, column: u32, from: u32, to: u32)
-        ensures seen { AreSeen column (touched self.old.table.limits.group from to) self.old self.new }
+        ensures seen { AreSeen column (touched self.old.rows.size from to) self.old self.new }
         ensures here { (name : List ℕ) → AreAt S.is_of name self.old.rows → AreAt S.is_of name self.new.rows }
     {
-        let size = self.limits().group as usize;
+        let size = self.scope().size();
         let mut place = from as usize;
         while place < to as usize {
             let group = place / size;

@@ -100,24 +100,26 @@ fn copied_texts<S: FarTickets>(
     let view = frame.scope();
     // Whether all of it is here is asked before anything is copied.
     view.texts(column, from, to)?;
-    let size = frame.limits().group as usize;
+    let size = view.size();
     let mut copies = Vec::new(alloc);
     let mut start = from;
     while start < to {
         let end = (to as usize).min((start as usize / size + 1) * size) as u32;
-        let texts = view.texts(column, start, end)?;
-        copies.push(copy_texts(alloc, texts)?)?;
+        let mut texts = view.texts(column, start, end)?;
+        copies.push(copy_texts(alloc, &mut texts)?)?;
         start = end;
     }
     Ok(copies)
 }
 
 /// Copies a piece of texts. Refused with `NoMemory` (1) alone.
-fn copy_texts<S: FarTickets>(alloc: Global, lent: TextCells<'_, S>) -> Result<TextPiece, Refusal>
-    ensures copy { IfOk result (λ copy. text_piece copy ≡ texts_lent lent) }
+fn copy_texts<S: FarTickets>(
+    alloc: Global,
+    lent: &mut TextCells<'_, S>,
+) -> Result<TextPiece, Refusal>
+    ensures copy { IfOk result (λ copy. text_piece copy ≡ texts_lent lent.old) }
     ensures memory { IfErr result (λ e. e ≡ Refusal.NoMemory) }
 {
-    let mut lent = lent;
     let mut values = Vec::new(alloc);
     let mut flags = Vec::new(alloc);
     while let Some(cell) = lent.next() {
@@ -129,7 +131,7 @@ fn copy_texts<S: FarTickets>(alloc: Global, lent: TextCells<'_, S>) -> Result<Te
 
 /// Copies a text, if there is one. Refused with `NoMemory` (1) alone.
 fn copy_text(alloc: Global, text: Option<&str>) -> Result<Option<Text>, Refusal>
-    ensures copy { IfOk result (λ copy. copy ≡ option_copied text) }
+    ensures copy { IfOk result (λ copy. copy ≡ option_copied text.entry) }
     ensures memory { IfErr result (λ e. e ≡ Refusal.NoMemory) }
 {
     match text {

@@ -1,21 +1,25 @@
-use Rattle.std.proofs.Common.{ℕ, List, ◌≡◌, OnOk, IfErr, refl, subst}
+use Rattle.std.proofs.Common.{ℕ, List, OnOk, IfErr, refl, subst}
 use Rattle.far_types.specs.declared.edit.Edit.TheVariants as edit
 use Rattle.far_rows.specs.Jobs.{AreAt}
-use Rattle.far_table.specs.Live.{IsEdited}
-use Rattle.far_table.specs.State.{State}
-use Rattle.far_frame.specs.Changes.{Refuses}
+use Rattle.far_frame.specs.Changes.{Accepts, Refuses}
+use Rattle.far_frame.specs.State.{State}
 use Rattle.far_frame.specs.declared.step.Step.TheVariants as step
 use Rattle.far_frame.specs.declared.step.Reply.TheVariants as reply
-use Rattle.far_frame.proofs.FrameLaws.{on-ok}
+use Rattle.far_frame.proofs.FrameLaws.{on-ok, refused, remembering}
 use Rattle.far_frame.proofs.frame.Frame.set.Goals as goal
 
 pub returns-clause-ok : goal.returns-clause-ok
 returns-clause-ok g c =
-    subst (λ (old : State g.row.S-Ticket.Denot). OnOk c.set.result ((reply.Done ≡ reply.Done) × IsEdited g.S.FarTickets.content old (edit.Set c.args.place c.args.column c.args.cell) c.set.new.self)) c.self.view_is
-    (on-ok c.set.result (λ edited. (refl, edited)) c.set.ensures.ok)
+    let new = remembering c.self.inside.prefetcher c.set.new.self in
+    subst (λ (old : State g.row.S-Ticket.Denot). OnOk c.set.result (Accepts g.S.FarTickets.content old (step.Edit (edit.Set c.args.place c.args.column c.args.cell)) reply.Done new)) c.self.view_is
+    (on-ok c.set.result (λ edited. (refl, record { changed = edited; seen = refl })) c.set.ensures.ok)
 
 pub returns-clause-err : goal.returns-clause-err
-returns-clause-err g c = subst (λ (old : State g.row.S-Ticket.Denot). IfErr c.set.result (λ e. Refuses old (step.Edit (edit.Set c.args.place c.args.column c.args.cell)) e c.set.new.self)) c.self.view_is c.set.ensures.err
+returns-clause-err g c =
+    let inside = c.self.inside in
+    let asked = step.Edit (edit.Set c.args.place c.args.column c.args.cell) in
+    subst (λ (old : State g.row.S-Ticket.Denot). IfErr c.set.result (λ e. Refuses old asked e (remembering inside.prefetcher c.set.new.self))) c.self.view_is
+    (refused inside.prefetcher inside.table c.set.new.self asked c.set.result c.set.ensures.err)
 
 pub returns-clause-here : goal.returns-clause-here
 returns-clause-here g c =

@@ -1,0 +1,15 @@
+use Rattle.std.proofs.Common.{List, Option, subst, sym}
+use Rattle.std.specs.Prelude.{IfSome}
+use Rattle.std.proofs.lemmas.List.Elements.{All-nil}
+use Rattle.far_frame.specs.Jobs.{JobRecord, IsJobAt}
+use Rattle.far_frame.specs.Waiting.{AreJobsAt}
+use Rattle.far_frame.proofs.world.World.migrate.Goals as goal
+
+pub invariant_of-result : goal.invariant_of-result
+invariant_of-result g c =
+    let is_of = g.N.FarTickets.is_of in
+    let name = g.N.FarTickets.name c.args.new_store in
+    record {
+      rows_at = c.in-Ok.ensures.there;
+      jobs_at = subst (AreJobsAt is_of name) (sym c.new.ensures) (All-nil (λ (job : Option (JobRecord g.row.N-Ticket.Denot)). IfSome job (IsJobAt is_of name)));
+    }
