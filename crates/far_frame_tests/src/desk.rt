@@ -37,7 +37,7 @@ pub struct Desk<'a, S: FarStore> {
 
 impl<'a, S: FarStore> Model for Desk<'a, S> {
     ghost use Rattle.far_rows.specs.Jobs.{AreAt};
-    ghost use Rattle.far_table.specs.State.{State};
+    ghost use Rattle.far_frame.specs.State.{State};
 
     ghost Value = { State S.Ticket };
 

@@ -1,9 +1,9 @@
-//! Jobs as steps of a world, over stores that fail or are full.
+//! Lendings and jobs as steps of a world, over stores that fail or are full, and worlds that go on with another store.
 use crate::answers::is_answer;
 use crate::script::answered;
 use crate::values::spec;
 use far_fixtures::agent;
-use far_frame::{Frame, Reply, Step, World};
+use far_frame::{Frame, IntPiece, Reply, Step, World};
 use far_store::{FarStore, FaultyStore};
 use far_types::{Answer, Cell, Edit, Fold, Kind, Limits, Refusal, Row, Schema};
 use std::alloc::Global;
@@ -20,6 +20,10 @@ enum Call {
     Carry(u64),
     Commit(u64),
     Install(u64),
+    /// The places of column 0 from the first number up to the second.
+    Lend(u32, u32),
+    /// What to fetch next of column 0.
+    Prefetch,
 }
 
 /// The reply that is due.
@@ -30,6 +34,9 @@ enum Due {
     Place(u32),
     Total(i128, i128),
     Job(u64),
+    /// These numbers, joined, of places that are alive.
+    Lent(&'static [i64]),
+    Next(&'static [u32]),
     Refused(Refusal),
 }
 
@@ -78,6 +85,57 @@ static FULL: [(Call, Due); 7] = [
     (Call::Insert(8), Due::Place(3)),
 ];
 
+/// The rows are lent in turn, so the row group behind them is proposed once it is there.
+static STRIDE: [(Call, Due); 11] = [
+    (Call::Insert(8), Due::Place(3)),
+    (Call::Insert(9), Due::Place(4)),
+    (Call::Insert(10), Due::Place(5)),
+    (Call::Insert(11), Due::Place(6)),
+    (Call::Lend(1, 4), Due::Lent(&[6, 7, 8])),
+    (Call::Lend(4, 6), Due::Lent(&[9, 10])),
+    (Call::Prefetch, Due::Next(&[])),
+    (Call::Lend(6, 7), Due::Lent(&[11])),
+    (Call::Lend(7, 7), Due::Lent(&[])),
+    (Call::Insert(12), Due::Place(7)),
+    (Call::Insert(13), Due::Place(8)),
+];
+
+/// Of the row groups behind the last that was lent one is there.
+static PROPOSED: [(Call, Due); 2] = [
+    (Call::Prefetch, Due::Next(&[4])),
+    (Call::Lend(8, 10), Due::Refused(Refusal::OutOfRange)),
+];
+
+/// The first row group is away.
+static AWAY: [(Call, Due); 3] = [
+    (Call::Evac(0), Due::Job(0)),
+    (Call::Carry(0), Due::Done),
+    (Call::Commit(0), Due::Done),
+];
+
+/// Nothing of it is lent, and the table answers.
+static STAYED: [(Call, Due); 2] = [
+    (Call::Ask, Due::Total(3, 18)),
+    (Call::Lend(1, 3), Due::Refused(ABSENT)),
+];
+
+/// It comes back from the store that the world went on with; the numbers of jobs go on.
+static WENT_ON: [(Call, Due); 7] = [
+    (Call::Ask, Due::Total(3, 18)),
+    (Call::Commit(0), Due::Refused(Refusal::StaleJob)),
+    (Call::Evac(1), Due::Job(1)),
+    (Call::Fetch(0), Due::Job(2)),
+    (Call::Carry(2), Due::Done),
+    (Call::Install(2), Due::Done),
+    (Call::Lend(0, 3), Due::Lent(&[5, 6, 7])),
+];
+
+/// The object of the first row group is away.
+const ABSENT: Refusal = Refusal::Absent {
+    column: 0,
+    group: 0,
+};
+
 fn insert(alloc: Global, number: i64) -> Result<Step, Refusal> {
     let cells = Vec::from_array(alloc, [Cell::Int(number)])?;
     Ok(Step::Edit(Edit::Insert(Row::new(cells))))
@@ -93,11 +151,41 @@ fn step(alloc: Global, call: Call) -> Result<Step, Refusal> {
         Call::Carry(job) => Step::Carry(job),
         Call::Commit(job) => Step::Commit(job),
         Call::Install(job) => Step::Install(job),
+        Call::Lend(from, to) => Step::Lend {
+            column: 0,
+            from,
+            to,
+        },
+        Call::Prefetch => Step::Prefetch(0),
     })
 }
 
 fn is_total(answer: &Answer, count: i128, sum: i128) -> bool {
     is_answer(answer, &[(None, count, sum)])
+}
+
+/// How many of some numbers are these, from one on; `None` where they are others. All of them are of places that are alive.
+fn found(piece: &IntPiece, numbers: &[i64], at: usize) -> Option<usize> {
+    let mut at = at;
+    for (value, flag) in piece.values.iter().zip(piece.flags.iter()) {
+        if !*flag || *value != Some(*numbers.get(at)?) {
+            return None;
+        }
+        at += 1;
+    }
+    Some(at)
+}
+
+/// Whether some pieces are these numbers, joined.
+fn are_numbers(pieces: &[IntPiece], numbers: &[i64]) -> bool {
+    let mut at = 0;
+    for piece in pieces {
+        let Some(next) = found(piece, numbers, at) else {
+            return false;
+        };
+        at = next;
+    }
+    at == numbers.len()
 }
 
 fn is_reply(reply: &Reply, due: Due) -> bool {
@@ -107,6 +195,8 @@ fn is_reply(reply: &Reply, due: Due) -> bool {
         (Reply::Aggregate(given), Due::Aggregate(a)) => *given == a,
         (Reply::Answer(answer), Due::Total(count, sum)) => is_total(answer, count, sum),
         (Reply::Job(given), Due::Job(job)) => *given == job,
+        (Reply::Ints(pieces), Due::Lent(numbers)) => are_numbers(pieces.as_slice(), numbers),
+        (Reply::Next(given), Due::Next(groups)) => given.as_slice() == groups,
         (Reply::Refused(given), Due::Refused(refusal)) => *given == refusal,
         _ => false,
     }
@@ -187,4 +277,75 @@ fn a_fetch_that_met_a_fault_is_repeated(rt: HostRuntime) -> Result<(), Fail> {
 fn an_object_stays_where_the_store_is_full(rt: HostRuntime) -> Result<(), Fail> {
     let store = agent(&rt, 1)?;
     answered(first_other_over(rt.alloc(), store, &FULL))
+}
+
+/// A world in which these calls had the replies that are due.
+fn served<S: FarStore>(
+    alloc: Global,
+    world: World<S>,
+    calls: &[(Call, Due)],
+) -> Result<World<S>, Refusal> {
+    let mut world = world;
+    match first_other(alloc, &mut world, calls)? {
+        None => Ok(world),
+        Some(_) => Err(Refusal::StaleJob),
+    }
+}
+
+/// A world that was handed back because the store that it should go on with is full.
+fn handed_back<S: FarStore, F: FarStore>(world: World<S>, full: F) -> Result<World<S>, Refusal> {
+    if world.faults() > 9 {
+        return Err(Refusal::FarFault);
+    }
+    match world.migrate(full) {
+        Err((Refusal::FarFull, world)) => Ok(world),
+        Err((refusal, _)) => Err(refusal),
+        Ok(_) => Err(Refusal::StaleJob),
+    }
+}
+
+/// A world that went on with another store.
+fn gone_on<S: FarStore, N: FarStore>(world: World<S>, store: N) -> Result<World<N>, Refusal> {
+    if world.faults() > 9 {
+        return Err(Refusal::FarFault);
+    }
+    match world.migrate(store) {
+        Ok(world) => Ok(world),
+        Err((refusal, _)) => Err(refusal),
+    }
+}
+
+/// The table with a row group away, which was handed back once.
+fn stayed<S: FarStore, F: FarStore>(alloc: Global, store: S, full: F) -> Result<World<S>, Refusal> {
+    let rows = served(alloc, world(alloc, store)?, &ROWS)?;
+    let away = served(alloc, rows, &AWAY)?;
+    served(alloc, handed_back(away, full)?, &STAYED)
+}
+
+/// The first step that has another reply than is due, once the table went on with another store.
+fn first_other_moved<S: FarStore, N: FarStore>(
+    alloc: Global,
+    world: World<S>,
+    store: N,
+) -> Result<Option<usize>, Refusal> {
+    let mut world = gone_on(world, store)?;
+    first_other(alloc, &mut world, &WENT_ON)
+}
+
+#[test]
+fn a_world_goes_on_with_another_store(rt: HostRuntime) -> Result<(), Fail> {
+    let world = stayed(rt.alloc(), agent(&rt, 4)?, agent(&rt, 0)?)?;
+    answered(first_other_moved(rt.alloc(), world, agent(&rt, 4)?))
+}
+
+/// The first step that has another reply than is due, after the table was lent in turn.
+fn first_other_proposed<S: FarStore>(alloc: Global, store: S) -> Result<Option<usize>, Refusal> {
+    let rows = served(alloc, world(alloc, store)?, &ROWS)?;
+    let mut world = served(alloc, rows, &STRIDE)?;
+    first_other(alloc, &mut world, &PROPOSED)
+}
+
+#[test]
+fn parts_are_lent_in_turn_and_the_next_is_proposed(rt: HostRuntime) -> Result<(), Fail> {
+    answered(first_other_proposed(rt.alloc(), agent(&rt, 4)?))
 }
