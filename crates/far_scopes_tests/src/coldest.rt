@@ -1,34 +1,30 @@
 // The object that goes away first: worked examples.
-use crate::script::{Call, Room, Step, TWO_OF_FOUR, first_wrong, made};
-use std::test::Fail;
+use crate::script::{Call, Room, Step, TWO_OF_FOUR, all_come_out};
 
 #[test]
-fn the_hot_object_used_longest_ago_goes_first_where_all_are_hot(
-    rt: HostRuntime,
-) -> Result<(), Fail> {
-    let steps = [
-        made(0, &[1]),
-        made(1, &[2]),
+fn the_hot_object_used_longest_ago_goes_first_where_all_are_hot(rt: HostRuntime) {
+    static STEPS: &[Step] = &[
+        Step::Made(0, &[1]),
+        Step::Made(1, &[2]),
         Step::Coldest(Some(0)),
         Step::Touch(0),
         Step::Coldest(Some(1)),
         Step::Do(Call::Pin(1)),
         Step::Coldest(Some(0)),
     ];
-    assert!(rt; first_wrong(&rt, TWO_OF_FOUR, &steps)?.is_none());
-    Ok(())
+    assert!(rt; all_come_out(&rt, TWO_OF_FOUR, STEPS));
 }
 
 #[test]
-fn a_cold_object_goes_before_a_hot_one_and_a_pinned_one_stays(rt: HostRuntime) -> Result<(), Fail> {
-    let three_of_two = Room {
+fn a_cold_object_goes_before_a_hot_one_and_a_pinned_one_stays(rt: HostRuntime) {
+    const THREE_OF_TWO: Room = Room {
         segments: 3,
         size: 2,
         changes: 2,
     };
-    let steps = [
-        made(0, &[1, 2]),
-        made(1, &[3, 4]),
+    static STEPS: &[Step] = &[
+        Step::Made(0, &[1, 2]),
+        Step::Made(1, &[3, 4]),
         Step::Do(Call::Compact(1)),
         Step::Coldest(Some(1)),
         Step::Do(Call::Pin(1)),
@@ -36,17 +32,14 @@ fn a_cold_object_goes_before_a_hot_one_and_a_pinned_one_stays(rt: HostRuntime) -
         Step::Do(Call::Pin(0)),
         Step::Coldest(None),
     ];
-    assert!(rt; first_wrong(&rt, three_of_two, &steps)?.is_none());
-    Ok(())
+    assert!(rt; all_come_out(&rt, THREE_OF_TWO, STEPS));
 }
 
 #[test]
-fn the_cold_object_used_longest_ago_goes_first_and_none_where_all_are_pinned(
-    rt: HostRuntime,
-) -> Result<(), Fail> {
-    let steps = [
-        made(0, &[1, 2]),
-        made(1, &[3, 4]),
+fn the_cold_object_used_longest_ago_goes_first_and_none_where_all_are_pinned(rt: HostRuntime) {
+    static STEPS: &[Step] = &[
+        Step::Made(0, &[1, 2]),
+        Step::Made(1, &[3, 4]),
         Step::Touch(0),
         Step::Do(Call::Compact(0)),
         Step::Coldest(Some(1)),
@@ -54,6 +47,5 @@ fn the_cold_object_used_longest_ago_goes_first_and_none_where_all_are_pinned(
         Step::Do(Call::Pin(1)),
         Step::Coldest(None),
     ];
-    assert!(rt; first_wrong(&rt, TWO_OF_FOUR, &steps)?.is_none());
-    Ok(())
+    assert!(rt; all_come_out(&rt, TWO_OF_FOUR, STEPS));
 }

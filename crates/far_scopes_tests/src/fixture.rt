@@ -4,22 +4,11 @@ ghost use Rattle.far_codec.specs.PlainNumbers.{plain_meaning};
 ghost use Rattle.far_scopes.specs.Movement.{AreHere, is_local, list_of};
 
 use crate::again::create;
-use far_fixtures::{agent, no_objects, put};
+use far_fixtures::{no_objects, put};
 use far_scopes::{ObjectLimits, Objects};
-use far_store::{AgentStore, FarStore, FarTickets};
+use far_store::{FarStore, FarTickets};
 use far_types::Refusal;
 use std::alloc::Global;
-
-/// What a call returns to which a new store of four contents is lent.
-pub fn with_agent<'r, R, F: FnOnce(Global, &AgentStore<&'r HostRuntime>) -> Result<R, Refusal>>(
-    rt: &'r HostRuntime,
-    call: F,
-) -> Result<R, Refusal>
-    requires { F.IsAlwaysCallable call }
-{
-    let store = agent(rt, 4)?;
-    call(rt.alloc(), &store)
-}
 
 /// No object, in two segments of four numbers; two writes and one leaving each.
 pub fn empty<S: FarTickets>(alloc: Global, store: &S) -> Result<Objects<i64, S>, Refusal>

@@ -10,6 +10,8 @@ mod coming;
 #[cfg(test)]
 mod compacting;
 #[cfg(test)]
+mod example;
+#[cfg(test)]
 mod fixture;
 #[cfg(test)]
 mod moving;

@@ -2,21 +2,26 @@
 ghost use Rattle.std.specs.Prelude.{◌≡◌, []};
 
 use crate::again::arrive;
-use crate::fixture::{create_away, empty, has, with_agent};
+use crate::example::{Example, is_so};
+use crate::fixture::{create_away, empty, has};
 use far_scopes::Objects;
 use far_store::FarStore;
 use far_types::Refusal;
 use std::alloc::Global;
-use std::test::Fail;
 
-/// Why an object that went away is not lent.
-fn refused_away<S: FarStore>(alloc: Global, store: &S) -> Result<Option<Refusal>, Refusal> {
+/// Whether an object that went away is not lent since it is absent under its name.
+pub fn is_absent<S: FarStore>(alloc: Global, store: &S) -> Result<bool, Refusal> {
     let mut objects = empty(alloc, store)?;
     create_away(alloc, store, &mut objects, &[1, 2])?;
-    Ok(objects.lend(0).err())
+    Ok(objects.lend(0).err() == Some(ABSENT))
 }
 
-fn came_back_clean<S: FarStore>(alloc: Global, store: &S) -> Result<bool, Refusal> {
+const ABSENT: Refusal = Refusal::Absent {
+    column: 0,
+    group: 3,
+};
+
+pub fn came_back_clean<S: FarStore>(alloc: Global, store: &S) -> Result<bool, Refusal> {
     is_clean_once_back(alloc, store, &mut empty(alloc, store)?)
 }
 
@@ -35,20 +40,11 @@ fn is_clean_once_back<S: FarStore>(
 }
 
 #[test]
-fn an_object_that_went_away_is_absent_under_its_name(rt: HostRuntime) -> Result<(), Fail> {
-    let refused = with_agent(&rt, |alloc, store| refused_away(alloc, store))?;
-    assert!(rt;
-        refused
-            == Some(Refusal::Absent {
-                column: 0,
-                group: 3,
-            })
-    );
-    Ok(())
+fn an_object_that_went_away_is_absent_under_its_name(rt: HostRuntime) {
+    assert!(rt; is_so(&rt, rt.alloc(), Example::IsAbsent));
 }
 
 #[test]
-fn an_object_that_came_back_is_clean_and_has_its_list(rt: HostRuntime) -> Result<(), Fail> {
-    assert!(rt; with_agent(&rt, |alloc, store| came_back_clean(alloc, store))?);
-    Ok(())
+fn an_object_that_came_back_is_clean_and_has_its_list(rt: HostRuntime) {
+    assert!(rt; is_so(&rt, rt.alloc(), Example::CameBackClean));
 }

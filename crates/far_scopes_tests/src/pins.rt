@@ -2,17 +2,18 @@
 ghost use Rattle.std.specs.Prelude.{◌≡◌, [], length, OnOk};
 
 use crate::again::{create, enter};
-use crate::fixture::{create_two, empty, with_agent};
-use crate::script::{Call, Step, TWO_OF_FOUR, first_wrong, made};
+use crate::example::{Example, is_so};
+use crate::fixture::{create_two, empty};
+use crate::script::{Call, Step, TWO_OF_FOUR, all_come_out};
 use far_fixtures::put;
 use far_scopes::Objects;
 use far_store::{FarStore, FarTickets};
 use far_types::Refusal;
 use std::alloc::Global;
-use std::test::Fail;
 
-fn pins_given_back<S: FarTickets>(alloc: Global, store: &S) -> Result<u32, Refusal> {
-    pins_of_a_scope(alloc, &mut empty(alloc, store)?)
+/// Whether a scope gives back a pin for each of its three listings.
+pub fn pins_are_given_back<S: FarTickets>(alloc: Global, store: &S) -> Result<bool, Refusal> {
+    Ok(pins_of_a_scope(alloc, &mut empty(alloc, store)?)? == 3)
 }
 
 /// How many pins two objects give back that were pinned together, the first of them twice.
@@ -27,13 +28,11 @@ fn pins_of_a_scope<S: FarTickets>(
     Ok(objects.close(scope))
 }
 
-fn entered_with_one_away<S: FarStore>(
-    alloc: Global,
-    store: &S,
-) -> Result<(Option<Refusal>, u32), Refusal> {
+/// Whether a scope over an object that is away leaves no pin.
+pub fn no_pin_is_left<S: FarStore>(alloc: Global, store: &S) -> Result<bool, Refusal> {
     let mut objects = empty(alloc, store)?;
     send_second_away(alloc, store, &mut objects)?;
-    Ok(refused_scope(alloc, &mut objects))
+    Ok(is_refused(alloc, &mut objects))
 }
 
 /// Makes two objects, and sends the second away.
@@ -53,48 +52,41 @@ fn send_second_away<S: FarStore>(
     Ok(())
 }
 
-/// Why two objects are not pinned together, and how many pins the first has then.
-fn refused_scope<S: FarTickets>(
-    alloc: Global,
-    objects: &mut Objects<i64, S>,
-) -> (Option<Refusal>, u32)
+/// Whether two objects are not pinned together, since the second is absent, and the first has no pin then.
+fn is_refused<S: FarTickets>(alloc: Global, objects: &mut Objects<i64, S>) -> bool
     requires { length objects.old.entries ≡ 2 }
 {
     match enter(alloc, objects, &[0, 1]) {
         Ok(scope) => {
             objects.close(scope);
-            (None, objects.pins(0))
+            false
         }
-        Err(refusal) => (Some(refusal), objects.pins(0)),
+        Err(refusal) => refusal == ABSENT && objects.pins(0) == 0,
     }
 }
 
+const ABSENT: Refusal = Refusal::Absent {
+    column: 0,
+    group: 1,
+};
+
 #[test]
-fn a_scope_gives_back_a_pin_for_each_listing(rt: HostRuntime) -> Result<(), Fail> {
-    let pins = with_agent(&rt, |alloc, store| pins_given_back(alloc, store))?;
-    assert!(rt; pins == 3);
-    Ok(())
+fn a_scope_gives_back_a_pin_for_each_listing(rt: HostRuntime) {
+    assert!(rt; is_so(&rt, rt.alloc(), Example::PinsAreGivenBack));
 }
 
 #[test]
-fn an_object_takes_65535_pins(rt: HostRuntime) -> Result<(), Fail> {
-    let steps = [
-        made(0, &[1]),
+fn an_object_takes_65535_pins(rt: HostRuntime) {
+    static STEPS: &[Step] = &[
+        Step::Made(0, &[1]),
         Step::Do(Call::PinOften(0, 65_535)),
         Step::Pins(0, 65_535),
         Step::Refused(Call::Pin(0), Refusal::EditsUsedUp),
     ];
-    assert!(rt; first_wrong(&rt, TWO_OF_FOUR, &steps)?.is_none());
-    Ok(())
+    assert!(rt; all_come_out(&rt, TWO_OF_FOUR, STEPS));
 }
 
 #[test]
-fn a_scope_over_an_object_that_is_away_leaves_no_pin(rt: HostRuntime) -> Result<(), Fail> {
-    let (refused, pins) = with_agent(&rt, |alloc, store| entered_with_one_away(alloc, store))?;
-    let absent = Refusal::Absent {
-        column: 0,
-        group: 1,
-    };
-    assert!(rt; refused == Some(absent) && pins == 0);
-    Ok(())
+fn a_scope_over_an_object_that_is_away_leaves_no_pin(rt: HostRuntime) {
+    assert!(rt; is_so(&rt, rt.alloc(), Example::NoPinIsLeft));
 }

@@ -4,14 +4,14 @@ ghost use Rattle.far_codec.specs.PlainNumbers.{plain_meaning};
 ghost use Rattle.far_scopes.specs.Movement.{AreHere, is_local, list_of};
 
 use crate::again::{arrive, create, renewal, replace};
+use crate::example::{Renewing, is_so_renewed, is_so_with_a_fault};
 use crate::fixture::{create_away, empty, has};
 use far_codec::Elem;
-use far_fixtures::{agent, put};
+use far_fixtures::put;
 use far_scopes::Objects;
-use far_store::{AgentStore, FarStore, FaultyStore, Meter};
+use far_store::{FarStore, Meter};
 use far_types::Refusal;
 use std::alloc::Global;
-use std::test::Fail;
 
 /// What is known of an object beside its list.
 #[derive(Drop, PartialEq)]
@@ -40,35 +40,6 @@ impl Seen {
     }
 }
 
-/// What a call returns to which a store of four contents is lent, and a new one of `capacity`.
-fn with_agents<
-    'r,
-    R,
-    F: FnOnce(
-        Global,
-        &AgentStore<&'r HostRuntime>,
-        &AgentStore<&'r HostRuntime>,
-    ) -> Result<R, Refusal>,
->(rt: &'r HostRuntime, capacity: u64, call: F) -> Result<R, Refusal>
-    requires { F.IsAlwaysCallable call }
-{
-    let store = agent(rt, 4)?;
-    let new_store = agent(rt, capacity)?;
-    call(rt.alloc(), &store, &new_store)
-}
-
-/// What a call returns to which a store of four contents is lent whose first read fails.
-fn with_a_fault<
-    'r,
-    R,
-    F: FnOnce(Global, &FaultyStore<AgentStore<&'r HostRuntime>>) -> Result<R, Refusal>,
->(rt: &'r HostRuntime, call: F) -> Result<R, Refusal>
-    requires { F.IsAlwaysCallable call }
-{
-    let store = FaultyStore::new(agent(rt, 4)?, 0, 1);
-    call(rt.alloc(), &store)
-}
-
 /// The objects, whose far copies are in another store from then on.
 fn moved<S: FarStore, N: FarStore>(
     alloc: Global,
@@ -84,24 +55,30 @@ fn moved<S: FarStore, N: FarStore>(
     Ok(objects.renew(renewal))
 }
 
-/// The list that an object has in its store.
-fn list_in_store<S: FarStore>(
+/// Whether an object has this list in its store.
+fn has_in_store<S: FarStore>(
     alloc: Global,
     store: &S,
     objects: &Objects<i64, S>,
     o: u32,
-) -> Result<Option<Vec<i64>>, Refusal>
+    list: &[i64],
+) -> Result<bool, Refusal>
     requires within { o < length objects.now.entries }
     requires here { AreHere S.is_of (S.name store.now) objects.now }
 {
-    let Some(ticket) = objects.ticket(o) else {
-        return Ok(None);
-    };
-    let bytes = content_of(alloc, store, ticket)?;
-    match i64::unspell(alloc, &bytes) {
-        Err(_) => i64::unspell(alloc, &bytes),
-        reply => reply,
+    match objects.ticket(o) {
+        Some(ticket) => is_spelled(alloc, &content_of(alloc, store, ticket)?, list),
+        None => Ok(false),
     }
+}
+
+/// Whether these bytes are the far form of a list, read a second time where the first finds no memory.
+fn is_spelled(alloc: Global, bytes: &[u8], list: &[i64]) -> Result<bool, Refusal> {
+    let spelled = match i64::unspell(alloc, bytes) {
+        Err(_) => i64::unspell(alloc, bytes)?,
+        Ok(spelled) => spelled,
+    };
+    Ok(spelled.as_deref() == Some(list))
 }
 
 /// The content of a ticket, read a second time where the first is refused memory.
@@ -155,7 +132,7 @@ fn both_away<S: FarStore>(alloc: Global, store: &S) -> Result<Objects<i64, S>, R
 }
 
 /// Whether these two objects have rising numbers in a new store.
-fn are_put_in_order<S: FarStore, N: FarStore>(
+pub fn are_put_in_order<S: FarStore, N: FarStore>(
     alloc: Global,
     store: &S,
     new_store: &N,
@@ -207,22 +184,31 @@ fn first_written<S: FarStore>(alloc: Global, store: &S) -> Result<Objects<i64, S
     Ok(objects)
 }
 
-/// The first of these after a renewal; whether it has its list; and which goes away first then.
-fn written_and_pinned<S: FarStore, N: FarStore>(
+/// Whether the first of these has its list, its writes and its pin after a renewal, and the second goes away first then.
+pub fn is_kept<S: FarStore, N: FarStore>(
     alloc: Global,
     store: &S,
     new_store: &N,
-) -> Result<(Seen, bool, Option<u32>), Refusal> {
+) -> Result<bool, Refusal> {
     let objects = moved(alloc, first_written(alloc, store)?, store, new_store)?;
-    Ok(first_of_three(&objects))
+    Ok(first_is_kept(&objects))
 }
 
-fn first_of_three<S: FarStore>(objects: &Objects<i64, S>) -> (Seen, bool, Option<u32>)
+fn first_is_kept<S: FarStore>(objects: &Objects<i64, S>) -> bool
     requires { length objects.now.entries ≡ 3 }
 {
-    let has_list = has(objects, 0, &[9, 9]);
-    (Seen::of(objects, 0), has_list, objects.coldest())
+    let is_seen = Seen::of(objects, 0) == WRITTEN_AND_PINNED;
+    is_seen && has(objects, 0, &[9, 9]) && objects.coldest() == Some(1)
 }
+
+const WRITTEN_AND_PINNED: Seen = Seen {
+    version: 2,
+    leavings: 0,
+    pins: 1,
+    dirty: true,
+    hot: true,
+    has_ticket: false,
+};
 
 /// An object of this list that is away.
 fn one_away<S: FarStore>(alloc: Global, store: &S, list: &[i64]) -> Result<Objects<i64, S>, Refusal>
@@ -238,26 +224,35 @@ fn one_away<S: FarStore>(alloc: Global, store: &S, list: &[i64]) -> Result<Objec
     Ok(objects)
 }
 
-/// An object that is away, before and after a renewal.
-fn away<S: FarStore, N: FarStore>(
+/// Whether an object that is away is the same before and after a renewal.
+pub fn is_same<S: FarStore, N: FarStore>(
     alloc: Global,
     store: &S,
     new_store: &N,
-) -> Result<[Seen; 2], Refusal> {
+) -> Result<bool, Refusal> {
     let objects = one_away(alloc, store, &[3])?;
-    let before = Seen::of(&objects, 0);
+    let was_seen = Seen::of(&objects, 0) == AWAY;
     let objects = moved(alloc, objects, store, new_store)?;
-    Ok([before, Seen::of(&objects, 0)])
+    Ok(was_seen && Seen::of(&objects, 0) == AWAY)
 }
 
-/// The list in a new store of an object that is away.
-fn list_away<S: FarStore, N: FarStore>(
+const AWAY: Seen = Seen {
+    version: 0,
+    leavings: 1,
+    pins: 0,
+    dirty: false,
+    hot: false,
+    has_ticket: true,
+};
+
+/// Whether an object that is away has its list in the new store.
+pub fn is_read<S: FarStore, N: FarStore>(
     alloc: Global,
     store: &S,
     new_store: &N,
-) -> Result<Option<Vec<i64>>, Refusal> {
+) -> Result<bool, Refusal> {
     let objects = moved(alloc, one_away(alloc, store, &[3])?, store, new_store)?;
-    list_in_store(alloc, new_store, &objects, 0)
+    has_in_store(alloc, new_store, &objects, 0, &[3])
 }
 
 /// An object of 3 that went away and came back.
@@ -271,28 +266,51 @@ fn one_back<S: FarStore>(alloc: Global, store: &S) -> Result<Objects<i64, S>, Re
     Ok(objects)
 }
 
-/// An object that went away and came back, before and after a renewal, and whether it has its list then.
-fn back<S: FarStore, N: FarStore>(
+/// Whether an object that went away and came back is clean, and is dirty after a renewal and has its list.
+pub fn is_dirty_once_back<S: FarStore, N: FarStore>(
     alloc: Global,
     store: &S,
     new_store: &N,
-) -> Result<([Seen; 2], bool), Refusal> {
+) -> Result<bool, Refusal> {
     let objects = one_back(alloc, store)?;
-    let before = Seen::of(&objects, 0);
+    let was_clean = is_clean(&Seen::of(&objects, 0));
     let objects = moved(alloc, objects, store, new_store)?;
-    Ok(([before, Seen::of(&objects, 0)], has(&objects, 0, &[3])))
+    let is_dirty = is_dirty_and_hot(&Seen::of(&objects, 0));
+    Ok(was_clean && is_dirty && has(&objects, 0, &[3]))
 }
 
-/// Why two renewals of an object that is away are refused, if they are, and how many faults were met.
-fn refused_twice<S: FarStore, N: FarStore>(
+fn is_clean(seen: &Seen) -> bool {
+    seen.has_ticket && !seen.dirty
+}
+
+fn is_dirty_and_hot(seen: &Seen) -> bool {
+    !seen.has_ticket && seen.dirty && seen.hot && seen.leavings == 1
+}
+
+/// Whether two renewals of an object that is away are refused, since the new store is full, with no fault.
+pub fn is_full<S: FarStore, N: FarStore>(
     alloc: Global,
     store: &S,
     new_store: &N,
-) -> Result<([Option<Refusal>; 2], u64), Refusal> {
-    Ok(refused_renewals(alloc, &one_away(alloc, store, &[3])?, store, new_store))
+) -> Result<bool, Refusal> {
+    let objects = one_away(alloc, store, &[3])?;
+    let refused = [Some(Refusal::FarFull); 2];
+    Ok(renews(alloc, &objects, store, new_store) == (refused, 0))
 }
 
-fn refused_renewals<S: FarStore, N: FarStore>(
+/// Whether a renewal that met a fault can be made again.
+pub fn is_served_again<S: FarStore, N: FarStore>(
+    alloc: Global,
+    store: &S,
+    new_store: &N,
+) -> Result<bool, Refusal> {
+    let objects = one_away(alloc, store, &[3])?;
+    let refused = [Some(Refusal::FarFault), None];
+    Ok(renews(alloc, &objects, store, new_store) == (refused, 1))
+}
+
+/// Why two renewals are refused, if they are, and how many faults were met.
+fn renews<S: FarStore, N: FarStore>(
     alloc: Global,
     objects: &Objects<i64, S>,
     store: &S,
@@ -307,83 +325,36 @@ fn refused_renewals<S: FarStore, N: FarStore>(
 }
 
 #[test]
-fn a_renewal_keeps_writes_pins_and_the_order_of_use(rt: HostRuntime) -> Result<(), Fail> {
-    let (seen, has_list, coldest) = with_agents(&rt, 0, |alloc, store, new_store| {
-        written_and_pinned(alloc, store, new_store)
-    })?;
-    let wanted = Seen {
-        version: 2,
-        leavings: 0,
-        pins: 1,
-        dirty: true,
-        hot: true,
-        has_ticket: false,
-    };
-    assert!(rt; seen == wanted && has_list && coldest == Some(1));
-    Ok(())
+fn a_renewal_keeps_writes_pins_and_the_order_of_use(rt: HostRuntime) {
+    assert!(rt; is_so_renewed(&rt, rt.alloc(), 0, Renewing::IsKept));
 }
 
 #[test]
-fn an_object_that_is_away_is_the_same_in_a_new_store(rt: HostRuntime) -> Result<(), Fail> {
-    let [before, after] = with_agents(&rt, 1, |alloc, store, new_store| {
-        away(alloc, store, new_store)
-    })?;
-    let wanted = Seen {
-        version: 0,
-        leavings: 1,
-        pins: 0,
-        dirty: false,
-        hot: false,
-        has_ticket: true,
-    };
-    assert!(rt; before == wanted && after == wanted);
-    Ok(())
+fn an_object_that_is_away_is_the_same_in_a_new_store(rt: HostRuntime) {
+    assert!(rt; is_so_renewed(&rt, rt.alloc(), 1, Renewing::IsSame));
 }
 
 #[test]
-fn an_object_that_is_away_has_its_content_in_the_new_store(rt: HostRuntime) -> Result<(), Fail> {
-    let list = with_agents(&rt, 1, |alloc, store, new_store| {
-        list_away(alloc, store, new_store)
-    })?;
-    assert!(rt; list.as_deref() == Some([3].as_slice()));
-    Ok(())
+fn an_object_that_is_away_has_its_content_in_the_new_store(rt: HostRuntime) {
+    assert!(rt; is_so_renewed(&rt, rt.alloc(), 1, Renewing::IsRead));
 }
 
 #[test]
-fn contents_are_put_by_rising_object_number(rt: HostRuntime) -> Result<(), Fail> {
-    let rise = with_agents(&rt, 4, |alloc, store, new_store| {
-        are_put_in_order(alloc, store, new_store)
-    })?;
-    assert!(rt; rise);
-    Ok(())
+fn contents_are_put_by_rising_object_number(rt: HostRuntime) {
+    assert!(rt; is_so_renewed(&rt, rt.alloc(), 4, Renewing::ArePutInOrder));
 }
 
 #[test]
-fn a_clean_object_is_dirty_in_a_new_store(rt: HostRuntime) -> Result<(), Fail> {
-    let ([before, after], has_list) = with_agents(&rt, 0, |alloc, store, new_store| {
-        back(alloc, store, new_store)
-    })?;
-    assert!(rt; before.has_ticket && !before.dirty);
-    assert!(rt; !after.has_ticket && after.dirty && after.hot && after.leavings == 1);
-    assert!(rt; has_list);
-    Ok(())
+fn a_clean_object_is_dirty_in_a_new_store(rt: HostRuntime) {
+    assert!(rt; is_so_renewed(&rt, rt.alloc(), 0, Renewing::IsDirtyOnceBack));
 }
 
 #[test]
-fn a_renewal_into_a_full_store_is_refused(rt: HostRuntime) -> Result<(), Fail> {
-    let (refused, faults) = with_agents(&rt, 0, |alloc, store, new_store| {
-        refused_twice(alloc, store, new_store)
-    })?;
-    assert!(rt; refused == [Some(Refusal::FarFull); 2] && faults == 0);
-    Ok(())
+fn a_renewal_into_a_full_store_is_refused(rt: HostRuntime) {
+    assert!(rt; is_so_renewed(&rt, rt.alloc(), 0, Renewing::IsFull));
 }
 
 #[test]
-fn a_renewal_that_met_a_fault_can_be_made_again(rt: HostRuntime) -> Result<(), Fail> {
-    let (refused, faults) = with_a_fault(&rt, |alloc, store| {
-        let new_store = agent(&rt, 1)?;
-        refused_twice(alloc, store, &new_store)
-    })?;
-    assert!(rt; refused == [Some(Refusal::FarFault), None] && faults == 1);
-    Ok(())
+fn a_renewal_that_met_a_fault_can_be_made_again(rt: HostRuntime) {
+    assert!(rt; is_so_with_a_fault(&rt, rt.alloc(), Renewing::IsServedAgain));
 }

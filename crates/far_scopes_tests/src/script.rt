@@ -6,7 +6,7 @@ use crate::fixture::has;
 use far_fixtures::{agent, no_objects};
 use far_pointer::{At, Pointer};
 use far_scopes::{ObjectLimits, Objects, Replacement};
-use far_store::{AgentStore, FarTickets};
+use far_store::FarTickets;
 use far_types::Refusal;
 use std::alloc::Global;
 
@@ -43,6 +43,8 @@ pub enum Call<'a> {
 /// What is done, or asked for, and what must come of it.
 #[derive(Clone, Copy, Drop)]
 pub enum Step<'a> {
+    /// An object of this list is made, of the row group with its number, which is this.
+    Made(u32, &'a [i64]),
     /// The call is served.
     Do(Call<'a>),
     /// The call is refused so.
@@ -69,15 +71,6 @@ pub enum Step<'a> {
     Space(usize),
     /// The segments are made for so many numbers.
     Capacity(usize),
-}
-
-/// Makes the object with this number, of the row group with that number.
-pub fn made<'a>(number: u32, list: &'a [i64]) -> Step<'a> {
-    Step::Do(Call::Create {
-        number,
-        group: number,
-        list,
-    })
 }
 
 /// The segments of a script, how many numbers each takes, and how often an object may be written.
@@ -109,33 +102,34 @@ pub const TWO_OF_FOUR: Room = Room {
     changes: 2,
 };
 
-/// The first step of a script that does not come out, beginning with no object.
-pub fn first_wrong(rt: &HostRuntime, room: Room, steps: &[Step]) -> Result<Option<usize>, Refusal> {
-    let store: AgentStore<&HostRuntime> = agent(rt, 0)?;
-    first_wrong_in(rt.alloc(), &store, room, steps)
+/// Whether each step of a script comes out, beginning with no object.
+pub fn all_come_out(rt: &HostRuntime, room: Room, steps: &[Step]) -> bool {
+    match agent(rt, 0) {
+        Ok(store) => all_come_out_in(rt.alloc(), &store, room, steps) == Ok(true),
+        Err(_) => false,
+    }
 }
 
-fn first_wrong_in<S: FarTickets>(
+fn all_come_out_in<S: FarTickets>(
     alloc: Global,
     store: &S,
     room: Room,
     steps: &[Step],
-) -> Result<Option<usize>, Refusal> {
-    let mut objects = no_objects(alloc, store, room.limits())?;
-    play(alloc, &mut objects, steps)
+) -> Result<bool, Refusal> {
+    play(alloc, &mut no_objects(alloc, store, room.limits())?, steps)
 }
 
 fn play<S: FarTickets>(
     alloc: Global,
     objects: &mut Objects<i64, S>,
     steps: &[Step],
-) -> Result<Option<usize>, Refusal> {
-    for (i, step) in steps.iter().enumerate() {
+) -> Result<bool, Refusal> {
+    for step in steps {
         if !comes_out(alloc, objects, step)? {
-            return Ok(Some(i));
+            return Ok(false);
         }
     }
-    Ok(None)
+    Ok(true)
 }
 
 /// Whether a step comes out.
@@ -145,6 +139,7 @@ fn comes_out<S: FarTickets>(
     step: &Step,
 ) -> Result<bool, Refusal> {
     match *step {
+        Step::Made(number, list) => created(objects, number, list),
         Step::Do(call) => served(alloc, objects, call),
         Step::Refused(call, refusal) => Ok(make(alloc, objects, call) == Err(refusal)),
         Step::Uncreate => uncreate(objects),
@@ -167,6 +162,16 @@ fn is_so<S: FarTickets>(objects: &Objects<i64, S>, step: &Step) -> bool {
         Step::Capacity(capacity) => objects.capacity() == capacity,
         _ => false,
     }
+}
+
+/// Makes an object of the row group with its number.
+fn created<S: FarTickets>(
+    objects: &mut Objects<i64, S>,
+    number: u32,
+    list: &[i64],
+) -> Result<bool, Refusal> {
+    create_as(objects, number, number, list)?;
+    Ok(true)
 }
 
 /// Makes a call that is served.

@@ -31,9 +31,11 @@ pub fn answer_of_put_of<S: FarStore>(store: &S, alloc: Global, bytes: &[u8]) -> 
 
 // Whether puts are answered so, one after another.
 pub fn answers_puts<S: FarStore>(store: &S, alloc: Global, wanted: &[Answer]) -> bool {
-    wanted
-        .iter()
-        .all(|answer| answer_of_put(store, alloc) == *answer)
+    let mut all = true;
+    for answer in wanted {
+        all &= answer_of_put(store, alloc) == *answer;
+    }
+    all
 }
 
 // Why a put was not accepted, in the three ways that there are.
@@ -92,12 +94,12 @@ pub fn answers_gets<S: FarRead>(
 
 // Whether the gets of what a first put gave a ticket for are as wanted.
 pub fn answers_gets_of_one<S: FarStore>(
-    store: S,
+    store: &S,
     alloc: Global,
     wanted: Gets<'_>,
 ) -> Result<bool, Refusal> {
     let ticket = store.put(alloc, &mut Meter::new(), &[1, 2])?;
-    Ok(answers_gets(&store, alloc, &ticket, wanted))
+    Ok(answers_gets(store, alloc, &ticket, wanted))
 }
 
 // Whether a get reads these bytes and meets no fault.
@@ -128,12 +130,17 @@ pub fn round_trip<S: FarStore>(store: &S, alloc: Global, bytes: &[u8]) -> Result
 }
 
 // Whether so many contents of one byte are got as they were put.
-pub fn serves<S: FarStore>(store: S, alloc: Global, count: u8) -> Result<bool, Refusal> {
+pub fn serves<S: FarStore>(store: &S, alloc: Global, count: u8) -> Result<bool, Refusal> {
     let mut served = true;
     for n in 0..count {
-        served &= round_trip(&store, alloc, &[n])?.as_slice() == [n].as_slice();
+        served &= is_served(store, alloc, n)?;
     }
     Ok(served)
+}
+
+fn is_served<S: FarStore>(store: &S, alloc: Global, byte: u8) -> Result<bool, Refusal> {
+    let read = round_trip(store, alloc, &[byte])?;
+    Ok(read.as_slice() == [byte].as_slice())
 }
 
 // A content moves from one store to another.
@@ -208,13 +215,10 @@ pub fn gets_all<S: FarStore>(
 ) -> Result<u64, Refusal>
     requires { All (λ t. S.is_of t (S.name store.now)) tickets.now }
 {
-    let mut buffer = Vec::new(alloc);
     let mut right = 0;
     let mut n = 0;
     for ticket in tickets {
-        let mut meter = Meter::new();
-        store.get(alloc, &mut meter, ticket, &mut buffer)?;
-        if buffer.as_slice() == nth_content(thread, n).as_slice() {
+        if reads(store, alloc, ticket, &nth_content(thread, n))? {
             right += 1;
         }
         n += 1;

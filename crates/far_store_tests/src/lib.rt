@@ -18,3 +18,5 @@ mod planned_engine;
 mod scarce_store;
 #[cfg(test)]
 mod shelf_store;
+#[cfg(test)]
+mod trial;

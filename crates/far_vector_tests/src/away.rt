@@ -5,14 +5,14 @@ ghost use Rattle.far_scopes.specs.Movement.{list_of};
 ghost use Rattle.far_vector.specs.Vector.{Vector, IsVector};
 
 use crate::again::push;
-use crate::fixture::{filled, room_for_four, with_agent};
+use crate::example::{Example, is_so};
+use crate::fixture::filled;
 use far_fixtures::{Element, put};
 use far_scopes::Objects;
 use far_store::{FarStore, FarTickets};
 use far_types::Refusal;
 use far_vector::FarVector;
 use std::alloc::Global;
-use std::test::Fail;
 
 /// Sends an object away, where it may leave: every object keeps its list.
 fn send_away<T: Element, S: FarStore>(
@@ -98,46 +98,37 @@ fn last_of_five_away<S: FarStore>(
     Ok(vector)
 }
 
-fn refused_in<S: FarStore>(
+/// Whether all calls on the last are refused, since its object is absent.
+pub fn refused_in<S: FarStore>(
     alloc: Global,
     objects: &mut Objects<i64, S>,
     store: &S,
-) -> Result<[Option<Refusal>; 6], Refusal> {
+) -> Result<bool, Refusal> {
     let mut vector = last_of_five_away(alloc, objects, store)?;
-    Ok(all_refused(&mut vector, objects, 6))
+    Ok(all_refused(&mut vector, objects, 6) == [Some(ABSENT); 6])
 }
 
-fn refused_away<S: FarStore>(alloc: Global, store: &S) -> Result<[Option<Refusal>; 6], Refusal> {
-    refused_in(alloc, &mut room_for_four(alloc, store)?, store)
-}
+const ABSENT: Refusal = Refusal::Absent {
+    column: 0,
+    group: 1,
+};
 
-/// The fourth of five numbers, of which the last is away.
-fn read_in<S: FarStore>(
+/// Whether the fourth of five numbers is read, of which the last is away.
+pub fn read_in<S: FarStore>(
     alloc: Global,
     objects: &mut Objects<i64, S>,
     store: &S,
-) -> Result<i64, Refusal> {
-    last_of_five_away(alloc, objects, store)?.get(objects, 3)
-}
-
-fn read_beside<S: FarStore>(alloc: Global, store: &S) -> Result<i64, Refusal> {
-    read_in(alloc, &mut room_for_four(alloc, store)?, store)
+) -> Result<bool, Refusal> {
+    let vector = last_of_five_away(alloc, objects, store)?;
+    Ok(vector.get(objects, 3)? == 4)
 }
 
 #[test]
-fn calls_on_elements_of_which_the_object_is_away_are_refused(rt: HostRuntime) -> Result<(), Fail> {
-    let refused = with_agent(&rt, |alloc, store| refused_away(alloc, store))?;
-    let absent = Refusal::Absent {
-        column: 0,
-        group: 1,
-    };
-    assert!(rt; refused == [Some(absent); 6]);
-    Ok(())
+fn calls_on_elements_of_which_the_object_is_away_are_refused(rt: HostRuntime) {
+    assert!(rt; is_so(&rt, rt.alloc(), Example::RefusedAway));
 }
 
 #[test]
-fn an_element_of_another_object_is_read(rt: HostRuntime) -> Result<(), Fail> {
-    let fourth = with_agent(&rt, |alloc, store| read_beside(alloc, store))?;
-    assert!(rt; fourth == 4);
-    Ok(())
+fn an_element_of_another_object_is_read(rt: HostRuntime) {
+    assert!(rt; is_so(&rt, rt.alloc(), Example::ReadBeside));
 }

@@ -5,23 +5,12 @@ ghost use Rattle.far_vector.specs.Vector.{IsVector};
 
 use crate::again::{no_elements, push};
 use far_codec::Elem;
-use far_fixtures::{Element, agent, no_objects};
+use far_fixtures::{Element, no_objects};
 use far_scopes::{ObjectLimits, Objects};
-use far_store::{AgentStore, FarTickets};
+use far_store::FarTickets;
 use far_types::Refusal;
 use far_vector::FarVector;
 use std::alloc::Global;
-
-/// What a call returns to which a new store of four contents is lent.
-pub fn with_agent<'r, R, F: FnOnce(Global, &AgentStore<&'r HostRuntime>) -> Result<R, Refusal>>(
-    rt: &'r HostRuntime,
-    call: F,
-) -> Result<R, Refusal>
-    requires { F.IsAlwaysCallable call }
-{
-    let store = agent(rt, 4)?;
-    call(rt.alloc(), &store)
-}
 
 /// No object, in four segments of four elements; five writes and one leaving each.
 pub fn room_for_four<T: Elem, S: FarTickets>(

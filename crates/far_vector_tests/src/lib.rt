@@ -6,6 +6,8 @@ mod again;
 #[cfg(test)]
 mod away;
 #[cfg(test)]
+mod example;
+#[cfg(test)]
 mod fixture;
 #[cfg(test)]
 mod pushing;

@@ -2,14 +2,14 @@
 ghost use Rattle.far_scopes.specs.Movement.{list_of};
 ghost use Rattle.far_vector.specs.Vector.{IsVector};
 
-use crate::fixture::{filled, one_to_five, room_for_four, with_agent};
+use crate::example::{Example, is_so};
+use crate::fixture::{filled, one_to_five};
 use far_fixtures::{Element, no_objects};
 use far_scopes::{ObjectLimits, Objects};
 use far_store::FarTickets;
 use far_types::Refusal;
 use far_vector::FarVector;
 use std::alloc::Global;
-use std::test::Fail;
 
 /// Why a part that crosses row groups is refused.
 fn crossing<T: Element, S: FarTickets>(
@@ -31,17 +31,14 @@ fn past_the_end<T: Element, S: FarTickets>(
     vector.pieces(objects, 0, 6).err()
 }
 
-/// The same of five numbers, in row groups of four.
-fn out_of_range_in<S: FarTickets>(
+/// Whether both are, of five numbers in row groups of four.
+pub fn out_of_range_in<S: FarTickets>(
     alloc: Global,
     objects: &mut Objects<Option<i64>, S>,
-) -> Result<[Option<Refusal>; 2], Refusal> {
+) -> Result<bool, Refusal> {
     let vector = filled(alloc, objects, Some(0), &one_to_five())?;
-    Ok([crossing(&vector, objects), past_the_end(&vector, objects)])
-}
-
-fn out_of_range<S: FarTickets>(alloc: Global, store: &S) -> Result<[Option<Refusal>; 2], Refusal> {
-    out_of_range_in(alloc, &mut room_for_four(alloc, store)?)
+    let refused = [crossing(&vector, objects), past_the_end(&vector, objects)];
+    Ok(refused == [Some(Refusal::OutOfRange); 2])
 }
 
 /// Why an element that may be written once is not written a second time, and an empty part is not refused.
@@ -61,38 +58,34 @@ fn written_twice<T: Element, S: FarTickets>(
     ])
 }
 
-/// The same of a number.
-fn used_up_in<S: FarTickets>(
+/// Whether a number is written once, and an empty part is not refused.
+pub fn used_up_in<S: FarTickets>(
     alloc: Global,
     objects: &mut Objects<i64, S>,
-) -> Result<[Option<Refusal>; 3], Refusal> {
+) -> Result<bool, Refusal> {
     let vector = filled(alloc, objects, 0, &[1])?;
-    written_twice(&vector, objects, 2, 3)
+    Ok(written_twice(&vector, objects, 2, 3)? == [USED_UP, USED_UP, None])
 }
 
-fn used_up<S: FarTickets>(alloc: Global, store: &S) -> Result<[Option<Refusal>; 3], Refusal> {
+const USED_UP: Option<Refusal> = Some(Refusal::EditsUsedUp);
+
+/// No object, in four segments of four numbers; one write and one leaving each.
+pub fn writable_once<S: FarTickets>(alloc: Global, store: &S) -> Result<Objects<i64, S>, Refusal> {
     let limits = ObjectLimits {
         segments: 4,
         size: 4,
         changes: 1,
         leavings: 1,
     };
-    used_up_in(alloc, &mut no_objects(alloc, store, limits)?)
+    no_objects(alloc, store, limits)
 }
 
 #[test]
-fn what_is_past_the_end_or_crosses_row_groups_is_refused(rt: HostRuntime) -> Result<(), Fail> {
-    let refused = with_agent(&rt, |alloc, store| out_of_range(alloc, store))?;
-    assert!(rt; refused == [Some(Refusal::OutOfRange); 2]);
-    Ok(())
+fn what_is_past_the_end_or_crosses_row_groups_is_refused(rt: HostRuntime) {
+    assert!(rt; is_so(&rt, rt.alloc(), Example::OutOfRange));
 }
 
 #[test]
-fn a_row_group_that_was_written_as_often_as_it_may_be_is_not_written(
-    rt: HostRuntime,
-) -> Result<(), Fail> {
-    let refused = with_agent(&rt, |alloc, store| used_up(alloc, store))?;
-    let used_up = Some(Refusal::EditsUsedUp);
-    assert!(rt; refused == [used_up, used_up, None]);
-    Ok(())
+fn a_row_group_that_was_written_as_often_as_it_may_be_is_not_written(rt: HostRuntime) {
+    assert!(rt; is_so(&rt, rt.alloc(), Example::UsedUp));
 }

@@ -4,14 +4,14 @@ ghost use Rattle.far_scopes.specs.Movement.{list_of};
 ghost use Rattle.far_vector.specs.Vector.{IsVector};
 ghost use Rattle.far_vector.specs.Refusing.{write_part_refusal};
 
-use crate::fixture::{filled, one_to_five, room_for_four, with_agent};
+use crate::example::{Example, is_so};
+use crate::fixture::{filled, one_to_five};
 use far_fixtures::Element;
 use far_scopes::Objects;
 use far_store::FarTickets;
 use far_types::Refusal;
 use far_vector::FarVector;
 use std::alloc::Global;
-use std::test::Fail;
 
 /// Writes an element over the first of a part that may be written, which leaves the vector one.
 fn overwrite<T: Element, S: FarTickets>(
@@ -47,14 +47,14 @@ fn write_both<T: Element, S: FarTickets>(
     Ok(())
 }
 
-/// The last of five numbers once 6 is written over it in place, and the first once 9 is set there.
-fn written_in<S: FarTickets>(
+/// Whether the last of five numbers is 6 once that is written over it in place, and the first 9 once that is set there.
+pub fn written_in<S: FarTickets>(
     alloc: Global,
     objects: &mut Objects<Option<i64>, S>,
-) -> Result<[Option<i64>; 2], Refusal> {
+) -> Result<bool, Refusal> {
     let vector = filled(alloc, objects, Some(0), &one_to_five())?;
     write_both(&vector, objects, Some(6), Some(9))?;
-    ends(&vector, objects)
+    Ok(ends(&vector, objects)? == [Some(6), Some(9)])
 }
 
 /// The last of five elements and the first.
@@ -67,13 +67,7 @@ fn ends<T: Element, S: FarTickets>(
     Ok([vector.get(objects, 4)?, vector.get(objects, 0)?])
 }
 
-fn written<S: FarTickets>(alloc: Global, store: &S) -> Result<[Option<i64>; 2], Refusal> {
-    written_in(alloc, &mut room_for_four(alloc, store)?)
-}
-
 #[test]
-fn a_part_that_is_written_in_place_shows_in_the_vector(rt: HostRuntime) -> Result<(), Fail> {
-    let written = with_agent(&rt, |alloc, store| written(alloc, store))?;
-    assert!(rt; written == [Some(6), Some(9)]);
-    Ok(())
+fn a_part_that_is_written_in_place_shows_in_the_vector(rt: HostRuntime) {
+    assert!(rt; is_so(&rt, rt.alloc(), Example::Written));
 }
