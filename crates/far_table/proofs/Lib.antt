@@ -18,3 +18,6 @@ mod LiveTaking
 mod LiveScanning
 mod Moved
 mod LiveMoved
+mod Copied
+mod Tickets
+mod Merging

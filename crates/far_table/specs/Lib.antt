@@ -5,3 +5,5 @@ pub mod Groups
 pub mod Live
 pub mod Watching
 pub mod Moving
+pub mod Offloading
+pub mod FarGroups
