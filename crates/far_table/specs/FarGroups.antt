@@ -1,4 +1,4 @@
--- A row group whose columns are at hand as a build got them from the far store, as it is lent to aggregates.
+-- internal: a row group whose columns were read from the far store for an offloaded build, as it is lent to aggregates.
 use Rattle.std.specs.Prelude.{◌≡◌, ◌<◌, ℕ, Bool, true, List, map, IsSomeAnd}
 use Rattle.far_types.specs.declared.spec.Spec.{Spec}
 use Rattle.far_types.specs.Bounds.{needs}

@@ -1,4 +1,4 @@
--- Builds of row groups into aggregates from the far store's copies: what they hold, how they begin, and when they are accepted.
+-- Offloaded builds: what they hold, how they begin, and when they are accepted.
 use Rattle.std.specs.Prelude.{◌≡◌, ℕ, ◌+◌, ◌==◌, ◌&&◌, not, Bool, true, nat_lt, cond, List, [], ◌∷◌, Option, None, Some, is_none, option_map, All, IsSomeAnd}
 use Rattle.std.specs.List.{find}
 use Rattle.std.specs.Option.{option_and_then}

@@ -1,4 +1,4 @@
-// What was read of the far store for a build.
+// Contents that were read from the far store for an offloaded build.
 ghost use Rattle.std.specs.Prelude.{◌≡◌, ◌==◌, ◌+◌, ◌<◌, ◌^◌, [], ◌∷◌, IfOk, option_map};
 ghost use Rattle.std.specs.List.{find};
 ghost use Rattle.far_store.specs.Faults.{faults_in, RefusedBy};
@@ -10,7 +10,7 @@ use far_types::Refusal;
 use std::alloc::Global;
 use std::marker::Model;
 
-/// A content of the far store: the number of its column, and its bytes. Contracts see both.
+/// A content of the far store: the index of its column, and its bytes. Contracts see both.
 #[derive(Drop)]
 pub(crate) struct Content {
     column: u32,
@@ -25,7 +25,7 @@ impl Model for Content {
     ghost view = { λ content. (content.column, content.form.items) };
 }
 
-/// The content of a column, of some contents. Takes no memory.
+/// The content of a column, among these. Allocates nothing.
 pub(crate) fn content_for(contents: &[Content], column: u32) -> Option<&[u8]>
     ensures { option_map (λ form. form.now) result ≡ option_map (λ content. content.1) (find (λ content. content.0 == column) contents.now) }
 {
@@ -56,7 +56,7 @@ fn content_of<S: FarRead>(
 
 /// The contents under some tickets, one buffer for each.
 ///
-/// Refused with `FarFault` (21) where the store fails in this call, exactly where the meter rises, by one, and with `NoMemory` (1).
+/// Refused with `FarFault` (21) if the store fails in this call, exactly when the meter rises, by one; and with `NoMemory` (1).
 pub(crate) fn contents_of<S: FarRead>(
     alloc: Global,
     store: &S,

@@ -19,13 +19,13 @@ use far_store::FarTickets;
 use far_types::{Refusal, Spec};
 use std::alloc::Global;
 
-// The ticket of an object, if it is clean. Its content is the far form of what it means.
+// The ticket of an object, if the object is clean. The ticket's content is a far form.
 fn clean_ticket<T: Elem, S: FarTickets>(objects: &Objects<T, S>, o: u32) -> Option<&S::Ticket>
     requires { o < length objects.now.entries }
     ensures ticket { option_map (λ ticket. ticket.now) result ≡ clean_ticket objects.now o }
     ensures form { IfSome result (λ ticket. IsSpelled T.in_range T.has_spelling T.spelling (T.meaning (S.content ticket.now)) (S.content ticket.now)) }
 {
-    // It tells that a ticket's content is a far form.
+    // For the proof: gives `AreTracked`.
     let _number = objects.number();
     if objects.word(o).dirty() {
         return None;
@@ -33,14 +33,14 @@ fn clean_ticket<T: Elem, S: FarTickets>(objects: &Objects<T, S>, o: u32) -> Opti
     objects.ticket(o)
 }
 
-/// The ticket under which the far store has a row group of a column as it is now; `None` where its object was written since, or
-/// never was away, and where there is none. Takes no memory.
+/// The ticket under which the far store has a row group of a column as it is now; `None` if the object is dirty, or there is none.
+/// Allocates nothing.
 pub(crate) fn copy_of<S: FarTickets>(rows: &Rows<S>, column: u32, group: u32) -> Option<&S::Ticket>
     ensures ticket { option_map (λ ticket. ticket.now) result ≡ copy_of rows.now column group }
     ensures copy { IfSome result (λ ticket. IsCopy S.content rows.now group column ticket.now) }
     ensures here { (name : List ℕ) → AreAt S.is_of name rows.now → IfSome result (λ ticket. S.is_of ticket.now name) }
 {
-    // It tells what the rows are.
+    // For the proof: gives `AreRows`.
     let _len = rows.len();
     match rows.object(column as usize, group) {
         Ok(Object::Number(o)) => clean_ticket(rows.number_objects(), o),
@@ -49,9 +49,9 @@ pub(crate) fn copy_of<S: FarTickets>(rows: &Rows<S>, column: u32, group: u32) ->
     }
 }
 
-/// Whether the far store has the columns that an aggregate needs of a row group, as they are now. Takes no memory.
+/// Whether the far store has the columns of a row group that an aggregate needs, as they are now. Allocates nothing.
 ///
-/// Refused with `StaleJob` (20) exactly where it does not have one.
+/// Refused with `StaleJob` (20) exactly if it lacks one.
 pub(crate) fn are_copied<S: FarTickets>(
     rows: &Rows<S>,
     spec: &Spec,
@@ -59,7 +59,7 @@ pub(crate) fn are_copied<S: FarTickets>(
 ) -> Result<(), Refusal>
     ensures { refusal_in result ≡ first_of (dirty_from rows.now spec.now group 0 rows.now.slots) }
 {
-    // It tells how many columns there are.
+    // For the proof: gives `AreRows`.
     let _len = rows.len();
     for column in 0..rows.slots().len() {
         if lacks(rows, spec, column as u32, group) {
@@ -69,14 +69,14 @@ pub(crate) fn are_copied<S: FarTickets>(
     Ok(())
 }
 
-// Whether it does not have a column, which the aggregate needs.
+// Whether the far store lacks a column that the aggregate needs.
 fn lacks<S: FarTickets>(rows: &Rows<S>, spec: &Spec, column: u32, group: u32) -> bool
     ensures { result ≡ (needs spec.now column && is_none (copy_of rows.now column group)) }
 {
     spec.needs(column) && copy_of(rows, column, group).is_none()
 }
 
-/// The tickets of those columns, each with the number of its column.
+/// The tickets of those columns, each with the index of its column.
 ///
 /// Refused with `NoMemory` (1) alone.
 pub(crate) fn copies_of<S: FarTickets>(
@@ -92,7 +92,7 @@ pub(crate) fn copies_of<S: FarTickets>(
     ensures here { IfOk result (λ tickets. AreTicketsOf S.is_of (S.name store.now) tickets.items) }
     ensures memory { IfErr result (λ e. e ≡ Refusal.NoMemory) }
 {
-    // It tells how many columns there are.
+    // For the proof: gives `AreRows`.
     let _len = rows.len();
     let mut tickets = Vec::new(alloc);
     for column in 0..rows.slots().len() {
@@ -119,7 +119,7 @@ fn needed_copy<'a, S: FarTickets>(
     copy_of(rows, column, group)
 }
 
-// Adds the ticket of a column, where there is one. Refused with `NoMemory` (1) alone.
+// Adds the ticket of a column, if there is one. Refused with `NoMemory` (1) alone.
 fn add<S: FarTickets>(
     tickets: &mut Vec<(u32, S::Ticket)>,
     store: &S,
@@ -136,7 +136,7 @@ fn add<S: FarTickets>(
     Ok(())
 }
 
-// The ticket of a column, of some tickets.
+// The ticket of a column, among these.
 fn ticket_for<S: FarTickets>(tickets: &[(u32, S::Ticket)], column: u32) -> Option<&S::Ticket>
     ensures { option_map (λ ticket. ticket.now) result ≡ ticket_for tickets.now column }
 {
@@ -144,7 +144,7 @@ fn ticket_for<S: FarTickets>(tickets: &[(u32, S::Ticket)], column: u32) -> Optio
     Some(&ticket.1)
 }
 
-// Whether the far store has a row group of a column, as it is now, under the number of the column's ticket among these.
+// Whether the column's ticket, among these, has the number under which the far store has the row group as it is now.
 fn is_still<S: FarTickets>(
     rows: &Rows<S>,
     store: &S,
@@ -166,7 +166,7 @@ fn is_still<S: FarTickets>(
     store.same(own, ticket)
 }
 
-/// Whether it is so of each column that an aggregate needs. Takes no memory.
+/// Whether `is_still` holds of each column that an aggregate needs. Allocates nothing.
 pub(crate) fn are_still<S: FarTickets>(
     rows: &Rows<S>,
     store: &S,
@@ -179,7 +179,7 @@ pub(crate) fn are_still<S: FarTickets>(
     ensures exact { IsTrue result ↔ AllNeeded (length rows.now.slots) spec.now (λ column. HaveOneNumber S.number_of (copy_of rows.now column group) (ticket_for tickets.now column)) }
     ensures copies { IsTrue result → AllNeeded (length rows.now.slots) spec.now (λ column. IsSomeAnd (ticket_for tickets.now column) (IsCopy S.content rows.now group column)) }
 {
-    // It tells how many columns there are.
+    // For the proof: gives `AreRows`.
     let _len = rows.len();
     for column in 0..rows.slots().len() {
         if spec.needs(column as u32) && !is_still(rows, store, tickets, column as u32, group) {

@@ -1,4 +1,4 @@
-// A row group whose columns were got from the far store, lent to aggregates.
+// A row group whose columns were read from the far store, lent to aggregates.
 ghost use Rattle.std.specs.Prelude.{◌≡◌};
 ghost use Rattle.far_codec.specs.Lent.{IsForm};
 ghost use Rattle.far_offload.specs.Columns.{cells_meant};
@@ -13,10 +13,11 @@ use far_store::FarTickets;
 use far_types::Spec;
 use std::marker::Model;
 
-/// The row group of a carried build whose contents are those of the rows as they are now. Contracts see the rows and the build.
+/// The row group of a carried build. The contents that were read are those of the rows as they are now. Contracts see the rows and
+/// the build.
 #[derive(Drop)]
-pub struct FarGroup<'a, S: FarTickets> {
-    // Contracts alone look at the rows and the build: what is lent was looked up when the row group was made.
+pub(crate) struct FarGroup<'a, S: FarTickets> {
+    // Contracts alone read the rows and the build. What is lent was looked up when the row group was made.
     rows: &'a Rows<S>,
     build: &'a OffloadBuild<S>,
     spec: &'a Spec,
@@ -37,7 +38,7 @@ impl<'a, S: FarTickets> Model for FarGroup<'a, S> {
 impl<'a, S: FarTickets> FarGroup<'a, S> {
     ghost use Rattle.far_table.specs.FarGroups.{AreCopies};
 
-    /// The row group of a build that holds still. Takes no memory.
+    /// The row group of a build that holds still. Allocates nothing.
     pub(crate) fn new(rows: &'a Rows<S>, carried: &'a OffloadCarried<S>) -> FarGroup<'a, S>
         requires { AreCopies S.content record { rows = rows.now; build = carried.now } }
         ensures { result ≡ record { rows = rows.now; build = carried.now } }
@@ -75,8 +76,8 @@ impl<'a, S: FarTickets> LendGroup for FarGroup<'a, S> {
     }
 }
 
-// The column of a content. The bytes came from a store, so they are tested before a value is read; a store whose contents change
-// would have no values here.
+// The column of a content. Its bytes came from a store, so they are tested before a value is read: a store that breaks its contract
+// has no values here.
 fn column_of(number: u32, form: &[u8]) -> Column<'_>
     requires { IsForm form.now }
     ensures { result ≡ (number, cells_meant form.now) }

@@ -1,4 +1,4 @@
-// Builds of row groups into aggregates from the far store's copies.
+// Offloaded builds: a row group is built into an aggregate from the far store's copies of its columns.
 ghost use Rattle.std.specs.Prelude.{◌≡◌, ◌+◌, ◌<◌, ◌^◌, [], ◌∷◌, IfOk, IfErr};
 ghost use Rattle.far_store.specs.Faults.{faults_in, RefusedBy};
 ghost use Rattle.far_offload.specs.Jobs.{outcome};
@@ -12,10 +12,10 @@ use far_types::Refusal;
 use std::alloc::Global;
 use std::marker::Model;
 
-/// A build of a row group into an aggregate that was begun: of which registration of which table, and the tickets and the flags
-/// that it rests on. It borrows nothing, so any thread can carry it.
+/// An offloaded build that was begun: the table and the registration that it is for, and the tickets and alive flags that it rests
+/// on. It borrows nothing, so any thread can carry it.
 ///
-/// That an aggregate is computed from far data without bringing its objects back is AIFM's offloading (OSDI 2020, section 4.4).
+/// Computing an aggregate from far data without fetching its objects is AIFM's offloading (OSDI 2020, section 4.4).
 #[derive(Drop)]
 pub struct OffloadBuild<S: FarTickets> {
     pub(crate) number: u32,
@@ -33,7 +33,7 @@ impl<S: FarTickets> Model for OffloadBuild<S> {
     ghost view = { λ build. record { number = build.number; aggregate = build.aggregate; registration = build.registration; group = build.group; job = build.job } };
 }
 
-/// A build whose contents were read. Contracts see the build, whose tickets name the contents.
+/// An offloaded build whose contents were read. Contracts see the build: its tickets name the contents.
 #[derive(Drop)]
 pub struct OffloadCarried<S: FarTickets> {
     pub(crate) build: OffloadBuild<S>,
@@ -53,14 +53,14 @@ impl<S: FarTickets> Model for OffloadCarried<S> {
 }
 
 impl<S: FarTickets> OffloadBuild<S> {
-    /// The number of the aggregate. Takes no memory.
+    /// The number of the aggregate. Allocates nothing.
     pub fn aggregate(&self) -> u32
         ensures { result ≡ self.now.aggregate }
     {
         self.aggregate
     }
 
-    /// The row group. Takes no memory.
+    /// The index of the row group. Allocates nothing.
     pub fn group(&self) -> u32
         ensures { result ≡ self.now.group }
     {
@@ -71,8 +71,8 @@ impl<S: FarTickets> OffloadBuild<S> {
 impl<S: FarRead> OffloadBuild<S> {
     /// Reads the content of each ticket into a buffer of its own. Nothing enters the local region.
     ///
-    /// Refused with `FarFault` (21) where the store fails in this call, exactly where the meter rises, by one, and with
-    /// `NoMemory` (1). The build then comes back whole.
+    /// Refused with `FarFault` (21) if the store fails in this call, exactly when the meter rises, by one; and with `NoMemory` (1).
+    /// The build then comes back whole.
     pub fn carry(
         self,
         alloc: Global,
@@ -97,7 +97,7 @@ impl<S: FarRead> OffloadBuild<S> {
 }
 
 impl<S: FarTickets> OffloadCarried<S> {
-    /// What was read. Takes no memory.
+    /// What was read. Allocates nothing.
     pub(crate) fn contents(&self) -> &[Content]
         ensures { result.now ≡ contents_under S.content self.now.job.tickets }
     {

@@ -1,4 +1,4 @@
-// Row groups that are built into aggregates from the far store's copies.
+// Offloaded builds: row groups are built into aggregates from the far store's copies of their columns.
 ghost use Rattle.std.specs.Prelude.{◌≡◌, ◌↔◌, ◌⊎◌, true, None, is_none, IsTrue, IsSome, OnOk, OnErr, IfOk, IfErr, IsErrOf};
 ghost use Rattle.far_types.specs.MayRefuse.{MayRefuse};
 ghost use Rattle.far_scopes.specs.Refusing.{refusal_in};
@@ -17,8 +17,8 @@ use far_store::FarTickets;
 use far_types::Refusal;
 
 impl<S: FarTickets> LiveTable<S> {
-    /// Whether `scan_group` would build a row group into the aggregate of a number, want of memory aside: it is still to be built
-    /// in, and the columns that the aggregate needs are local. Takes no memory.
+    /// Whether `scan_group` would build a row group into the aggregate of a number, out of memory aside: the row group is still to be
+    /// built in, and the columns that the aggregate needs are local. Allocates nothing.
     pub fn may_scan(&self, a: u32, group: u32) -> bool
         ensures { result ≡ is_none (scan_refusal self.now (aggregate_at self.now.table a) group) }
     {
@@ -29,7 +29,7 @@ impl<S: FarTickets> LiveTable<S> {
     fn scan_due(&self, a: u32, group: u32) -> Result<(), Refusal>
         ensures { refusal_in result ≡ scan_refusal self.now (aggregate_at self.now.table a) group }
     {
-        // They tell what the rows are, and how many places there are.
+        // For the proof: give `AreRows` and `AreLimits`.
         let _held = self.rows.held();
         let _limits = self.rows.limits();
         let Some(spec) = self.aggregates.spec(a) else {
@@ -44,10 +44,10 @@ impl<S: FarTickets> LiveTable<S> {
         self.rows.may_scan(spec, group)
     }
 
-    /// Whether a build of a row group into the aggregate of a number may be begun. Takes no memory.
+    /// Whether `begin_offload` would begin, out of memory aside. Allocates nothing.
     ///
-    /// Refused with `NoAggregate` (12); `OutOfRange` (14) where the row group has no place; `StaleJob` (20) where it is built in
-    /// already, or the object of a column that the aggregate needs is dirty, be it local or not: the first of these that applies.
+    /// Refused with `NoAggregate` (12); `OutOfRange` (14) if the row group has no place; `StaleJob` (20) if it is built in already, or
+    /// the object of a column that the aggregate needs is dirty: the first of these that applies. A clean object may be local or away.
     pub fn may_offload(&self, a: u32, group: u32) -> Result<(), Refusal>
         ensures { refusal_in result ≡ offload_refusal self.now (aggregate_at self.now.table a) group }
     {
@@ -63,9 +63,9 @@ impl<S: FarTickets> LiveTable<S> {
         are_copied(self.rows.held(), spec, group)
     }
 
-    /// Begins to build a row group into the aggregate of a number from the far store's copies of its columns. Nothing is changed.
+    /// Begins to build a row group into the aggregate of a number from the far store's copies of its columns. The table stays as it is.
     ///
-    /// Refused as `may_offload` says, with `NoAggregate` (12), `OutOfRange` (14) or `StaleJob` (20), else with `NoMemory` (1) alone.
+    /// Refused as `may_offload` is, with `NoAggregate` (12), `OutOfRange` (14) or `StaleJob` (20); else with `NoMemory` (1) alone.
     pub fn begin_offload(&self, store: &S, a: u32, group: u32) -> Result<OffloadBuild<S>, Refusal>
         requires here { AreAt S.is_of (S.name store.now) self.now.rows }
         ensures begun { IfOk result (IsOffloadBegun self.now a group) }
@@ -75,7 +75,7 @@ impl<S: FarTickets> LiveTable<S> {
     {
         self.may_offload(a, group)?;
         let held = self.rows.held();
-        // It tells how many flags there are.
+        // For the proof: gives `AreRows`, so how many flags there are.
         let _len = held.len();
         let Some(spec) = self.aggregates.spec(a) else {
             unreachable!()
@@ -94,12 +94,12 @@ impl<S: FarTickets> LiveTable<S> {
         })
     }
 
-    /// Builds the row group of a carried build into its aggregate, from what was read of the far store; each row and object stays.
+    /// Builds the row group of a carried build into its aggregate, from the contents that were read. Each row and object stays.
     ///
-    /// Refused with `NoAggregate` (12) exactly where no aggregate is under the build's number; else with `StaleJob` (20) exactly
-    /// where what the build rests on does not hold any more (`IsMergeable`): the table, the registration, the tickets of the
-    /// columns that are needed, each of an object that is not dirty, and the alive flags are the same, and the row group is still
-    /// to be built in; else with `NoMemory` (1) alone. Then nothing is changed.
+    /// Refused with `NoAggregate` (12) exactly if the build's aggregate is not registered; else with `StaleJob` (20) exactly if what
+    /// the build rests on does not hold any more (`IsMergeable`); else with `NoMemory` (1) alone. Then nothing is changed. The build
+    /// rests on this: the table and the registration are the same; the row group is still to be built in; the object of each column
+    /// that is needed is clean, under a ticket of the same number; the alive flags are the same.
     pub fn merge(&mut self, store: &S, carried: &OffloadCarried<S>) -> Result<(), Refusal>
         requires here { AreAt S.is_of (S.name store.now) self.old.rows }
         requires carried_here { AreTicketsOf S.is_of (S.name store.now) carried.now.job.tickets }
@@ -116,7 +116,7 @@ impl<S: FarTickets> LiveTable<S> {
         if !self.holds_still(store, build) {
             return Err(Refusal::StaleJob);
         }
-        // They tell what the rows are, and how many places there are.
+        // For the proof: give `AreRows`, and how many places there are.
         let held = self.rows.held();
         let _len = self.rows.len();
         let size = self.rows.limits().group;
@@ -130,7 +130,7 @@ impl<S: FarTickets> LiveTable<S> {
         )
     }
 
-    // Whether what a build rests on holds still: then its contents are those of the row group.
+    // Whether what a build rests on holds still. Then its contents are those of the row group.
     fn holds_still(&self, store: &S, build: &OffloadBuild<S>) -> bool
         requires here { AreAt S.is_of (S.name store.now) self.now.rows }
         requires build_here { AreTicketsOf S.is_of (S.name store.now) build.now.job.tickets }
