@@ -19,3 +19,6 @@ mod LiveScanning
 mod Moved
 mod LiveMoved
 mod Renewed
+mod Copied
+mod Tickets
+mod Merging

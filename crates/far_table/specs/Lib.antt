@@ -6,3 +6,5 @@ pub mod Live
 pub mod Watching
 pub mod Moving
 pub mod Renewing
+pub mod Offloading
+pub mod FarGroups

@@ -2,11 +2,16 @@
 //! The rows of a table as the plain table has them, over objects that may be away: which edits they take and why one is
 //! refused, and what an edit makes of them.
 
+mod contents;
+mod copies;
+mod far_group;
 mod faults;
 mod live_table;
+mod offload_build;
 mod row_group;
 mod table_rows;
 
 pub use live_table::LiveTable;
+pub use offload_build::{OffloadBuild, OffloadCarried};
 pub use row_group::RowGroup;
 pub use table_rows::TableRows;

@@ -12,6 +12,7 @@ ghost use Rattle.far_table.specs.Edits.{edit_due};
 ghost use Rattle.far_table.specs.Live.{IsEdited, Refuses};
 
 mod moving;
+mod offloading;
 mod renewing;
 mod watching;
 

@@ -1,0 +1,199 @@
+-- The far copy of a clean object has the cells of its row group.
+use Rattle.std.proofs.Common.{◌≡◌, inl, inr, ℕ, zero, suc, ℤ, ◌*◌, ◌<◌, Bool, true, false, List, [], ◌∷◌, ◌++◌, map, length, take, drop, replicate, get_or, Option, None, Some, refl, sym, ap, subst, ◌∙◌, arith}
+use Rattle.std.specs.Prelude.{◌-◌, ◌==◌, cond, min, option_map, unwrap_or, slice_get, slice_index, IfSome, FitsSigned}
+use Rattle.std.specs.Int.{w64}
+use Rattle.std.specs.Option.{option_and_then}
+use Rattle.std.proofs.lemmas.List.{length-take, length-drop, take-map, drop-map}
+use Rattle.std.proofs.lemmas.Option.{same_Some, none-some, slice_get-map, slice_get_within, get_or_from_slice_get}
+use Rattle.far_types.specs.declared.cell.Cell.{Cell}
+use Rattle.far_types.specs.declared.cell.Cell.TheVariants as cell
+use Rattle.far_types.specs.Lent.{int_cell, text_cell}
+use Rattle.far_types.specs.Table.{Place, in_group}
+use Rattle.far_codec.specs.declared.lent.LentValues.TheVariants as lent
+use Rattle.far_codec.specs.FarForm.{FitsCount, ints_form}
+use Rattle.far_codec.specs.Reading.{ints_meaning, IsIntsForm}
+use Rattle.far_codec.specs.Spelling.{IsSpelled}
+use Rattle.far_codec.specs.TextForm.{texts_meaning, IsTextsForm}
+use Rattle.far_codec.proofs.LentForms.{ints_second}
+use Rattle.far_scopes.specs.Movement.{dirty, meant, ticket_of}
+use Rattle.far_vector.specs.Vector.{Vector, IsVector, IsShaped, group_list}
+use Rattle.far_vector.proofs.RowGroups.{list-of-group}
+use Rattle.far_vector.proofs.VectorLaws.{length-elements}
+use Rattle.far_columns.specs.Texts.{Texts, HasGroups, IsTextColumn, lists_of, texts_in}
+use Rattle.far_columns.specs.Numbers.{Numbers, number_lists, numbers_in}
+use Rattle.far_columns.proofs.RowGroups.{texts-of-group}
+use Rattle.far_offload.specs.Columns.{cells_meant, cells_in}
+use Rattle.far_rows.specs.declared.slot.Slot.{Slot}
+use Rattle.far_rows.specs.declared.slot.Slot.TheVariants as slot
+use Rattle.far_rows.specs.declared.object.Object.TheVariants as object
+use Rattle.far_rows.specs.Slots.{IsWithin, column_in}
+use Rattle.far_rows.specs.Rows.{Rows, AreRows, all_numbers, all_texts, cells_of, object_of}
+use Rattle.far_rows.specs.Moving.{object_at}
+use Rattle.far_rows.specs.Places.{places_in}
+use Rattle.far_rows.specs.Jobs.{AreAt}
+use Rattle.far_rows.proofs.Begun.{lies}
+use Rattle.far_rows.proofs.Overfull.{found-at}
+use Rattle.far_rows.proofs.Pinning.{found-in, number-of, no-number, text-of, no-text}
+use Rattle.far_aggregates.specs.Lending.{IsOfPlaces}
+use Rattle.far_table.specs.Offloading.{clean_ticket}
+use Rattle.far_table.specs.FarGroups.{IsCopy}
+use Rattle.far_table.proofs.Groups.{lent-cells, texts-lent}
+use Rattle.far_table.proofs.Places.{length-places}
+
+-- a form of numbers means its numbers
+ints-lent : (form : List ℕ) → IsIntsForm form → cells_meant form ≡ map int_cell (ints_meaning form)
+ints-lent form is =
+    let test : (slice_index form 1 == 1) ≡ false = ap (λ byte. byte == 1) (ints_second form is) in
+    ap (λ (b : Bool). cells_in (cond b (lent.Texts (texts_meaning form)) (lent.Ints (ints_meaning form)))) test
+
+-- what is spelled is a far form
+pub ints-spelled : (bytes : List ℕ) → IsSpelled (λ number. IfSome number (FitsSigned w64)) FitsCount ints_form (ints_meaning bytes) bytes → IsIntsForm bytes
+ints-spelled bytes is = record { ints = record { range = is.range; count = is.has }; is = is.is }
+
+-- row groups of lists of one length have one length
+group-long : {X Y : Type 0} (size g : ℕ) (xs : List X) (ys : List Y) → length xs ≡ length ys → length (in_group size g xs) ≡ length (in_group size g ys)
+group-long size g xs ys same =
+    length-take size (drop (g * size) xs)
+    ∙ ap (min size) (length-drop (g * size) xs ∙ ap (λ n. n - g * size) same ∙ sym (length-drop (g * size) ys))
+    ∙ sym (length-take size (drop (g * size) ys))
+
+-- a row group, once a function is applied to all
+group-map : {X Y : Type 0} (f : X → Y) (size g : ℕ) (xs : List X) → in_group size g (map f xs) ≡ map f (in_group size g xs)
+group-map f size g xs = ap (take size) (drop-map f (g * size) xs) ∙ take-map f size (drop (g * size) xs)
+
+-- the first cells of some
+front-cell : (xs more : List Cell) (i : ℕ) → i < length xs → get_or (xs ++ more) i cell.Missing ≡ get_or xs i cell.Missing
+front-cell [] more i within = absurd (omega (arith, within))
+front-cell (x ∷ xs) more zero within = refl
+front-cell (x ∷ xs) more (suc i) within = front-cell xs more i (omega (arith, within))
+
+map-append : {X Y : Type 0} (f : X → Y) (xs ys : List X) → map f (xs ++ ys) ≡ map f xs ++ map f ys
+map-append f [] ys = refl
+map-append f (x ∷ xs) ys = ap (λ rest. f x ∷ rest) (map-append f xs ys)
+
+within-at : {A : Type 0} (xs : List A) (i : ℕ) (x : A) → slice_get xs i ≡ Some x → i < length xs
+within-at xs i x at = slice_get_within xs i x at
+
+-- the ticket of an object that is clean
+pub clean-is : {K : Type 0} (b : Bool) (ticket : Option K) (t : K) → cond b None ticket ≡ Some t → (b ≡ false) × (ticket ≡ Some t)
+clean-is true ticket t is = absurd (none-some t is)
+clean-is false ticket t is = (refl, is)
+
+module _ {K : Type 0} (content : K → List ℕ) (r : Rows K) (are : AreRows content r) (column group o : ℕ) where
+  inside : (s : Slot) → slice_get r.slots column ≡ Some s → IsWithin (length r.numbers) (length r.texts) s
+  inside s is = subst (IsWithin (length r.numbers) (length r.texts)) (get_or_from_slice_get r.slots column s s is) (are.slots.within column s (slice_get_within r.slots column s is))
+
+  cells-at : (s : Slot) → slice_get r.slots column ≡ Some s → option_map (in_group r.size group) (slice_get (cells_of content r) column) ≡ Some (in_group r.size group (column_in (all_numbers content r) (all_texts content r) s))
+  cells-at s is = ap (option_map (in_group r.size group)) (slice_get-map (column_in (all_numbers content r) (all_texts content r)) r.slots column ∙ ap (option_map (column_in (all_numbers content r) (all_texts content r))) is)
+
+  -- the list of an object of numbers begins with those of its row group
+  record HasNumbers (list : Numbers) : Type 0 where
+    front : Numbers
+    blanks : Numbers
+    is : list ≡ front ++ blanks
+    used : length front ≡ length (in_group r.size group r.alive)
+    cells : option_map (in_group r.size group) (slice_get (cells_of content r) column) ≡ Some (map int_cell front)
+
+  numbers-in : (s : Slot) → slice_get r.slots column ≡ Some s → object_at r column group ≡ Some (object.Number o) → (list : Numbers) → number_lists content r.number_objects o ≡ Some list → HasNumbers list
+  numbers-in (slot.Text i) is at list there = no-number (object_of r (slot.Text i) group) o (sym (found-in content r are column group o (slot.Text i) is) ∙ at)
+  numbers-in (slot.Number i) is at list there =
+      let within : i < length r.numbers = inside (slot.Number i) is in
+      let found = found-at r.numbers i within in
+      let c : Vector (Option ℤ) = found.0 in
+      let same = get_or_from_slice_get r.numbers i c c found.1 in
+      let lists = number_lists content r.number_objects in
+      let even = subst (λ (d : Vector (Option ℤ)). (d.size ≡ r.size) × (d.len ≡ length r.alive)) same (are.even_numbers i c within) in
+      let shaped = subst IsShaped same (are.shaped i c within) in
+      let vector = subst (IsVector lists) same (are.numbers.beside.each i c within) in
+      let numbers : Numbers = numbers_in content r.number_objects c in
+      let read : get_or (all_numbers content r) i [] ≡ numbers = get_or_from_slice_get (all_numbers content r) i numbers [] (slice_get-map (numbers_in content r.number_objects) r.numbers i ∙ ap (option_map (numbers_in content r.number_objects)) found.1) in
+      let own : slice_get c.objects group ≡ Some o = sym (ap (option_and_then (λ (v : Vector (Option ℤ)). slice_get v.objects group)) found.1) ∙ number-of (object_of r (slot.Number i) group) o (sym (found-in content r are column group o (slot.Number i) is) ∙ at) in
+      let held : list ≡ group_list c numbers group = same_Some list (group_list c numbers group) (sym there ∙ list-of-group lists c group o shaped vector own) in
+      let first : List (Option ℤ) = in_group c.size group numbers in
+      record {
+        front = first;
+        blanks = replicate (c.size - length first) c.blank;
+        is = held;
+        used = group-long c.size group numbers r.alive (length-elements lists c shaped vector ∙ even.1) ∙ ap (λ n. length (in_group n group r.alive)) even.0;
+        cells = cells-at (slot.Number i) is
+            ∙ ap Some (ap (λ ns. in_group r.size group (map int_cell ns)) read ∙ group-map int_cell r.size group numbers ∙ ap (λ n. map int_cell (in_group n group numbers)) (sym even.0));
+      }
+
+  -- the form of an object of texts is that of its row group
+  record HasTexts (bytes : List ℕ) : Type 0 where
+    cells : option_map (in_group r.size group) (slice_get (cells_of content r) column) ≡ Some (map text_cell (texts_meaning bytes))
+
+  texts-in : (s : Slot) → slice_get r.slots column ≡ Some s → object_at r column group ≡ Some (object.Text o) → (form : List ℕ) → lists_of content r.text_objects o ≡ Some form → HasTexts form
+  texts-in (slot.Number i) is at form there = no-text (object_of r (slot.Number i) group) o (sym (found-in content r are column group o (slot.Number i) is) ∙ at)
+  texts-in (slot.Text i) is at form there =
+      let within : i < length r.texts = inside (slot.Text i) is in
+      let found = found-at r.texts i within in
+      let c : Texts = found.0 in
+      let same = get_or_from_slice_get r.texts i c c found.1 in
+      let lists = lists_of content r.text_objects in
+      let even = subst (λ (d : Texts). (d.size ≡ r.size) × (d.len ≡ length r.alive)) same (are.even_texts i c within) in
+      let has = subst HasGroups same (are.grouped i c within) in
+      let column_is = subst (IsTextColumn lists) same (are.texts.beside.each i c within) in
+      let texts : List (Option (List ℕ)) = texts_in lists c in
+      let read : get_or (all_texts content r) i [] ≡ texts = get_or_from_slice_get (all_texts content r) i texts [] (slice_get-map (texts_in lists) r.texts i ∙ ap (option_map (texts_in lists)) found.1) in
+      let own : slice_get c.objects group ≡ Some o = sym (ap (option_and_then (λ (v : Texts). slice_get v.objects group)) found.1) ∙ text-of (object_of r (slot.Text i) group) o (sym (found-in content r are column group o (slot.Text i) is) ∙ at) in
+      let group_texts : in_group r.size group texts ≡ texts_meaning form =
+      ap (λ n. in_group n group texts) (sym even.0)
+      ∙ sym (texts-of-group lists c group o has column_is own)
+      ∙ ap (λ l. texts_meaning (unwrap_or l [])) there in
+      record {
+        cells = cells-at (slot.Text i) is
+            ∙ ap Some (ap (λ ts. in_group r.size group (map text_cell ts)) read ∙ group-map text_cell r.size group texts ∙ ap (map text_cell) group_texts);
+      }
+
+  abbrev places : List Place
+  places = in_group r.size group (places_in content r)
+
+  places-long : length places ≡ length (in_group r.size group r.alive)
+  places-long = group-long r.size group (places_in content r) r.alive (length-places (cells_of content r) r.alive)
+
+  -- cells that begin with those of a row group are of its places
+  begins : (front more cells : List Cell) → option_map (in_group r.size group) (slice_get (cells_of content r) column) ≡ Some front → length front ≡ length (in_group r.size group r.alive) → cells ≡ front ++ more → IsOfPlaces places (column, cells)
+  begins front more cells are_those long is i place at =
+      let within : i < length front = omega (arith, within-at places i place at, places-long, long) in
+      ap Some (ap (λ (cs : List Cell). get_or cs i cell.Missing) is ∙ front-cell front more i within)
+      ∙ lent-cells (cells_of content r) r.alive r.size group column front are_those i place at
+
+  -- the far copy of a clean object of numbers
+  pub copied-number : object_at r column group ≡ Some (object.Number o) → (t : K) → clean_ticket r.number_objects o ≡ Some t → IsSpelled (λ number. IfSome number (FitsSigned w64)) FitsCount ints_form (ints_meaning (content t)) (content t) → IsCopy content r group column t
+  copied-number at t clean spelled =
+      let ticket = clean-is (dirty r.number_objects o) (ticket_of r.number_objects o) t clean in
+      let numbers = ints_meaning (content t) in
+      let there : number_lists content r.number_objects o ≡ Some numbers = are.clean_numbers o ticket.0 ∙ ap (option_map (meant ints_meaning content)) ticket.1 in
+      let column_lies = lies content r are column group o (object.Number o) at in
+      let has = numbers-in column_lies.0 column_lies.1 at numbers there in
+      let form = ints-spelled (content t) spelled in
+      record {
+        form = inl form;
+        cells = begins (map int_cell has.front) (map int_cell has.blanks) (cells_meant (content t)) has.cells (length-mapped int_cell has.front ∙ has.used)
+            (ints-lent (content t) form ∙ ap (map int_cell) has.is ∙ map-append int_cell has.front has.blanks);
+      } where
+        length-mapped : {X Y : Type 0} (f : X → Y) (xs : List X) → length (map f xs) ≡ length xs
+        length-mapped f [] = refl
+        length-mapped f (x ∷ xs) = ap suc (length-mapped f xs)
+
+  -- and of one of texts
+  pub copied-text : object_at r column group ≡ Some (object.Text o) → (t : K) → clean_ticket r.text_objects o ≡ Some t → IsTextsForm (content t) → IsCopy content r group column t
+  copied-text at t clean form =
+      let ticket = clean-is (dirty r.text_objects o) (ticket_of r.text_objects o) t clean in
+      let there : lists_of content r.text_objects o ≡ Some (content t) = are.clean_texts o ticket.0 ∙ ap (option_map (meant (λ bytes. bytes) content)) ticket.1 in
+      let column_lies = lies content r are column group o (object.Text o) at in
+      let has = texts-in column_lies.0 column_lies.1 at (content t) there in
+      record {
+        form = inr form;
+        cells = λ i place here.
+            ap (λ (cs : List Cell). Some (get_or cs i cell.Missing)) (texts-lent (content t) form)
+            ∙ lent-cells (cells_of content r) r.alive r.size group column (map text_cell (texts_meaning (content t))) has.cells i place here;
+      }
+
+  -- the ticket is of the store of the others
+  pub number-here : (is_of : K → List ℕ → Type 0) (name : List ℕ) → AreAt is_of name r → (t : K) → clean_ticket r.number_objects o ≡ Some t → is_of t name
+  number-here is_of name here t clean = subst (λ (ticket : Option K). IfSome ticket (λ k. is_of k name)) (clean-is (dirty r.number_objects o) (ticket_of r.number_objects o) t clean).1 (here.numbers o)
+
+  pub text-here : (is_of : K → List ℕ → Type 0) (name : List ℕ) → AreAt is_of name r → (t : K) → clean_ticket r.text_objects o ≡ Some t → is_of t name
+  text-here is_of name here t clean = subst (λ (ticket : Option K). IfSome ticket (λ k. is_of k name)) (clean-is (dirty r.text_objects o) (ticket_of r.text_objects o) t clean).1 (here.texts o)

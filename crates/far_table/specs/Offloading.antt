@@ -1,0 +1,102 @@
+-- Offloaded builds: what they hold, how they begin, and when they are accepted.
+use Rattle.std.specs.Prelude.{◌≡◌, ℕ, ◌+◌, ◌==◌, ◌&&◌, not, Bool, true, nat_lt, cond, List, [], ◌∷◌, Option, None, Some, is_none, option_map, All, IsSomeAnd}
+use Rattle.std.specs.List.{find}
+use Rattle.std.specs.Option.{option_and_then}
+use Rattle.far_types.specs.declared.spec.Spec.{Spec}
+use Rattle.far_types.specs.declared.refusal.Refusal.{Refusal}
+use Rattle.far_types.specs.declared.refusal.Refusal.TheVariants as refusal
+use Rattle.far_types.specs.Bounds.{needs}
+use Rattle.far_types.specs.FirstOf.{first_of}
+use Rattle.far_types.specs.Table.{Registered, in_group, is_unbuilt}
+use Rattle.far_scopes.specs.Movement.{Movement, dirty, ticket_of}
+use Rattle.far_offload.specs.Jobs.{Job}
+use Rattle.far_rows.specs.declared.slot.Slot.{Slot}
+use Rattle.far_rows.specs.declared.object.Object.{Object}
+use Rattle.far_rows.specs.declared.object.Object.TheVariants as object
+use Rattle.far_rows.specs.Rows.{Rows}
+use Rattle.far_rows.specs.Moving.{object_at}
+use Rattle.far_table.specs.State.{State}
+use Rattle.far_table.specs.Watching.{aggregate_at, group_count, scanned_at}
+
+-- a build as it was begun: the number of the table, the aggregate, how many registrations were made before its own, the row group,
+-- and what is to be folded: the specification, a ticket for each column that it needs, and the flags of the row group's places
+pub record Build (K : Type 0) : Type 0 where
+  pub number : ℕ
+  pub aggregate : ℕ
+  pub registration : ℕ
+  pub group : ℕ
+  pub job : Job K
+
+module _ {K : Type 0} where
+  -- the ticket of a column, of some tickets
+  abbrev pub ticket_for : List (ℕ × K) → ℕ → Option K
+  ticket_for tickets column = option_map (λ ticket. ticket.1) (find (λ ticket. ticket.0 == column) tickets)
+
+  -- each ticket is of the store of this name
+  abbrev pub AreTicketsOf : (K → List ℕ → Type 0) → List ℕ → List (ℕ × K) → Type 0
+  AreTicketsOf is_of name tickets = All (λ ticket. is_of ticket.1 name) tickets
+
+  -- there are two tickets, and they have one number
+  abbrev pub HaveOneNumber : (K → ℕ) → Option K → Option K → Type 0
+  HaveOneNumber number_of (Some own) (Some ticket) = number_of own ≡ number_of ticket
+  HaveOneNumber number_of (Some own) None = ⊥
+  HaveOneNumber number_of None ticket = ⊥
+
+  -- the ticket of an object that is clean
+  abbrev pub clean_ticket : {X : Type 0} → Movement X K → ℕ → Option K
+  clean_ticket m o = cond (dirty m o) None (ticket_of m o)
+
+  -- likewise of an object of either kind
+  abbrev pub copy_in : Rows K → Object → Option K
+  copy_in r (object.Number o) = clean_ticket r.number_objects o
+  copy_in r (object.Text o) = clean_ticket r.text_objects o
+
+  -- the ticket under which the far store has a row group of a column as it is now: none where its object is dirty, or there is none
+  abbrev pub copy_of : Rows K → ℕ → ℕ → Option K
+  copy_of r column group = option_and_then (copy_in r) (object_at r column group)
+
+  -- the columns that an aggregate needs, among those of these slots, of which the first is the n-th of the table: the far store
+  -- does not have the row group as it is now
+  abbrev pub dirty_from : Rows K → Spec → ℕ → ℕ → List Slot → List (Bool × Refusal)
+  dirty_from r spec g n [] = []
+  dirty_from r spec g n (s ∷ slots) = (needs spec n && is_none (copy_of r n g), refusal.StaleJob) ∷ dirty_from r spec g (n + 1) slots
+
+  -- a build is begun where the row group has a place, is still to be built in, and the columns that the aggregate needs are clean
+  abbrev pub offload_refusal : State K → Option Registered → ℕ → Option Refusal
+  offload_refusal s None g = Some refusal.NoAggregate
+  offload_refusal s (Some aggregate) g = first_of (
+      (not (nat_lt g (group_count s.table)), refusal.OutOfRange)
+      ∷ (not (is_unbuilt aggregate.unbuilt g), refusal.StaleJob)
+      ∷ dirty_from s.rows aggregate.spec g 0 s.rows.slots)
+
+  -- the registration and the specification are those of an aggregate
+  pub record IsBuildOf (build : Build K) (aggregate : Registered) : Type 0 where
+    pub registration : build.registration ≡ aggregate.registration
+    pub spec : build.job.spec ≡ aggregate.spec
+
+  -- a build of a row group into the aggregate of a number, begun now
+  pub record IsOffloadBegun (s : State K) (a g : ℕ) (build : Build K) : Type 0 where
+    pub number : build.number ≡ s.rows.number_objects.number
+    pub aggregate : build.aggregate ≡ a
+    pub group : build.group ≡ g
+    pub registered : IsSomeAnd (aggregate_at s.table a) (IsBuildOf build)
+    pub tickets : (column : ℕ) → ticket_for build.job.tickets column ≡ cond (needs build.job.spec column) (copy_of s.rows column g) None
+    pub alive : build.job.alive ≡ in_group s.rows.size g s.rows.alive
+
+  module _ (number_of : K → ℕ) (s : State K) (build : Build K) where
+    -- what a build rests on holds still, of the aggregate under its number
+    pub record HoldsStill (aggregate : Registered) : Type 0 where
+      pub number : build.number ≡ s.rows.number_objects.number
+      pub registered : IsBuildOf build aggregate
+      pub unbuilt : is_unbuilt aggregate.unbuilt build.group ≡ true
+      pub tickets : (column : ℕ) → needs build.job.spec column ≡ true → HaveOneNumber number_of (copy_of s.rows column build.group) (ticket_for build.job.tickets column)
+      pub alive : build.job.alive ≡ in_group s.rows.size build.group s.rows.alive
+
+    -- a carried build is accepted
+    abbrev pub IsMergeable : Type 0
+    IsMergeable = IsSomeAnd (aggregate_at s.table build.aggregate) HoldsStill
+
+    -- and then its row group is built into its aggregate
+    pub record IsMerged (new : State K) : Type 0 where
+      pub accepted : IsMergeable
+      pub state : new ≡ record s { table = scanned_at build.aggregate build.group s.table }

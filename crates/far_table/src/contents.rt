@@ -1,0 +1,77 @@
+// Contents that were read from the far store for an offloaded build.
+ghost use Rattle.std.specs.Prelude.{◌≡◌, ◌==◌, ◌+◌, ◌<◌, ◌^◌, [], ◌∷◌, IfOk, option_map};
+ghost use Rattle.std.specs.List.{find};
+ghost use Rattle.far_store.specs.Faults.{faults_in, RefusedBy};
+ghost use Rattle.far_table.specs.Offloading.{AreTicketsOf};
+ghost use Rattle.far_table.specs.FarGroups.{contents_under};
+
+use far_store::{FarRead, Meter};
+use far_types::Refusal;
+use std::alloc::Global;
+use std::marker::Model;
+
+/// A content of the far store: the index of its column, and its bytes. Contracts see both.
+#[derive(Drop)]
+pub(crate) struct Content {
+    column: u32,
+    form: Vec<u8>,
+}
+
+impl Model for Content {
+    ghost use Rattle.std.specs.Prelude.{ℕ, List};
+
+    ghost Value = { ℕ × List ℕ };
+
+    ghost view = { λ content. (content.column, content.form.items) };
+}
+
+/// The content of a column, among these. Allocates nothing.
+pub(crate) fn content_for(contents: &[Content], column: u32) -> Option<&[u8]>
+    ensures { option_map (λ form. form.now) result ≡ option_map (λ content. content.1) (find (λ content. content.0 == column) contents.now) }
+{
+    match contents.iter().find(|content| content.column == column) {
+        Some(content) => Some(&content.form),
+        None => None,
+    }
+}
+
+// The content under the ticket of a column.
+fn content_of<S: FarRead>(
+    alloc: Global,
+    store: &S,
+    meter: &mut Meter,
+    column: u32,
+    ticket: &S::Ticket,
+) -> Result<Content, Refusal>
+    requires few { meter.old < 2 ^ 63 }
+    requires here { S.is_of ticket.now (S.name store.now) }
+    ensures content { IfOk result (λ content. content ≡ (column, S.content ticket.now)) }
+    ensures faults { meter.new ≡ meter.old + faults_in result }
+    ensures refused { RefusedBy (21 ∷ 1 ∷ []) result }
+{
+    let mut form = Vec::new(alloc);
+    store.get(alloc, meter, ticket, &mut form)?;
+    Ok(Content { column, form })
+}
+
+/// The contents under some tickets, one buffer for each.
+///
+/// Refused with `FarFault` (21) if the store fails in this call, exactly when the meter rises, by one; and with `NoMemory` (1).
+pub(crate) fn contents_of<S: FarRead>(
+    alloc: Global,
+    store: &S,
+    meter: &mut Meter,
+    tickets: &[(u32, S::Ticket)],
+) -> Result<Vec<Content>, Refusal>
+    requires few { meter.old < 2 ^ 63 }
+    requires here { AreTicketsOf S.is_of (S.name store.now) tickets.now }
+    ensures contents { IfOk result (λ contents. contents.items ≡ contents_under S.content tickets.now) }
+    ensures faults { meter.new ≡ meter.old + faults_in result }
+    ensures refused { RefusedBy (21 ∷ 1 ∷ []) result }
+{
+    let mut contents = Vec::new(alloc);
+    for (column, ticket) in tickets {
+        contents.push(content_of(alloc, store, meter, *column, ticket)?)?;
+    }
+    Ok(contents)
+}

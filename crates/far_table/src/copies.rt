@@ -1,0 +1,190 @@
+// The far store's copies of a row group's columns.
+ghost use Rattle.std.specs.Prelude.{◌≡◌, ◌<◌, ◌↔◌, ◌++◌, ◌&&◌, [], is_none, ℕ, List, None, cond, length, option_map, IsTrue, IfOk, IfErr, IfSome, OnOk, IsSomeAnd};
+ghost use Rattle.std.specs.List.{cons_option};
+ghost use Rattle.far_codec.specs.Lent.{IsForm};
+ghost use Rattle.far_codec.specs.Spelling.{IsSpelled};
+ghost use Rattle.far_types.specs.Bounds.{needs};
+ghost use Rattle.far_types.specs.FirstOf.{first_of};
+ghost use Rattle.far_scopes.specs.Refusing.{refusal_in};
+ghost use Rattle.far_offload.specs.Jobs.{AreForms};
+ghost use Rattle.far_rows.specs.Rows.{AreRows};
+ghost use Rattle.far_rows.specs.Jobs.{AreAt};
+ghost use Rattle.far_table.specs.Offloading.{ticket_for, AreTicketsOf, HaveOneNumber, clean_ticket, copy_of, dirty_from};
+ghost use Rattle.far_table.specs.FarGroups.{IsCopy, AllNeeded};
+
+use far_codec::Elem;
+use far_rows::{Object, Rows};
+use far_scopes::Objects;
+use far_store::FarTickets;
+use far_types::{Refusal, Spec};
+use std::alloc::Global;
+
+// The ticket of an object, if the object is clean. The ticket's content is a far form.
+fn clean_ticket<T: Elem, S: FarTickets>(objects: &Objects<T, S>, o: u32) -> Option<&S::Ticket>
+    requires { o < length objects.now.entries }
+    ensures ticket { option_map (λ ticket. ticket.now) result ≡ clean_ticket objects.now o }
+    ensures form { IfSome result (λ ticket. IsSpelled T.in_range T.has_spelling T.spelling (T.meaning (S.content ticket.now)) (S.content ticket.now)) }
+{
+    // For the proof: gives `AreTracked`.
+    let _number = objects.number();
+    if objects.word(o).dirty() {
+        return None;
+    }
+    objects.ticket(o)
+}
+
+/// The ticket under which the far store has a row group of a column as it is now; `None` if the object is dirty, or there is none.
+/// Allocates nothing.
+pub(crate) fn copy_of<S: FarTickets>(rows: &Rows<S>, column: u32, group: u32) -> Option<&S::Ticket>
+    ensures ticket { option_map (λ ticket. ticket.now) result ≡ copy_of rows.now column group }
+    ensures copy { IfSome result (λ ticket. IsCopy S.content rows.now group column ticket.now) }
+    ensures here { (name : List ℕ) → AreAt S.is_of name rows.now → IfSome result (λ ticket. S.is_of ticket.now name) }
+{
+    // For the proof: gives `AreRows`.
+    let _len = rows.len();
+    match rows.object(column as usize, group) {
+        Ok(Object::Number(o)) => clean_ticket(rows.number_objects(), o),
+        Ok(Object::Text(o)) => clean_ticket(rows.text_objects(), o),
+        Err(_) => None,
+    }
+}
+
+/// Whether the far store has the columns of a row group that an aggregate needs, as they are now. Allocates nothing.
+///
+/// Refused with `StaleJob` (20) exactly if it lacks one.
+pub(crate) fn are_copied<S: FarTickets>(
+    rows: &Rows<S>,
+    spec: &Spec,
+    group: u32,
+) -> Result<(), Refusal>
+    ensures { refusal_in result ≡ first_of (dirty_from rows.now spec.now group 0 rows.now.slots) }
+{
+    // For the proof: gives `AreRows`.
+    let _len = rows.len();
+    for column in 0..rows.slots().len() {
+        if lacks(rows, spec, column as u32, group) {
+            return Err(Refusal::StaleJob);
+        }
+    }
+    Ok(())
+}
+
+// Whether the far store lacks a column that the aggregate needs.
+fn lacks<S: FarTickets>(rows: &Rows<S>, spec: &Spec, column: u32, group: u32) -> bool
+    ensures { result ≡ (needs spec.now column && is_none (copy_of rows.now column group)) }
+{
+    spec.needs(column) && copy_of(rows, column, group).is_none()
+}
+
+/// The tickets of those columns, each with the index of its column.
+///
+/// Refused with `NoMemory` (1) alone.
+pub(crate) fn copies_of<S: FarTickets>(
+    alloc: Global,
+    rows: &Rows<S>,
+    store: &S,
+    spec: &Spec,
+    group: u32,
+) -> Result<Vec<(u32, S::Ticket)>, Refusal>
+    requires here { AreAt S.is_of (S.name store.now) rows.now }
+    ensures tickets { IfOk result (λ tickets. (column : ℕ) → ticket_for tickets.items column ≡ cond (needs spec.now column) (copy_of rows.now column group) None) }
+    ensures forms { IfOk result (λ tickets. AreForms S.content tickets.items) }
+    ensures here { IfOk result (λ tickets. AreTicketsOf S.is_of (S.name store.now) tickets.items) }
+    ensures memory { IfErr result (λ e. e ≡ Refusal.NoMemory) }
+{
+    // For the proof: gives `AreRows`.
+    let _len = rows.len();
+    let mut tickets = Vec::new(alloc);
+    for column in 0..rows.slots().len() {
+        let copy = needed_copy(rows, spec, column as u32, group);
+        add(&mut tickets, store, column as u32, copy)?;
+    }
+    Ok(tickets)
+}
+
+// The ticket of a column, if an aggregate needs it.
+fn needed_copy<'a, S: FarTickets>(
+    rows: &'a Rows<S>,
+    spec: &Spec,
+    column: u32,
+    group: u32,
+) -> Option<&'a S::Ticket>
+    ensures ticket { option_map (λ ticket. ticket.now) result ≡ cond (needs spec.now column) (copy_of rows.now column group) None }
+    ensures form { IfSome result (λ ticket. IsForm (S.content ticket.now)) }
+    ensures here { (name : List ℕ) → AreAt S.is_of name rows.now → IfSome result (λ ticket. S.is_of ticket.now name) }
+{
+    if !spec.needs(column) {
+        return None;
+    }
+    copy_of(rows, column, group)
+}
+
+// Adds the ticket of a column, if there is one. Refused with `NoMemory` (1) alone.
+fn add<S: FarTickets>(
+    tickets: &mut Vec<(u32, S::Ticket)>,
+    store: &S,
+    column: u32,
+    copy: Option<&S::Ticket>,
+) -> Result<(), Refusal>
+    requires here { IfSome copy (λ ticket. S.is_of ticket.now (S.name store.now)) }
+    ensures added { OnOk result (tickets.new.items ≡ tickets.old.items ++ cons_option (option_map (λ ticket. (column, ticket.now)) copy.entry) []) }
+    ensures memory { IfErr result (λ e. e ≡ Refusal.NoMemory) }
+{
+    if let Some(ticket) = copy {
+        tickets.push((column, store.again(ticket)))?;
+    }
+    Ok(())
+}
+
+// The ticket of a column, among these.
+fn ticket_for<S: FarTickets>(tickets: &[(u32, S::Ticket)], column: u32) -> Option<&S::Ticket>
+    ensures { option_map (λ ticket. ticket.now) result ≡ ticket_for tickets.now column }
+{
+    let ticket = tickets.iter().find(|ticket| ticket.0 == column)?;
+    Some(&ticket.1)
+}
+
+// Whether the column's ticket, among these, has the number under which the far store has the row group as it is now.
+fn is_still<S: FarTickets>(
+    rows: &Rows<S>,
+    store: &S,
+    tickets: &[(u32, S::Ticket)],
+    column: u32,
+    group: u32,
+) -> bool
+    requires here { AreAt S.is_of (S.name store.now) rows.now }
+    requires tickets_here { AreTicketsOf S.is_of (S.name store.now) tickets.now }
+    ensures exact { IsTrue result ↔ HaveOneNumber S.number_of (copy_of rows.now column group) (ticket_for tickets.now column) }
+    ensures copy { IsTrue result → IsSomeAnd (ticket_for tickets.now column) (IsCopy S.content rows.now group column) }
+{
+    let Some(own) = copy_of(rows, column, group) else {
+        return false;
+    };
+    let Some(ticket) = ticket_for::<S>(tickets, column) else {
+        return false;
+    };
+    store.same(own, ticket)
+}
+
+/// Whether `is_still` holds of each column that an aggregate needs. Allocates nothing.
+pub(crate) fn are_still<S: FarTickets>(
+    rows: &Rows<S>,
+    store: &S,
+    tickets: &[(u32, S::Ticket)],
+    spec: &Spec,
+    group: u32,
+) -> bool
+    requires here { AreAt S.is_of (S.name store.now) rows.now }
+    requires tickets_here { AreTicketsOf S.is_of (S.name store.now) tickets.now }
+    ensures exact { IsTrue result ↔ AllNeeded (length rows.now.slots) spec.now (λ column. HaveOneNumber S.number_of (copy_of rows.now column group) (ticket_for tickets.now column)) }
+    ensures copies { IsTrue result → AllNeeded (length rows.now.slots) spec.now (λ column. IsSomeAnd (ticket_for tickets.now column) (IsCopy S.content rows.now group column)) }
+{
+    // For the proof: gives `AreRows`.
+    let _len = rows.len();
+    for column in 0..rows.slots().len() {
+        if spec.needs(column as u32) && !is_still(rows, store, tickets, column as u32, group) {
+            return false;
+        }
+    }
+    true
+}

@@ -1,0 +1,89 @@
+// A row group whose columns were read from the far store, lent to aggregates.
+ghost use Rattle.std.specs.Prelude.{◌≡◌};
+ghost use Rattle.far_codec.specs.Lent.{IsForm};
+ghost use Rattle.far_offload.specs.Columns.{cells_meant};
+
+use crate::contents::{Content, content_for};
+use crate::offload_build::{OffloadBuild, OffloadCarried};
+use far_aggregates::LendGroup;
+use far_codec::kind_of;
+use far_offload::Column;
+use far_rows::Rows;
+use far_store::FarTickets;
+use far_types::Spec;
+use std::marker::Model;
+
+/// The row group of a carried build. The contents that were read are those of the rows as they are now. Contracts see the rows and
+/// the build.
+#[derive(Drop)]
+pub(crate) struct FarGroup<'a, S: FarTickets> {
+    // Contracts alone read the rows and the build. What is lent was looked up when the row group was made.
+    rows: &'a Rows<S>,
+    build: &'a OffloadBuild<S>,
+    spec: &'a Spec,
+    alive: &'a [bool],
+    contents: &'a [Content],
+}
+
+impl<'a, S: FarTickets> Model for FarGroup<'a, S> {
+    ghost use Rattle.far_table.specs.FarGroups.{FarRows, AreLentFrom};
+
+    ghost Value = { FarRows S.Ticket };
+
+    ghost view = { λ g. record { rows = g.rows.now; build = g.build.now } };
+
+    ghost invariant = { λ g. AreLentFrom S.content record { rows = g.rows.now; build = g.build.now } g.spec.now g.alive.now g.contents.now };
+}
+
+impl<'a, S: FarTickets> FarGroup<'a, S> {
+    ghost use Rattle.far_table.specs.FarGroups.{AreCopies};
+
+    /// The row group of a build that holds still. Allocates nothing.
+    pub(crate) fn new(rows: &'a Rows<S>, carried: &'a OffloadCarried<S>) -> FarGroup<'a, S>
+        requires { AreCopies S.content record { rows = rows.now; build = carried.now } }
+        ensures { result ≡ record { rows = rows.now; build = carried.now } }
+    {
+        let build = &carried.build;
+        FarGroup {
+            rows,
+            build,
+            spec: build.job.spec(),
+            alive: build.job.alive(),
+            contents: carried.contents(),
+        }
+    }
+}
+
+impl<'a, S: FarTickets> LendGroup for FarGroup<'a, S> {
+    ghost use Rattle.far_table.specs.FarGroups.{places_there, has_copy};
+
+    ghost places = { places_there S.content };
+
+    ghost has = { has_copy };
+
+    fn column(&self, number: u32) -> Option<Column<'_>> {
+        if !self.spec.needs(number) {
+            return None;
+        }
+        match content_for(self.contents, number) {
+            Some(form) => Some(column_of(number, form)),
+            None => None,
+        }
+    }
+
+    fn alive(&self) -> &[bool] {
+        self.alive
+    }
+}
+
+// The column of a content. Its bytes came from a store, so they are tested before a value is read: a store that breaks its contract
+// has no values here.
+fn column_of(number: u32, form: &[u8]) -> Column<'_>
+    requires { IsForm form.now }
+    ensures { result ≡ (number, cells_meant form.now) }
+{
+    if kind_of(form).is_none() {
+        return Column::of_numbers(number, &[]);
+    }
+    Column::of_form(number, form)
+}

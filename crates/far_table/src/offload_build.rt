@@ -1,0 +1,106 @@
+// Offloaded builds: a row group is built into an aggregate from the far store's copies of its columns.
+ghost use Rattle.std.specs.Prelude.{◌≡◌, ◌+◌, ◌<◌, ◌^◌, [], ◌∷◌, IfOk, IfErr};
+ghost use Rattle.far_store.specs.Faults.{faults_in, RefusedBy};
+ghost use Rattle.far_offload.specs.Jobs.{outcome};
+ghost use Rattle.far_table.specs.Offloading.{AreTicketsOf};
+ghost use Rattle.far_table.specs.FarGroups.{contents_under};
+
+use crate::contents::{Content, contents_of};
+use far_offload::OffloadJob;
+use far_store::{FarRead, FarTickets, Meter};
+use far_types::Refusal;
+use std::alloc::Global;
+use std::marker::Model;
+
+/// An offloaded build that was begun: the table and the registration that it is for, and the tickets and alive flags that it rests
+/// on. It borrows nothing, so any thread can carry it.
+///
+/// Computing an aggregate from far data without fetching its objects is AIFM's offloading (OSDI 2020, section 4.4).
+#[derive(Drop)]
+pub struct OffloadBuild<S: FarTickets> {
+    pub(crate) number: u32,
+    pub(crate) aggregate: u32,
+    pub(crate) registration: u64,
+    pub(crate) group: u32,
+    pub(crate) job: OffloadJob<S>,
+}
+
+impl<S: FarTickets> Model for OffloadBuild<S> {
+    ghost use Rattle.far_table.specs.Offloading.{Build};
+
+    ghost Value = { Build S.Ticket };
+
+    ghost view = { λ build. record { number = build.number; aggregate = build.aggregate; registration = build.registration; group = build.group; job = build.job } };
+}
+
+/// An offloaded build whose contents were read. Contracts see the build: its tickets name the contents.
+#[derive(Drop)]
+pub struct OffloadCarried<S: FarTickets> {
+    pub(crate) build: OffloadBuild<S>,
+    contents: Vec<Content>,
+}
+
+impl<S: FarTickets> Model for OffloadCarried<S> {
+    ghost use Rattle.std.specs.Prelude.{◌≡◌};
+    ghost use Rattle.far_table.specs.Offloading.{Build};
+    ghost use Rattle.far_table.specs.FarGroups.{contents_under};
+
+    ghost Value = { Build S.Ticket };
+
+    ghost view = { λ carried. carried.build };
+
+    ghost invariant = { λ carried. carried.contents.items ≡ contents_under S.content carried.build.job.tickets };
+}
+
+impl<S: FarTickets> OffloadBuild<S> {
+    /// The number of the aggregate. Allocates nothing.
+    pub fn aggregate(&self) -> u32
+        ensures { result ≡ self.now.aggregate }
+    {
+        self.aggregate
+    }
+
+    /// The index of the row group. Allocates nothing.
+    pub fn group(&self) -> u32
+        ensures { result ≡ self.now.group }
+    {
+        self.group
+    }
+}
+
+impl<S: FarRead> OffloadBuild<S> {
+    /// Reads the content of each ticket into a buffer of its own. Nothing enters the local region.
+    ///
+    /// Refused with `FarFault` (21) if the store fails in this call, exactly when the meter rises, by one; and with `NoMemory` (1).
+    /// The build then comes back whole.
+    pub fn carry(
+        self,
+        alloc: Global,
+        store: &S,
+        meter: &mut Meter,
+    ) -> Result<OffloadCarried<S>, (Refusal, OffloadBuild<S>)>
+        requires few { meter.old < 2 ^ 63 }
+        requires here { AreTicketsOf S.is_of (S.name store.now) self.job.tickets }
+        ensures build { IfOk result (λ carried. carried ≡ self) }
+        ensures back { IfErr result (λ refused. refused.1 ≡ self) }
+        ensures faults { meter.new ≡ meter.old + faults_in (outcome result) }
+        ensures refused { RefusedBy (21 ∷ 1 ∷ []) (outcome result) }
+    {
+        match contents_of(alloc, store, meter, self.job.tickets()) {
+            Ok(contents) => Ok(OffloadCarried {
+                build: self,
+                contents,
+            }),
+            Err(refusal) => Err((refusal, self)),
+        }
+    }
+}
+
+impl<S: FarTickets> OffloadCarried<S> {
+    /// What was read. Allocates nothing.
+    pub(crate) fn contents(&self) -> &[Content]
+        ensures { result.now ≡ contents_under S.content self.now.job.tickets }
+    {
+        &self.contents
+    }
+}
