@@ -3,7 +3,7 @@ use Rattle.std.proofs.Common.{◌≡◌, inl, inr, ℕ, zero, suc, ℤ, ◌*◌,
 use Rattle.std.specs.Prelude.{◌-◌, ◌==◌, cond, min, option_map, unwrap_or, slice_get, slice_index, IfSome, FitsSigned}
 use Rattle.std.specs.Int.{w64}
 use Rattle.std.specs.Option.{option_and_then}
-use Rattle.std.proofs.lemmas.List.{length-take, length-drop, take-map, drop-map}
+use Rattle.std.proofs.lemmas.List.{length-take, length-drop, length-map, take-map, drop-map, map-append}
 use Rattle.std.proofs.lemmas.Option.{same_Some, none-some, slice_get-map, slice_get_within, get_or_from_slice_get}
 use Rattle.far_types.specs.declared.cell.Cell.{Cell}
 use Rattle.far_types.specs.declared.cell.Cell.TheVariants as cell
@@ -66,13 +66,6 @@ front-cell : (xs more : List Cell) (i : ℕ) → i < length xs → get_or (xs ++
 front-cell [] more i within = absurd (omega (arith, within))
 front-cell (x ∷ xs) more zero within = refl
 front-cell (x ∷ xs) more (suc i) within = front-cell xs more i (omega (arith, within))
-
-map-append : {X Y : Type 0} (f : X → Y) (xs ys : List X) → map f (xs ++ ys) ≡ map f xs ++ map f ys
-map-append f [] ys = refl
-map-append f (x ∷ xs) ys = ap (λ rest. f x ∷ rest) (map-append f xs ys)
-
-within-at : {A : Type 0} (xs : List A) (i : ℕ) (x : A) → slice_get xs i ≡ Some x → i < length xs
-within-at xs i x at = slice_get_within xs i x at
 
 -- the ticket of an object that is clean
 pub clean-is : {K : Type 0} (b : Bool) (ticket : Option K) (t : K) → cond b None ticket ≡ Some t → (b ≡ false) × (ticket ≡ Some t)
@@ -155,7 +148,7 @@ module _ {K : Type 0} (content : K → List ℕ) (r : Rows K) (are : AreRows con
   -- cells that begin with those of a row group are of its places
   begins : (front more cells : List Cell) → option_map (in_group r.size group) (slice_get (cells_of content r) column) ≡ Some front → length front ≡ length (in_group r.size group r.alive) → cells ≡ front ++ more → IsOfPlaces places (column, cells)
   begins front more cells are_those long is i place at =
-      let within : i < length front = omega (arith, within-at places i place at, places-long, long) in
+      let within : i < length front = omega (arith, slice_get_within places i place at, places-long, long) in
       ap Some (ap (λ (cs : List Cell). get_or cs i cell.Missing) is ∙ front-cell front more i within)
       ∙ lent-cells (cells_of content r) r.alive r.size group column front are_those i place at
 
@@ -170,12 +163,9 @@ module _ {K : Type 0} (content : K → List ℕ) (r : Rows K) (are : AreRows con
       let form = ints-spelled (content t) spelled in
       record {
         form = inl form;
-        cells = begins (map int_cell has.front) (map int_cell has.blanks) (cells_meant (content t)) has.cells (length-mapped int_cell has.front ∙ has.used)
+        cells = begins (map int_cell has.front) (map int_cell has.blanks) (cells_meant (content t)) has.cells (length-map has.front int_cell ∙ has.used)
             (ints-lent (content t) form ∙ ap (map int_cell) has.is ∙ map-append int_cell has.front has.blanks);
-      } where
-        length-mapped : {X Y : Type 0} (f : X → Y) (xs : List X) → length (map f xs) ≡ length xs
-        length-mapped f [] = refl
-        length-mapped f (x ∷ xs) = ap suc (length-mapped f xs)
+      }
 
   -- and of one of texts
   pub copied-text : object_at r column group ≡ Some (object.Text o) → (t : K) → clean_ticket r.text_objects o ≡ Some t → IsTextsForm (content t) → IsCopy content r group column t
