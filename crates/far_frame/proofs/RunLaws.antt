@@ -152,6 +152,8 @@ module _ {K : Type 0} (content : K → List ℕ) (number_of : K → ℕ) where
   commits-table old (work.Evac evac) new h = absurd h
   commits-table old (work.Fetch fetch) new h = absurd h
   commits-table old (work.Fetched fetched) new h = absurd h
+  commits-table old (work.Offload build) new h = absurd h
+  commits-table old (work.Offloaded build) new h = absurd h
 
   pub pinned-stays : (old : World K) (n : ℕ) (job : JobRecord K) (carried : ByKind (CarriedEvacuation K) (CarriedEvacuation K)) → job_at old.jobs n ≡ Some job → job.work ≡ work.Carried carried → pins_by old.state.rows carried ≢ 0 → (new : World K) → ¬ (IsStep content number_of old (step.Commit n) reply.Done new)
   pinned-stays old n job carried is phase pins new k =
@@ -163,6 +165,8 @@ module _ {K : Type 0} (content : K → List ℕ) (number_of : K → ℕ) where
   installs-table old (work.Evac evac) new h = absurd h
   installs-table old (work.Carried carried) new h = absurd h
   installs-table old (work.Fetch fetch) new h = absurd h
+  installs-table old (work.Offload build) new h = absurd h
+  installs-table old (work.Offloaded build) new h = absurd h
 
   same-faults : (old new : World K) (serves : Reply → World K → Type 0) (refuses : Refusal → World K → Type 0) (given : Reply) → ((served : Reply) → serves served new → new.faults ≡ old.faults) → ((why : Refusal) → refuses why new → new.faults ≡ old.faults) → Replies (λ served. serves served new) (λ why. refuses why new) given → new.faults ≤ old.faults + 1
   same-faults old new serves refuses given f g h = (let same = replied (λ served. serves served new) (λ why. refuses why new) given f g h in omega (arith, same))

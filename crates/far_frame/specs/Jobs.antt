@@ -1,5 +1,5 @@
 -- Jobs that move objects: what they are, how they begin, are carried and end.
-use Rattle.std.specs.Prelude.{◌≡◌, ◌≢◌, ◌⊎◌, ℕ, ◌==◌, List, [], ◌∷◌, Option, None, Some, IsTrue}
+use Rattle.std.specs.Prelude.{◌≡◌, ◌≢◌, ◌⊎◌, ℕ, ◌==◌, Bool, true, false, List, [], ◌∷◌, Option, None, Some, IsTrue, IsSome, IsSomeAnd}
 use Rattle.std.specs.List.{list_any}
 use Rattle.far_types.specs.declared.name.Name.{Name}
 use Rattle.far_types.specs.declared.refusal.Refusal.{Refusal}
@@ -10,7 +10,9 @@ use Rattle.far_rows.specs.declared.job.ByKind.{ByKind}
 use Rattle.far_rows.specs.Rows.{Rows}
 use Rattle.far_rows.specs.Coldest.{coldest}
 use Rattle.far_rows.specs.Jobs.{of_either, IsCarriedEvac, IsCarriedFetch, IsEvacBegun, IsFetchBegun, IsEvacAccepted, IsFetchAccepted, evac_refusal, fetch_refusal, pins_by, HasNoRoom}
-use Rattle.far_frame.specs.State.{State, Alters}
+use Rattle.far_table.specs.Offloading.{Build, AreTicketsOf, IsMergeable, IsMerged, IsOffloadBegun, offload_refusal}
+use Rattle.far_table.specs.Watching.{aggregate_at}
+use Rattle.far_frame.specs.State.{State, Alters, live}
 use Rattle.far_table.specs.Moving.{IsMoved, IsCommitted, IsInstalled}
 use Rattle.far_frame.specs.declared.job.JobKind.{JobKind}
 use Rattle.far_frame.specs.declared.job.JobKind.TheVariants as kind
@@ -19,11 +21,11 @@ use Rattle.far_frame.specs.declared.job.Work.TheVariants as work
 
 -- the work of a job, by kind and phase
 abbrev pub WorkOf : Type 0 → Type 0
-WorkOf K = Work (ByKind (Evacuation K) (Evacuation K)) (ByKind (CarriedEvacuation K) (CarriedEvacuation K)) (ByKind (Fetch K) (Fetch K)) (ByKind (CarriedFetch K) (CarriedFetch K))
+WorkOf K = Work (ByKind (Evacuation K) (Evacuation K)) (ByKind (CarriedEvacuation K) (CarriedEvacuation K)) (ByKind (Fetch K) (Fetch K)) (ByKind (CarriedFetch K) (CarriedFetch K)) (Build K) (Build K)
 
--- a job: the column and the row group of its object, and its work
+-- a job: the column and the row group of its object, if it moves one, and its work
 pub record JobRecord (K : Type 0) : Type 0 where
-  pub name : Name
+  pub name : Option Name
   pub work : WorkOf K
 
 -- the refusal has one of these numbers
@@ -36,6 +38,14 @@ module _ {K : Type 0} where
   kind_of_work (work.Carried carried) = kind.Evac
   kind_of_work (work.Fetch fetch) = kind.Fetch
   kind_of_work (work.Fetched fetched) = kind.Fetch
+  kind_of_work (work.Offload build) = kind.Offload
+  kind_of_work (work.Offloaded build) = kind.Offload
+
+  -- the work is an offloaded build
+  abbrev pub is_offload : WorkOf K → Bool
+  is_offload (work.Offload build) = true
+  is_offload (work.Offloaded build) = true
+  is_offload _ = false
 
   -- what a job does
   abbrev pub kind_of : JobRecord K → JobKind
@@ -47,6 +57,8 @@ module _ {K : Type 0} where
     IsWorkAt (work.Carried carried) = is_of (of_either carried).ticket name
     IsWorkAt (work.Fetch fetch) = is_of (of_either fetch).ticket name
     IsWorkAt (work.Fetched fetched) = is_of (of_either fetched).job.ticket name
+    IsWorkAt (work.Offload build) = AreTicketsOf is_of name build.job.tickets
+    IsWorkAt (work.Offloaded build) = AreTicketsOf is_of name build.job.tickets
 
     -- what a job holds is of the store of this name
     abbrev pub IsJobAt : JobRecord K → Type 0
@@ -56,16 +68,11 @@ module _ {K : Type 0} where
     abbrev pub IsWorkCarried : WorkOf K → WorkOf K → Type 0
     IsWorkCarried (work.Evac evac) (work.Carried carried) = IsCarriedEvac content evac carried
     IsWorkCarried (work.Fetch fetch) (work.Fetched fetched) = IsCarriedFetch content fetch fetched
-    IsWorkCarried (work.Evac evac) (work.Evac other) = ⊥
-    IsWorkCarried (work.Evac evac) (work.Fetch other) = ⊥
-    IsWorkCarried (work.Evac evac) (work.Fetched other) = ⊥
-    IsWorkCarried (work.Fetch fetch) (work.Evac other) = ⊥
-    IsWorkCarried (work.Fetch fetch) (work.Carried other) = ⊥
-    IsWorkCarried (work.Fetch fetch) (work.Fetch other) = ⊥
-    IsWorkCarried (work.Carried carried) next = ⊥
-    IsWorkCarried (work.Fetched fetched) next = ⊥
+    IsWorkCarried (work.Offload build) (work.Offloaded carried) = carried ≡ build
+    IsWorkCarried begun _ = ⊥
 
-    -- a job that was begun is carried: the store has its form, or its bytes are the content of its ticket
+    -- a job that was begun is carried: the store has its form, or its bytes are the content of its ticket, or the contents of its
+    -- tickets were read
     pub record IsCarried (job done : JobRecord K) : Type 0 where
       pub name : done.name ≡ job.name
       pub work : IsWorkCarried job.work done.work
@@ -75,6 +82,8 @@ module _ {K : Type 0} where
   WorkRefusal (work.Fetch fetch) given = IsOneOf (21 ∷ 1 ∷ []) given
   WorkRefusal (work.Carried carried) given = given ≡ refusal.StaleJob
   WorkRefusal (work.Fetched fetched) given = given ≡ refusal.StaleJob
+  WorkRefusal (work.Offload build) given = IsOneOf (21 ∷ 1 ∷ []) given
+  WorkRefusal (work.Offloaded build) given = given ≡ refusal.StaleJob
 
   -- why a job is not carried: it was already; else the store failed or was full, or memory was wanted
   abbrev pub CarryRefusal : JobRecord K → Refusal → Type 0
@@ -83,57 +92,71 @@ module _ {K : Type 0} where
   module _ (r : Rows K) (column group : ℕ) where
     abbrev pub IsEvacWork : WorkOf K → Type 0
     IsEvacWork (work.Evac evac) = IsEvacBegun r column group evac
-    IsEvacWork (work.Carried carried) = ⊥
-    IsEvacWork (work.Fetch fetch) = ⊥
-    IsEvacWork (work.Fetched fetched) = ⊥
+    IsEvacWork _ = ⊥
 
     -- an evacuation of the object of a row group of a column, begun now
     pub record IsEvacJob (job : JobRecord K) : Type 0 where
       pub free : evac_refusal r column group ≡ None
-      pub name : job.name ≡ record { column = column; group = group }
+      pub name : job.name ≡ Some record { column = column; group = group }
       pub work : IsEvacWork job.work
 
     abbrev pub IsFetchWork : WorkOf K → Type 0
     IsFetchWork (work.Fetch fetch) = IsFetchBegun r column group fetch
-    IsFetchWork (work.Evac evac) = ⊥
-    IsFetchWork (work.Carried carried) = ⊥
-    IsFetchWork (work.Fetched fetched) = ⊥
+    IsFetchWork _ = ⊥
 
     -- a fetch of it, begun now
     pub record IsFetchJob (job : JobRecord K) : Type 0 where
       pub free : fetch_refusal r column group ≡ None
-      pub name : job.name ≡ record { column = column; group = group }
+      pub name : job.name ≡ Some record { column = column; group = group }
       pub work : IsFetchWork job.work
+
+  module _ (s : State K) (a g : ℕ) where
+    abbrev pub IsOffloadWork : WorkOf K → Type 0
+    IsOffloadWork (work.Offload build) = IsOffloadBegun (live s) a g build
+    IsOffloadWork _ = ⊥
+
+    -- an offloaded build of a row group into an aggregate, begun now
+    pub record IsOffloadJob (job : JobRecord K) : Type 0 where
+      pub free : offload_refusal (live s) (aggregate_at s.table a) g ≡ None
+      pub name : job.name ≡ None
+      pub work : IsOffloadWork job.work
 
   module _ (r : Rows K) where
     -- the coldest object's evacuation is begun, or there is none
     abbrev pub IsColdestJob : Option (JobRecord K) → Type 0
     IsColdestJob None = coldest r ≡ None
-    IsColdestJob (Some job) = (coldest r ≡ Some job.name) × IsEvacJob r job.name.column job.name.group job
+    IsColdestJob (Some job) = IsSomeAnd job.name (λ name. (coldest r ≡ Some name) × IsEvacJob r name.column name.group job)
 
   module _ (number_of : K → ℕ) (old : State K) where
     -- a job is an evacuation that was carried and is accepted, and its object is away
     abbrev pub Commits : WorkOf K → State K → Type 0
     Commits (work.Carried carried) new = Alters (IsMoved (IsCommitted number_of carried)) old new
-    Commits (work.Evac evac) new = ⊥
-    Commits (work.Fetch fetch) new = ⊥
-    Commits (work.Fetched fetched) new = ⊥
+    Commits _ new = ⊥
 
     -- or it is not: what it rests on does not hold any more, or its object has a pin. Any other job is stale here
     abbrev pub CommitRefusal : WorkOf K → Refusal → Type 0
     CommitRefusal (work.Carried carried) given = ((given ≡ refusal.StaleJob) × ¬ (IsEvacAccepted number_of old.rows carried))
         ⊎ ((given ≡ refusal.Pinned) × IsEvacAccepted number_of old.rows carried × (pins_by old.rows carried ≢ 0))
-    CommitRefusal (work.Evac evac) given = given ≡ refusal.StaleJob
-    CommitRefusal (work.Fetch fetch) given = given ≡ refusal.StaleJob
-    CommitRefusal (work.Fetched fetched) given = given ≡ refusal.StaleJob
+    CommitRefusal _ given = given ≡ refusal.StaleJob
+
+    -- a job is an offloaded build that was carried and is accepted, and its row group is built in
+    abbrev pub Merges : WorkOf K → State K → Type 0
+    Merges (work.Offloaded build) new = Alters (λ before after. IsMerged number_of before build after) old new
+    Merges _ new = ⊥
+
+    -- or it is not: its aggregate is not registered, what it rests on does not hold any more, or memory is wanted. Any other job is
+    -- stale here
+    abbrev pub MergeRefusal : WorkOf K → Refusal → Type 0
+    MergeRefusal (work.Offloaded build) given = ((given ≡ refusal.NoAggregate) × (aggregate_at old.table build.aggregate ≡ None))
+        ⊎ (((given ≡ refusal.StaleJob) × IsSome (aggregate_at old.table build.aggregate) × ¬ (IsMergeable number_of (live old) build))
+        ⊎ ((given ≡ refusal.NoMemory) × ¬ (¬ (IsMergeable number_of (live old) build))))
+    MergeRefusal _ given = given ≡ refusal.StaleJob
 
     module _ (content : K → List ℕ) where
       -- a job is a fetch that was carried and is accepted, and its object is back
       abbrev pub Installs : WorkOf K → State K → Type 0
       Installs (work.Fetched fetched) new = Alters (IsMoved (IsInstalled content number_of fetched)) old new
-      Installs (work.Evac evac) new = ⊥
-      Installs (work.Carried carried) new = ⊥
-      Installs (work.Fetch fetch) new = ⊥
+      Installs _ new = ⊥
 
       -- or it is not: what it rests on does not hold any more, its object finds no room, or memory is wanted. Any other job is
       -- stale here
@@ -141,6 +164,4 @@ module _ {K : Type 0} where
       InstallRefusal (work.Fetched fetched) given = ((given ≡ refusal.StaleJob) × ¬ (IsFetchAccepted number_of old.rows fetched))
           ⊎ (((given ≡ refusal.RegionFull) × IsFetchAccepted number_of old.rows fetched × HasNoRoom content old.rows fetched)
           ⊎ ((given ≡ refusal.NoMemory) × ¬ (¬ (IsFetchAccepted number_of old.rows fetched)) × ¬ (HasNoRoom content old.rows fetched)))
-      InstallRefusal (work.Evac evac) given = given ≡ refusal.StaleJob
-      InstallRefusal (work.Carried carried) given = given ≡ refusal.StaleJob
-      InstallRefusal (work.Fetch fetch) given = given ≡ refusal.StaleJob
+      InstallRefusal _ given = given ≡ refusal.StaleJob

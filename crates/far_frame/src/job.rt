@@ -1,11 +1,12 @@
 // Jobs that move objects, of every kind and in every phase.
-ghost use Rattle.std.specs.Prelude.{◌≡◌, ◌+◌, ◌<◌, ◌^◌, Some, IfOk, IfErr};
+ghost use Rattle.std.specs.Prelude.{◌≡◌, ◌+◌, ◌<◌, ◌^◌, is_none, IfOk, IfErr};
 ghost use Rattle.far_store.specs.Faults.{faults_in};
 ghost use Rattle.far_evacuator.specs.Jobs.{outcome};
-ghost use Rattle.far_frame.specs.Jobs.{IsWorkAt, IsWorkCarried, WorkRefusal, IsJobAt, IsCarried, CarryRefusal, kind_of};
+ghost use Rattle.far_frame.specs.Jobs.{IsWorkAt, IsWorkCarried, WorkRefusal, IsJobAt, IsCarried, CarryRefusal, is_offload, kind_of};
 
 use far_rows::{RowsCarried, RowsEvac, RowsFetch, RowsFetched};
 use far_store::{FarStore, FarTickets, Meter};
+use far_table::{OffloadBuild, OffloadCarried};
 use far_types::{Name, Refusal};
 use std::alloc::Global;
 use std::marker::Model;
@@ -17,11 +18,13 @@ pub enum JobKind {
     Evac,
     /// It brings an object back.
     Fetch,
+    /// It builds a row group into an aggregate from the far store's copies of its columns.
+    Offload,
 }
 
 /// The work of a job, by kind and phase. The parameters are the jobs of the crates below.
 #[derive(Drop)]
-pub enum Work<E, C, F, D> {
+pub enum Work<E, C, F, D, B, M> {
     /// An evacuation that was begun.
     Evac(E),
     /// An evacuation whose far form the store has.
@@ -30,25 +33,39 @@ pub enum Work<E, C, F, D> {
     Fetch(F),
     /// A fetch whose bytes were read.
     Fetched(D),
+    /// An offloaded build that was begun.
+    Offload(B),
+    /// An offloaded build whose contents were read.
+    Offloaded(M),
 }
 
 /// The work of a job of a table.
-type JobWork<S> = Work<RowsEvac<S>, RowsCarried<S>, RowsFetch<S>, RowsFetched<S>>;
+type JobWork<S> = Work<
+    RowsEvac<S>,
+    RowsCarried<S>,
+    RowsFetch<S>,
+    RowsFetched<S>,
+    OffloadBuild<S>,
+    OffloadCarried<S>,
+>;
 
 /// A job of a table. It owns all that it holds, so no table is borrowed between its beginning and its end, and any thread can carry
-/// it. Contracts see the name of its object and its work.
+/// it. Contracts see the name of its object, if it moves one, and its work.
 #[derive(Drop)]
 pub struct Job<S: FarTickets> {
-    pub(crate) name: Name,
+    pub(crate) name: Option<Name>,
     pub(crate) work: JobWork<S>,
 }
 
 impl<S: FarTickets> Model for Job<S> {
-    ghost use Rattle.far_frame.specs.Jobs.{JobRecord};
+    ghost use Rattle.std.specs.Prelude.{◌≡◌, is_none};
+    ghost use Rattle.far_frame.specs.Jobs.{JobRecord, is_offload};
 
     ghost Value = { JobRecord S.Ticket };
 
     ghost view = { λ job. record { name = job.name; work = job.work } };
+
+    ghost invariant = { λ job. is_none job.name ≡ is_offload job.work };
 }
 
 impl<S: FarTickets> Job<S> {
@@ -61,20 +78,23 @@ impl<S: FarTickets> Job<S> {
             Work::Carried(_) => JobKind::Evac,
             Work::Fetch(_) => JobKind::Fetch,
             Work::Fetched(_) => JobKind::Fetch,
+            Work::Offload(_) => JobKind::Offload,
+            Work::Offloaded(_) => JobKind::Offload,
         }
     }
 
-    /// The column and the row group of the object that the job moves. Takes no memory.
+    /// The column and the row group of the object that the job moves; `None` exactly for an offloaded build. Takes no memory.
     pub fn object(&self) -> Option<Name>
-        ensures { result ≡ Some self.now.name }
+        ensures name { result ≡ self.now.name }
+        ensures offload { is_none result ≡ is_offload self.now.work }
     {
-        Some(self.name)
+        self.name
     }
 }
 
 impl<S: FarStore> Job<S> {
-    /// Carries the job: an evacuation puts its far form into the store, a fetch reads its ticket's content. It borrows no table, so
-    /// it may be done beside every other step.
+    /// Carries the job: an evacuation puts its far form into the store, a fetch reads its ticket's content, an offloaded build those of
+    /// its tickets. It borrows no table, so it may be done beside every other step.
     ///
     /// Refused with `StaleJob` (20) exactly where the job was carried already; else with `FarFault` (21) where the store fails in
     /// this call, exactly where the meter rises, by one; with `FarFull` (22), an evacuation alone; and with `NoMemory` (1). The job
@@ -125,7 +145,12 @@ fn carry_work<S: FarStore>(
             Ok(fetched) => Ok(Work::Fetched(fetched)),
             Err((refusal, fetch)) => Err((refusal, Work::Fetch(fetch))),
         },
+        Work::Offload(build) => match build.carry(alloc, store, meter) {
+            Ok(carried) => Ok(Work::Offloaded(carried)),
+            Err((refusal, build)) => Err((refusal, Work::Offload(build))),
+        },
         Work::Carried(carried) => Err((Refusal::StaleJob, Work::Carried(carried))),
         Work::Fetched(fetched) => Err((Refusal::StaleJob, Work::Fetched(fetched))),
+        Work::Offloaded(carried) => Err((Refusal::StaleJob, Work::Offloaded(carried))),
     }
 }

@@ -67,7 +67,7 @@ impl<S: FarTickets> Frame<S> {
     {
         let evac = self.table.begin_evac(store, column, group)?;
         Ok(Job {
-            name: Name { column, group },
+            name: Some(Name { column, group }),
             work: Work::Evac(evac),
         })
     }
@@ -87,7 +87,7 @@ impl<S: FarTickets> Frame<S> {
         };
         let evac = self.table.begin_evac(store, name.column, name.group)?;
         Ok(Some(Job {
-            name,
+            name: Some(name),
             work: Work::Evac(evac),
         }))
     }
@@ -104,7 +104,7 @@ impl<S: FarTickets> Frame<S> {
     {
         let fetch = self.table.begin_fetch(store, column, group)?;
         Ok(Job {
-            name: Name { column, group },
+            name: Some(Name { column, group }),
             work: Work::Fetch(fetch),
         })
     }
@@ -126,6 +126,8 @@ impl<S: FarTickets> Frame<S> {
             Work::Evac(_) => Err(Refusal::StaleJob),
             Work::Fetch(_) => Err(Refusal::StaleJob),
             Work::Fetched(_) => Err(Refusal::StaleJob),
+            Work::Offload(_) => Err(Refusal::StaleJob),
+            Work::Offloaded(_) => Err(Refusal::StaleJob),
         }
     }
 
@@ -147,6 +149,8 @@ impl<S: FarTickets> Frame<S> {
             Work::Evac(_) => Err(Refusal::StaleJob),
             Work::Carried(_) => Err(Refusal::StaleJob),
             Work::Fetch(_) => Err(Refusal::StaleJob),
+            Work::Offload(_) => Err(Refusal::StaleJob),
+            Work::Offloaded(_) => Err(Refusal::StaleJob),
         }
     }
 
