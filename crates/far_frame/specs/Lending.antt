@@ -1,4 +1,4 @@
--- Parts of columns that are lent, in the plain table's words, and what is remembered of them.
+-- Parts of columns that are lent, in the plain table's words, and the access history.
 use Rattle.std.specs.Prelude.{◌≡◌, ℕ, Bool, ℤ, nat_lt, not, List, [], ◌∷◌, map, length, slice_get, slice_set, Option, Some, None}
 use Rattle.std.specs.List.{fold}
 use Rattle.std.specs.Option.{option_map_or}
@@ -64,7 +64,7 @@ Gives of pieces (reply.Ints copies) = (of ≡ Some kind.Int) × (map int_piece c
 Gives of pieces (reply.Texts copies) = (of ≡ Some kind.Text) × (map text_piece copies.items ≡ pieces)
 Gives of pieces _ = ⊥
 
--- what was read of a column lately, once some row groups of it are lent, in order
+-- the access histories, once some row groups of a column were accessed, in order
 abbrev pub all_seen : List (List ℕ) → ℕ → List ℕ → List (List ℕ)
 all_seen seen column lent = fold (λ histories g. slice_set histories column (with_seen (history_of histories column) g)) seen lent
 
@@ -77,7 +77,7 @@ abbrev pub next_groups : Table → List (List ℕ) → ℕ → List ℕ
 next_groups table seen column = proposed (groups table.limits.group (length table.places)) (history_of seen column)
 
 module _ {K : Type 0} where
-  -- the objects of some row groups of a column are used, in order
+  -- the objects of some row groups of a column are marked as recently used, in order
   abbrev pub all_used : Rows K → ℕ → List ℕ → Rows K
   all_used r column lent = fold (λ rows g. option_map_or (touched rows) (object_at rows column g) rows) r lent
 
@@ -86,7 +86,7 @@ module _ {K : Type 0} where
   abbrev pub lend_refusal : Rows K → ℕ → ℕ → ℕ → Option Refusal
   lend_refusal r column from to = first_of (no_column r column ∷ no_range r from to ∷ map (absent_in r column) (touched_groups r.size from to))
 
-  -- row groups of a column are seen: their objects are used, in order, and they are remembered
+  -- row groups of a column are accessed, in order: their objects are marked as recently used, and the history has them
   pub record AreSeen (column : ℕ) (lent : List ℕ) (old new : State K) : Type 0 where
     pub table : new.table ≡ old.table
     pub rows : new.rows ≡ all_used old.rows column lent

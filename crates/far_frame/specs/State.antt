@@ -1,4 +1,4 @@
--- A table with what was read of it lately.
+-- A table with its access history.
 use Rattle.std.specs.Prelude.{◌≡◌, ℕ, List, [], length, replicate}
 use Rattle.far_types.specs.declared.cell.Kind.{Kind}
 use Rattle.far_types.specs.declared.limits.Limits.{Limits}
@@ -7,8 +7,8 @@ use Rattle.far_rows.specs.Rows.{Rows}
 use Rattle.far_rows.specs.Opening.{empty_rows}
 use Rattle.far_table.specs.State.{State as LiveState}
 
--- all that a step on the table can see or change: the plain table, the rows over objects that hold its places, and the last
--- row groups that were lent of each column
+-- all that a step on the table can see or change: the plain table, the rows over the objects that hold its places, and the access
+-- history of each column: its last 8 row groups, oldest first
 pub record State (K : Type 0) : Type 0 where
   pub table : Table
   pub rows : Rows K

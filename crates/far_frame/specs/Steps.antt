@@ -9,7 +9,7 @@ use Rattle.far_frame.specs.Jobs.{IsEvacJob, IsFetchJob, Commits, CommitRefusal, 
 use Rattle.far_frame.specs.Worlds.{World, IsBegun, IsNotBegun, IsCarry, IsNoCarry, IsEnded, IsNotEnded}
 
 module _ {K : Type 0} (content : K → List ℕ) (number_of : K → ℕ) (old : World K) where
-  -- the table and its objects change alone
+  -- the state alone changes: not the jobs, the store or the faults
   abbrev pub OnTable : Step → Reply → World K → Type 0
   OnTable s given new = Changes content old.state s given new.state × (new ≡ record old { state = new.state })
 

@@ -26,7 +26,7 @@ use std::alloc::Global;
 use std::marker::Model;
 
 /// A table whose rows lie in objects that are local or away, and whose aggregates are kept up to date under every edit.
-/// Contracts see its state: the plain table, the rows over objects that hold its places, and what was read of each column lately.
+/// Contracts see its state: the plain table, the rows over objects that hold its places, and the access history of each column.
 ///
 /// All calls of one table that take a store are given the store to which its objects went.
 #[derive(Drop)]

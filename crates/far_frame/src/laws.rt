@@ -61,12 +61,12 @@ pub fn a_refused_step_changes_nothing<S: FarTickets>()
     ensures { (old : World S.Ticket) → (s : Step) → (given : Refusal) → (new : World S.Ticket) → IsStep S.content S.number_of old s (reply.Refused given) new → new.state ≡ old.state }
 {}
 
-/// Lendings, pins, jobs in any phase and compactions change no row, no aggregate and no answer.
+/// Lendings, pins, jobs in any phase, compactions and proposals change no row, no aggregate and no answer.
 pub fn movement_changes_no_row<S: FarTickets>()
     ensures { (old : World S.Ticket) → (s : Step) → (given : Reply) → (new : World S.Ticket) → is_movement s ≡ true → IsStep S.content S.number_of old s given new → new.state.table ≡ old.state.table }
 {}
 
-/// No object that has a pin goes away.
+/// No commit sends away an object that has a pin.
 pub fn a_pinned_object_stays<S: FarTickets>()
     ensures { (old : World S.Ticket) → (n : ℕ) → (job : JobRecord S.Ticket) → (carried : ByKind (CarriedEvacuation S.Ticket) (CarriedEvacuation S.Ticket)) → job_at old.jobs n ≡ Some job → job.work ≡ work.Carried carried → pins_by old.state.rows carried ≢ 0 → (new : World S.Ticket) → ¬ (IsStep S.content S.number_of old (step.Commit n) reply.Done new) }
 {}

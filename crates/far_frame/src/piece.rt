@@ -1,4 +1,4 @@
-// What a lending of a list of steps replies: copies of parts of columns.
+// What the step `Lend` replies: copies of parts of columns.
 use far_types::Text;
 
 /// Numbers of places that follow each other in one row group, each of which may be missing, and whether each place is alive.

@@ -18,7 +18,7 @@ pub enum Step {
     ScanGroup(u32, u32),
     /// Asks the aggregate of a number.
     Ask(u32),
-    /// Lends the places `from` up to `to` of a column, as copies.
+    /// Copies the places `from` up to `to` of a column, and records the accesses.
     Lend {
         /// The column.
         column: u32,
@@ -86,7 +86,7 @@ pub enum Reply {
     Job(u64),
     /// The row groups to fetch next.
     Next(Vec<u32>),
-    /// Why nothing was changed.
+    /// Why the step was refused: the table and its objects are unchanged.
     Refused(Refusal),
 }
 

@@ -1,4 +1,4 @@
-// The rows of a table, lent in place.
+// The rows and columns of a table, lent in place.
 ghost use Rattle.std.specs.Prelude.{◌≡◌, ◌<◌, ◌≤◌, ◌/◌, ◌^◌, ℕ, None, Some, length, map, option_map, option_copied, slice_get, slice_range, IfOk, OnOk};
 ghost use Rattle.far_types.specs.FirstOf.{first_of};
 ghost use Rattle.far_scopes.specs.Refusing.{refusal_in};

@@ -72,7 +72,7 @@ impl<S: FarStore> World<S> {
         &self.store
     }
 
-    /// How many faults of the store were met. Takes no memory.
+    /// How many faults its stores answered since `new`. Takes no memory.
     pub fn faults(&self) -> u64
         ensures { result ≡ self.now.faults }
     {

@@ -21,7 +21,7 @@ module _ {K : Type 0} where
   abbrev pub IsUnpinned : ℕ → ℕ → Rows K → Rows K → Type 0
   IsUnpinned column group old new = IsSomeAnd (object_at old column group) (λ object. new ≡ unpinned old object)
 
-  -- it is used: it is hot, and used last, if it is local
+  -- it is marked as recently used, if it is local
   abbrev pub IsTouched : ℕ → ℕ → Rows K → Rows K → Type 0
   IsTouched column group old new = IsSomeAnd (object_at old column group) (λ object. new ≡ touched old object)
 

@@ -15,7 +15,8 @@ use std::marker::Model;
 /// An offloaded build that was begun: the table and the registration that it is for, and the tickets and alive flags that it rests
 /// on. It borrows nothing, so any thread can carry it.
 ///
-/// Computing an aggregate from far data without fetching its objects is AIFM's offloading (OSDI 2020, section 4.4).
+/// `carry` reads the contents into buffers, and `merge` folds them. Computing an aggregate from far data without fetching its objects
+/// is AIFM's offloading (OSDI 2020, section 4.4); there the fold runs beside the far data.
 #[derive(Drop)]
 pub struct OffloadBuild<S: FarTickets> {
     pub(crate) number: u32,
@@ -33,7 +34,7 @@ impl<S: FarTickets> Model for OffloadBuild<S> {
     ghost view = { λ build. record { number = build.number; aggregate = build.aggregate; registration = build.registration; group = build.group; job = build.job } };
 }
 
-/// An offloaded build whose contents were read. Contracts see the build: its tickets name the contents.
+/// An offloaded build whose contents were read. Contracts see the build: that the contents are those of its tickets is the invariant.
 #[derive(Drop)]
 pub struct OffloadCarried<S: FarTickets> {
     pub(crate) build: OffloadBuild<S>,

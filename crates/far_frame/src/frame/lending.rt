@@ -1,4 +1,4 @@
-// What was read of a table lately, and what to fetch next by it.
+// The access history of a table, and what to fetch next by it.
 ghost use Rattle.std.specs.Prelude.{◌≡◌, ℕ, List, true, None, [], ◌∷◌, IfOk, IfErr, OnOk, OnErr};
 ghost use Rattle.far_types.specs.MayRefuse.{MayRefuse};
 ghost use Rattle.far_scopes.specs.Refusing.{refusal_in};
@@ -12,11 +12,11 @@ use far_store::FarTickets;
 use far_types::Refusal;
 
 impl<S: FarTickets> Frame<S> {
-    /// Remembers that a row group of a column was read, and uses its object: it is hot and used last, if it is local. Takes no
-    /// memory.
+    /// Records an access to a row group of a column, and marks its object as recently used (AIFM's hot bit), if it is local. Allocates
+    /// nothing.
     ///
-    /// Refused with `NoColumn` (4), `OutOfRange` (14) where no place of the row group is used: the first that applies. Then nothing
-    /// is changed.
+    /// Refused with `NoColumn` (4), or `OutOfRange` (14) if the row group has no place: the first that applies. Then nothing is
+    /// changed.
     pub fn saw(&mut self, column: u32, group: u32) -> Result<(), Refusal>
         ensures seen { OnOk result (AreSeen column (group ∷ []) self.old self.new) }
         ensures here { (name : List ℕ) → AreAt S.is_of name self.old.rows → AreAt S.is_of name self.new.rows }
@@ -28,17 +28,17 @@ impl<S: FarTickets> Frame<S> {
         Ok(())
     }
 
-    /// Uses the object of a row group of a column, if there is one, and remembers the row group. Takes no memory.
+    /// Records an access to a row group of a column, whether or not there is such a row group. Allocates nothing.
     fn see_one(&mut self, column: u32, group: u32)
         ensures seen { AreSeen column (group ∷ []) self.old self.new }
         ensures here { (name : List ℕ) → AreAt S.is_of name self.old.rows → AreAt S.is_of name self.new.rows }
     {
-        // Where there is no such object nothing is used.
+        // If there is no such object, none is marked.
         let _used = self.table.touch(column, group);
         self.prefetcher.saw(column, group);
     }
 
-    /// Remembers the row groups that have places `from` up to `to` of a column, in order, and uses their objects. Takes no memory.
+    /// Records an access to each row group that has places `from` up to `to` of a column, in order. Allocates nothing.
     pub(crate) fn see(&mut self, column: u32, from: u32, to: u32)
         ensures seen { AreSeen column (touched self.old.rows.size from to) self.old self.new }
         ensures here { (name : List ℕ) → AreAt S.is_of name self.old.rows → AreAt S.is_of name self.new.rows }
@@ -52,7 +52,7 @@ impl<S: FarTickets> Frame<S> {
         }
     }
 
-    /// The row groups of a column to fetch next: where the last three differences of the row groups that were seen of it are equal
+    /// The row groups of a column to fetch next: where the last three differences of the row groups in its history are equal
     /// and not 0, the next two of that stride that exist, and else none.
     ///
     /// Refused with `NoColumn` (4) exactly where there is no such column, else with `NoMemory` (1) alone.

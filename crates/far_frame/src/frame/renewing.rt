@@ -10,8 +10,9 @@ use far_store::{FarRead, FarStore, Meter};
 use far_types::Refusal;
 
 impl<S: FarRead> Frame<S> {
-    /// The same table with its far copies in another store: each content of an object that is away is put there. Every row,
-    /// aggregate and answer stays, and what is local, which is dirty now. Jobs that were begun are not for the new table.
+    /// The same table with its far copies in another store: each content of an object that is away is put there. Rows, aggregates and
+    /// answers do not change. A local object stays local, with its pins, versions and order of use, and is dirty, since the new store
+    /// has no copy of it. Do not use jobs of the old table on the new one.
     ///
     /// Refused with `FarFault` (21) where one of the stores fails, exactly where the meter rises, by one; with `FarFull` (22) where
     /// the new one gives out no more numbers; and with `NoMemory` (1). Then the table is handed back as it was; what was put

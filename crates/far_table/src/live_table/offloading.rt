@@ -98,8 +98,8 @@ impl<S: FarTickets> LiveTable<S> {
     ///
     /// Refused with `NoAggregate` (12) exactly if the build's aggregate is not registered; else with `StaleJob` (20) exactly if what
     /// the build rests on does not hold any more (`IsMergeable`); else with `NoMemory` (1) alone. Then nothing is changed. The build
-    /// rests on this: the table and the registration are the same; the row group is still to be built in; the object of each column
-    /// that is needed is clean, under a ticket of the same number; the alive flags are the same.
+    /// rests on this: the table, the registration and its specification are the same; the row group is still to be built in; the object
+    /// of each column that is needed is clean, under a ticket of the same number; the alive flags are the same.
     pub fn merge(&mut self, store: &S, carried: &OffloadCarried<S>) -> Result<(), Refusal>
         requires here { AreAt S.is_of (S.name store.now) self.old.rows }
         requires carried_here { AreTicketsOf S.is_of (S.name store.now) carried.now.job.tickets }
