@@ -8,7 +8,7 @@ use std::sync::Wait;
 use std::{fs, io};
 
 /// Scripts that are run to their end.
-const WHOLE: [&str; 41] = [
+const WHOLE: [&str; 45] = [
     "first_run",
     "bakery",
     "a_key_gets_the_extremes_of_the_rows_left",
@@ -17,6 +17,8 @@ const WHOLE: [&str; 41] = [
     "a_load_and_a_listing",
     "a_load_ends_at_a_refusal",
     "a_minimum_stays_until_its_last_holder_goes",
+    "a_part_of_a_column_is_lent",
+    "a_piece_is_written_as_a_record",
     "a_pinned_object_stays",
     "a_row_group_is_scanned_once",
     "a_row_group_made_after_the_registration",
@@ -43,8 +45,10 @@ const WHOLE: [&str; 41] = [
     "numbers_of_aggregates_are_used_again",
     "quotes",
     "refusals_of_edits",
+    "row_groups_are_proposed",
     "segments_are_compacted",
     "texts_are_measured_by_their_far_form",
+    "texts_of_a_row_are_placed_together",
     "the_fill_of_a_segment_stays_until_it_is_empty",
     "the_longest_line_of_limits",
     "thirty_two_aggregates",

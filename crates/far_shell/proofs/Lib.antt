@@ -9,5 +9,6 @@ pub mod PrintLaws
 pub mod FlowLaws
 pub mod DumpLaws
 pub mod RowLaws
+pub mod PieceLaws
 pub mod LoadLaws
 pub mod BreakLaws

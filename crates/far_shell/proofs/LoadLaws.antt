@@ -148,10 +148,13 @@ remains-some rem a b fields rows m r first =
 not-refused : (given : Reply) → ((refusal : Refusal) → given ≡ reply.Refused refusal → ⊥) → (ends : Refusal → Type 0) (goes : Type 0) → goes → AfterReply given ends goes
 not-refused (reply.Refused refusal) other ends goes h = absurd (other refusal refl)
 not-refused (reply.Place place) other ends goes h = h
-not-refused (reply.Job n) other ends goes h = h
 not-refused reply.Done other ends goes h = h
 not-refused (reply.Aggregate a) other ends goes h = h
 not-refused (reply.Answer answer) other ends goes h = h
+not-refused (reply.Ints copies) other ends goes h = h
+not-refused (reply.Texts copies) other ends goes h = h
+not-refused (reply.Job n) other ends goes h = h
+not-refused (reply.Next groups) other ends goes h = h
 
 module _ {K : Type 0} (content : K → List ℕ) (number_of : K → ℕ) where
   -- what a load prints, from a record on

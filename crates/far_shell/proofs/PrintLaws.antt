@@ -5,10 +5,10 @@ use Rattle.std.proofs.lemmas.Bool.{cases_Bool, eqb-true}
 use Rattle.csv.specs.Writing.{default_writer, escaped, field_text, fields_text, is_blank, needs_quotes, quoted, row_body, row_text}
 use Rattle.far_shell.specs.Printing.{record_text, texts_of}
 
-not-zero : (n : ℕ) → (suc n == 0) ≡ true → ⊥
+pub not-zero : (n : ℕ) → (suc n == 0) ≡ true → ⊥
 not-zero n h = let e = eqb-true (suc n) 0 h in omega (arith, e)
 
-is-some : (b : Bool) → (b ≡ true → ⊥) → b ≡ false
+pub is-some : (b : Bool) → (b ≡ true → ⊥) → b ≡ false
 is-some true h = absurd (h refl)
 is-some false h = refl
 

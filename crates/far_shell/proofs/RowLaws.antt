@@ -32,11 +32,11 @@ drop-some (first ∷ cells) (suc i) cell h = drop-some cells i cell h
 one : (i : ℕ) → suc i ≡ i + 1
 one i = omega arith
 
-drop-past : (cells : List Cell) (i : ℕ) → length cells ≤ i → drop i cells ≡ []
+pub drop-past : {A : Type 0} (items : List A) (i : ℕ) → length items ≤ i → drop i items ≡ []
 drop-past [] zero h = refl
 drop-past [] (suc i) h = refl
-drop-past (cell ∷ cells) zero h = absurd (omega (arith, h))
-drop-past (cell ∷ cells) (suc i) h = drop-past cells i (omega (arith, h))
+drop-past (item ∷ items) zero h = absurd (omega (arith, h))
+drop-past (item ∷ items) (suc i) h = drop-past items i (omega (arith, h))
 
 -- a field more
 pub field-more : (cells : List Cell) (i : ℕ) (cell : Cell) (page after whole : List ℕ) → slice_get cells i ≡ Some cell

@@ -8,6 +8,7 @@ use Rattle.far_shell.specs.declared.fault.ShellFault.{ShellFault}
 use Rattle.far_shell.specs.declared.fault.ShellFault.TheVariants as fault
 use Rattle.far_shell.specs.declared.command.Command.{Command}
 use Rattle.far_shell.specs.declared.command.Command.TheVariants as command
+use Rattle.far_frame.specs.State.{live}
 use Rattle.far_shell.specs.Commands.{command_of}
 use Rattle.far_shell.specs.Flow.{Prints}
 use Rattle.far_shell.specs.Listings.{listing_of}
@@ -84,7 +85,7 @@ pub record HasNoStart (bytes : List ℕ) : Type 0 where
 module _ {K : Type 0} where
   -- a line asks for a dump, and this is what is listed
   abbrev pub Lists : At K → List ℕ → List ℕ → Type 0
-  Lists at line text = (command_of at.world.state.table.schema line ≡ Some command.Dump) × (text ≡ listing_of at.world.state)
+  Lists at line text = (command_of at.world.state.table.schema line ≡ Some command.Dump) × (text ≡ listing_of (live at.world.state))
 
   -- the same of a line that may have lost a carriage return
   abbrev pub ListsNext : At K → List ℕ → List ℕ → Type 0

@@ -11,5 +11,6 @@ pub mod Scripts
 pub mod Breaks
 pub mod Faults
 pub mod Listings
+pub mod Pieces
 pub mod Flow
 pub mod Progress

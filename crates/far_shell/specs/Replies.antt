@@ -1,5 +1,5 @@
 -- What the commands of a script are answered.
-use Rattle.std.specs.Prelude.{◌≡◌, ℕ, ◌+◌, List, [], ◌∷◌, ◌++◌, length, Option, None, Some, codes, IsUtf8}
+use Rattle.std.specs.Prelude.{◌≡◌, ℕ, ◌+◌, List, [], ◌∷◌, ◌++◌, length, map, Option, None, Some, codes, IsUtf8}
 use Rattle.csv.specs.Reading.{default_config, records, strip_bom}
 use Rattle.far_types.specs.declared.cell.Kind.{Kind}
 use Rattle.far_types.specs.declared.edit.Edit.TheVariants as edit
@@ -8,37 +8,32 @@ use Rattle.far_frame.specs.declared.step.Step.{Step}
 use Rattle.far_frame.specs.declared.step.Step.TheVariants as step
 use Rattle.far_frame.specs.declared.step.Reply.{Reply}
 use Rattle.far_frame.specs.declared.step.Reply.TheVariants as reply
+use Rattle.far_frame.specs.Lending.{int_piece, text_piece}
+use Rattle.far_frame.specs.State.{live}
 use Rattle.far_frame.specs.Steps.{IsStep}
 use Rattle.far_frame.specs.Worlds.{World}
 use Rattle.far_shell.specs.declared.command.Command.{Command}
 use Rattle.far_shell.specs.declared.command.Command.TheVariants as command
 use Rattle.far_shell.specs.Fields.{cells_from}
 use Rattle.far_shell.specs.Listings.{listing_of}
+use Rattle.far_shell.specs.Pieces.{pieces_text, next_text}
 use Rattle.far_shell.specs.Printing.{numbered_text, answer_text, refusal_text}
 
 -- what a step is answered that is done and has nothing to say
 abbrev pub done_text : Step → List ℕ
 done_text (step.Carry n) = codes "carried\n"
-done_text (step.Edit e) = codes "ok\n"
-done_text (step.Watch spec) = codes "ok\n"
-done_text (step.Unwatch a) = codes "ok\n"
-done_text (step.ScanGroup a g) = codes "ok\n"
-done_text (step.Ask a) = codes "ok\n"
-done_text (step.Pin column group) = codes "ok\n"
-done_text (step.Unpin column group) = codes "ok\n"
-done_text (step.BeginEvac column group) = codes "ok\n"
-done_text (step.BeginFetch column group) = codes "ok\n"
-done_text (step.Commit n) = codes "ok\n"
-done_text (step.Install n) = codes "ok\n"
-done_text (step.Compact kind segment) = codes "ok\n"
+done_text _ = codes "ok\n"
 
--- the line of a reply, or the lines of an answer
+-- the line of a reply, or the lines of an answer or of a part of a column
 abbrev pub reply_text : List ℕ → Reply → List ℕ
 reply_text done (reply.Place place) = numbered_text (codes "place") place
 reply_text done reply.Done = done
 reply_text done (reply.Aggregate a) = numbered_text (codes "aggregate") a
 reply_text done (reply.Answer answer) = answer_text answer
+reply_text done (reply.Ints copies) = pieces_text (map int_piece copies.items)
+reply_text done (reply.Texts copies) = pieces_text (map text_piece copies.items)
 reply_text done (reply.Job n) = numbered_text (codes "job") n
+reply_text done (reply.Next groups) = next_text groups.items
 reply_text done (reply.Refused refusal) = refusal_text refusal
 
 -- the insert of a record's fields
@@ -48,11 +43,7 @@ insert_of_record kinds fields = step.Edit (edit.Insert (cells_from kinds 0 field
 -- what a reply makes of a load: a refusal ends it
 abbrev pub AfterReply : Reply → (Refusal → Type 0) → Type 0 → Type 0
 AfterReply (reply.Refused refusal) ends goes = ends refusal
-AfterReply (reply.Place place) ends goes = goes
-AfterReply reply.Done ends goes = goes
-AfterReply (reply.Aggregate a) ends goes = goes
-AfterReply (reply.Answer answer) ends goes = goes
-AfterReply (reply.Job n) ends goes = goes
+AfterReply _ ends goes = goes
 
 -- the records of a text, as the csv reader reads them
 abbrev pub records_of : List ℕ → List (List (List ℕ))
@@ -74,7 +65,7 @@ module _ {K : Type 0} (content : K → List ℕ) (number_of : K → ℕ) where
   abbrev pub Serves : World K → Command → List ℕ → List ℕ → World K → Type 0
   Serves old (command.Step s) rows text new = (rows ≡ []) × Takes old s text new
   Serves old (command.Load count) rows text new = (length rows ≡ count) × IsUtf8 rows × Loads 0 old (records_of rows) text new
-  Serves old command.Dump rows text new = (rows ≡ []) × (text ≡ listing_of old.state) × (new ≡ old)
+  Serves old command.Dump rows text new = (rows ≡ []) × (text ≡ listing_of (live old.state)) × (new ≡ old)
 
   -- a line is answered; one that spells no command changes nothing
   abbrev pub ServesLine : ℕ → World K → Option Command → List ℕ → List ℕ → World K → Type 0

@@ -3,7 +3,7 @@ use Rattle.std.specs.Prelude.{◌≡◌, ◌⊎◌, ℕ, ◌+◌, Bool, false, �
 use Rattle.std.specs.List.{list_any, flat_map}
 use Rattle.std.specs.Io.BufRead.{strip_last}
 use Rattle.far_types.specs.Bounds.{IsSchema, AreLimits}
-use Rattle.far_table.specs.State.{empty_state}
+use Rattle.far_frame.specs.State.{empty_state}
 use Rattle.far_frame.specs.Worlds.{World}
 use Rattle.far_shell.specs.Openings.{Opened, opening_of}
 use Rattle.far_shell.specs.Commands.{command_of}

@@ -13,6 +13,7 @@ mod number;
 mod opening;
 mod output;
 mod page;
+mod pieces;
 mod print;
 mod progress;
 mod record;

@@ -3,6 +3,7 @@ ghost use Rattle.std.specs.Prelude.{◌≡◌, ◌≢◌, map, drop, length, ◌
 ghost use Rattle.far_types.specs.Lent.{lent_cell};
 ghost use Rattle.csv.specs.Writing.{default_writer, fields_text};
 ghost use Rattle.far_types.specs.Table.{rows_of};
+ghost use Rattle.far_frame.specs.State.{live};
 ghost use Rattle.far_shell.specs.Breaks.{PrintsCut};
 ghost use Rattle.far_shell.specs.Flow.{Prints};
 ghost use Rattle.far_shell.specs.Listings.{cell_text, dump_text, field_in_record, is_live, listing_of, row_line};
@@ -31,7 +32,7 @@ fn field(page: &mut Page, is_lone: bool, text: &[u8]) -> Result<(), Refusal>
 }
 
 /// A cell as a field.
-fn cell(page: &mut Page, is_lone: bool, cell: CellRef) -> Result<(), Refusal>
+pub fn cell(page: &mut Page, is_lone: bool, cell: CellRef) -> Result<(), Refusal>
     ensures ok { OnOk result (page.new ≡ page.old ++ field_in_record is_lone (cell_text (lent_cell cell.entry))) }
     ensures memory { IfErr result (λ e. e ≡ Refusal.NoMemory) }
 {
@@ -133,8 +134,8 @@ pub fn dump<S: FarTickets, W: Write>(
     output: &mut Output,
     writer: &mut W,
 ) -> Result<(), ShellFault>
-    ensures ok { OnOk result (Prints (W.contents writer.old) output.old.page (listing_of frame.now) (W.contents writer.new) output.new.page) }
-    ensures err { IfErr result (λ fault. PrintsCut fault (λ said. said ≡ listing_of frame.now) (W.contents writer.old) output.old.page (W.contents writer.new) output.new.page) }
+    ensures ok { OnOk result (Prints (W.contents writer.old) output.old.page (listing_of (live frame.now)) (W.contents writer.new) output.new.page) }
+    ensures err { IfErr result (λ fault. PrintsCut fault (λ said. said ≡ listing_of (live frame.now)) (W.contents writer.old) output.old.page (W.contents writer.new) output.new.page) }
     ensures fault { IfErr result (λ fault. fault ≢ ShellFault.Input) }
 {
     match frame.scope().all() {

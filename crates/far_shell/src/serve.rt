@@ -1,6 +1,7 @@
 // Lines as commands, and their answers.
 ghost use Rattle.std.specs.Prelude.{◌≡◌, ℕ, List, [], ◌++◌, ◌+◌, ◌≤◌, ◌<◌, ◌^◌, IfErr, OnOk, IsUtf8, Some};
 ghost use Rattle.far_frame.specs.declared.step.Reply.{Reply};
+ghost use Rattle.far_frame.specs.State.{live};
 ghost use Rattle.far_frame.specs.Steps.{IsStep};
 ghost use Rattle.far_shell.specs.Breaks.{Fails, FailsBy, Lists, PrintsCut};
 ghost use Rattle.far_shell.specs.Commands.{command_of};
@@ -18,6 +19,7 @@ use super::listing::dump;
 use super::loading::load;
 use super::output::Output;
 use super::page::Page;
+use super::pieces::{ints, next, texts};
 use super::print::{answer, numbered, refused};
 use super::progress::Progress;
 use far_frame::{Reply, Step, World};
@@ -36,7 +38,8 @@ fn done(step: &Step) -> &'static str
     }
 }
 
-/// The line of a reply, or the lines of an answer; the text is that of a reply that has nothing to say.
+/// The line of a reply, or the lines of an answer or of a part of a column; the text is that of a reply that has nothing
+/// to say.
 pub fn print_reply(page: &mut Page, done: &str, reply: &Reply) -> Result<(), Refusal>
     ensures ok { OnOk result (page.new ≡ page.old ++ reply_text done.now reply.now) }
     ensures memory { IfErr result (λ e. e ≡ Refusal.NoMemory) }
@@ -46,7 +49,10 @@ pub fn print_reply(page: &mut Page, done: &str, reply: &Reply) -> Result<(), Ref
         Reply::Done => page.text(done),
         Reply::Aggregate(aggregate) => numbered(page, "aggregate", u64::from(*aggregate)),
         Reply::Answer(found) => answer(page, found),
+        Reply::Ints(copies) => ints(page, copies.as_slice()),
+        Reply::Texts(copies) => texts(page, copies.as_slice()),
         Reply::Job(job) => numbered(page, "job", *job),
+        Reply::Next(groups) => next(page, groups.as_slice()),
         Reply::Refused(refusal) => refused(page, refusal),
     }
 }
@@ -75,7 +81,7 @@ fn answer_command<S: FarStore, R: Read + Drop, W: Write>(
 ) -> Result<(), ShellFault>
     requires few { world.old.faults < 2 ^ 63 }
     ensures ok { OnOk result ((rows : List ℕ) × (text : List ℕ) × Reads R.Read input.old rows input.new × Prints (W.contents writer.old) output.old.page text (W.contents writer.new) output.new.page × Serves S.content S.number_of world.old command rows text world.new) }
-    ensures err { IfErr result (λ fault. PrintsCut fault (λ said. (command ≡ Command.Dump) × (said ≡ listing_of world.old.state)) (W.contents writer.old) output.old.page (W.contents writer.new) output.new.page) }
+    ensures err { IfErr result (λ fault. PrintsCut fault (λ said. (command ≡ Command.Dump) × (said ≡ listing_of (live world.old.state))) (W.contents writer.old) output.old.page (W.contents writer.new) output.new.page) }
     ensures stopped { IfErr result (λ fault. IfInput fault (Stops R.Read (λ behind. FailsBy (Some command) behind) input.old input.new)) }
     ensures faults { world.new.faults ≤ world.old.faults + 1 }
     ensures asked { input.new.source.reads ≤ input.old.source.reads }
@@ -113,7 +119,7 @@ fn answer_words<S: FarStore, R: Read + Drop, W: Write>(
     requires few { world.old.faults < 2 ^ 63 }
     ensures text { OnOk result (IsUtf8 (spanned R.Read input.old line)) }
     ensures ok { OnOk result ((rows : List ℕ) × (text : List ℕ) × Reads R.Read input.old rows input.new × Prints (W.contents writer.old) output.old.page text (W.contents writer.new) output.new.page × ServesLine S.content S.number_of number world.old (command_of world.old.state.table.schema (spanned R.Read input.old line)) rows text world.new) }
-    ensures err { IfErr result (λ fault. PrintsCut fault (λ said. (command_of world.old.state.table.schema (spanned R.Read input.old line) ≡ Some Command.Dump) × (said ≡ listing_of world.old.state)) (W.contents writer.old) output.old.page (W.contents writer.new) output.new.page) }
+    ensures err { IfErr result (λ fault. PrintsCut fault (λ said. (command_of world.old.state.table.schema (spanned R.Read input.old line) ≡ Some Command.Dump) × (said ≡ listing_of (live world.old.state))) (W.contents writer.old) output.old.page (W.contents writer.new) output.new.page) }
     ensures stopped { IfErr result (λ fault. IfInput fault (Stops R.Read (λ behind. Fails world.old.state.table.schema (spanned R.Read input.old line) behind) input.old input.new)) }
     ensures faults { world.new.faults ≤ world.old.faults + 1 }
     ensures asked { input.new.source.reads ≤ input.old.source.reads }

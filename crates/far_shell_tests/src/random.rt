@@ -10,7 +10,7 @@ const SCRIPTS: u32 = 20_000;
 const OPENING: &[u8] = b"schema 4 int,text 64 1000 16 4 16 256\n";
 
 /// Lines that its commands are drawn from.
-const LINES: [&[u8]; 16] = [
+const LINES: [&[u8]; 19] = [
     b"insert 5,a\n",
     b"insert -9223372036854775808,\"b\"\"c\"\n",
     b"insert \\N,\\N\n",
@@ -23,6 +23,9 @@ const LINES: [&[u8]; 16] = [
     b"scan 0 0\n",
     b"ask 0\n",
     b"ask 1\n",
+    b"lend 0 0 2\n",
+    b"lend 1 0 1\n",
+    b"prefetch 0\n",
     b"load 8\n1,a\n2,b\n",
     b"load 0\n",
     b"dump\n",
@@ -40,7 +43,7 @@ fn add_bytes(draws: &mut Draws, script: &mut Vec<u8>) -> Result<(), ShellFault> 
 fn add_lines(draws: &mut Draws, script: &mut Vec<u8>) -> Result<(), ShellFault> {
     script.extend_from_slice(OPENING)?;
     for _ in 0..draws.below(12) {
-        if let Some(line) = LINES.get(draws.below(16) as usize) {
+        if let Some(line) = LINES.get(draws.below(19) as usize) {
             script.extend_from_slice(line)?;
         }
     }
