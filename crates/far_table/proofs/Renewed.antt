@@ -26,9 +26,15 @@ module _ {K L : Type 0} where
 
     module _ (r : Rows K) (tickets : RowsTickets L) (renews : RenewsRows content new_content r tickets) where
       renewed-still : AreStill r (renewed_rows r tickets)
-      renewed-still = record { slots = refl; size = refl; numbers = refl; texts = refl; alive = refl;
+      renewed-still = record {
+        slots = refl;
+        size = refl;
+        numbers = refl;
+        texts = refl;
+        alive = refl;
         number_objects = renewed-unwritten r.number_objects tickets.numbers renews.numbers;
-        text_objects = renewed-unwritten r.text_objects tickets.texts renews.texts }
+        text_objects = renewed-unwritten r.text_objects tickets.texts renews.texts;
+      }
 
       module _ (schema : List Kind) (limits : Limits) (coming : Values) (edits : ℕ) (now : Rows L) (is : now ≡ renewed_rows r tickets) (cells : cells_of new_content now ≡ cells_of content r) where
         still : AreStill r now
