@@ -332,10 +332,24 @@ fn first_other_moved<S: FarStore, N: FarStore>(
     first_other(alloc, &mut world, &WENT_ON)
 }
 
+/// The first step that has another reply than is due, on a table that went away from its store. A test that owned a world would cost
+/// each of its ways out.
+fn first_other_anew<S: FarStore, F: FarStore, N: FarStore>(
+    alloc: Global,
+    store: S,
+    full: F,
+    other: N,
+) -> Result<Option<usize>, Refusal> {
+    let world = stayed(alloc, store, full)?;
+    first_other_moved(alloc, world, other)
+}
+
 #[test]
 fn a_world_goes_on_with_another_store(rt: HostRuntime) -> Result<(), Fail> {
-    let world = stayed(rt.alloc(), agent(&rt, 4)?, agent(&rt, 0)?)?;
-    answered(first_other_moved(rt.alloc(), world, agent(&rt, 4)?))
+    let store = agent(&rt, 4)?;
+    let full = agent(&rt, 0)?;
+    let other = agent(&rt, 4)?;
+    answered(first_other_anew(rt.alloc(), store, full, other))
 }
 
 /// The first step that has another reply than is due, after the table was lent in turn.
