@@ -22,7 +22,7 @@ use Rattle.far_rows.specs.Rows.{Rows, cells_of}
 use Rattle.far_rows.specs.Effects.{IsPushed}
 use Rattle.far_rows.specs.Places.{places_in}
 use Rattle.far_rows.specs.Refusing.{absents}
-use Rattle.far_rows.specs.Setting.{cell_of}
+use Rattle.far_rows.specs.Setting.{cell_of, kind_in}
 use Rattle.far_aggregates.specs.Changes.{alive_with}
 use Rattle.far_aggregates.specs.declared.pending.Pending.{Pending}
 use Rattle.far_aggregates.specs.Kept.{Slot, Keeps, PlacesFit, registered_of}
@@ -113,11 +113,11 @@ module _ {K : Type 0} (old new : TableRows K) (p c : ℕ) where
   pub set-inside : (cell : Cell) → IsMade old new (edit.Set p c cell) → p < length old.places → p < length new.places
   set-inside cell made below = let same = ap length made.places ∙ length-changed (with_cell c cell) p old.places in omega (arith, below, same)
 
-  pub put : (content : K → List ℕ) (cell : Cell) (value : NewCell) (r : ℕ) (was now : List Slot) → cell_of value ≡ cell → IsPut content old new c p value → None ≡ edit_due (asked old) (edit.Set p c cell) → registered_of now ≡ registered_of was → IsEdited content (state_of old r was) (edit.Set p c cell) (state_of new r now)
-  put content cell value r was now is changed free same = record {
+  pub put : (content : K → List ℕ) (cell : Cell) (value : NewCell) (r : ℕ) (was now : List Slot) → cell_of value ≡ cell → option_map kind_of (slice_get old.held.slots c) ≡ Some (kind_in value) → IsPut content old new c p value → None ≡ edit_due (asked old) (edit.Set p c cell) → registered_of now ≡ registered_of was → IsEdited content (state_of old r was) (edit.Set p c cell) (state_of new r now)
+  put content cell value r was now is of_kind changed free same = record {
     due = sym free;
     table = made-table old new (edit.Set p c cell) r was now (made-with (cell_of value) cell is changed.made) same;
-    rows = (value, is, changed.held);
+    rows = (value, is, of_kind, changed.held);
   }
 
 is-true : (b : Bool) → not b ≡ false → b ≡ true

@@ -1,5 +1,5 @@
 -- How a table's calls change it, and why they are refused.
-use Rattle.std.specs.Prelude.{◌≡◌, ℕ, ◌≤◌, ◌^◌, Bool, List, None, Option, slice_set, false}
+use Rattle.std.specs.Prelude.{◌≡◌, ℕ, ◌≤◌, ◌^◌, Bool, List, None, Some, Option, option_map, slice_get, slice_set, false}
 use Rattle.far_types.specs.declared.edit.Edit.{Edit}
 use Rattle.far_types.specs.declared.edit.Edit.TheVariants as edit
 use Rattle.far_types.specs.declared.refusal.Refusal.{Refusal}
@@ -7,10 +7,10 @@ use Rattle.far_types.specs.Edits.{edited}
 use Rattle.far_types.specs.MayRefuse.{MayRefuse}
 use Rattle.far_aggregates.specs.Kept.{Slot, Keeps, registered_of}
 use Rattle.far_rows.specs.declared.new_cell.NewCell.{NewCell}
-use Rattle.far_rows.specs.Slots.{Values, row_of}
+use Rattle.far_rows.specs.Slots.{Values, kind_of, row_of}
 use Rattle.far_rows.specs.Rows.{Rows}
 use Rattle.far_rows.specs.Effects.{IsPushed, IsSet}
-use Rattle.far_rows.specs.Setting.{cell_of}
+use Rattle.far_rows.specs.Setting.{cell_of, kind_in}
 use Rattle.far_table.specs.State.{State, AreChecked}
 use Rattle.far_table.specs.TableRows.{TableRows}
 use Rattle.far_table.specs.Edits.{edit_due}
@@ -33,10 +33,11 @@ module _ {K : Type 0} where
   abbrev pub Refuses : Option Refusal → Bool → State K → Refusal → State K → Type 0
   Refuses due grows old given new = (new ≡ old) × MayRefuse due grows given
 
-  -- how the rows change by an edit
+  -- how the rows change by an edit. What is set is a value of its column's kind, also where it is missing: so the column's object is
+  -- written, whatever the cell was
   abbrev pub Moves : (K → List ℕ) → Rows K → Edit → Rows K → Type 0
   Moves content old (edit.Insert row) new = (values : Values) × (row_of old.slots values ≡ row) × IsPushed content old values new
-  Moves content old (edit.Set p c cell) new = (value : NewCell) × (cell_of value ≡ cell) × IsSet content old c p value new
+  Moves content old (edit.Set p c cell) new = (value : NewCell) × (cell_of value ≡ cell) × (option_map kind_of (slice_get old.slots c) ≡ Some (kind_in value)) × IsSet content old c p value new
   Moves content old (edit.Remove p) new = new ≡ record old { alive = slice_set old.alive p false }
 
   -- an edit is made

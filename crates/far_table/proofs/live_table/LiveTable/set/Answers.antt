@@ -90,4 +90,4 @@ returns-clause-ok g c =
     let n = c.self.inside.registrations in
     let content = g.S.FarTickets.content in
     subst (λ (s : State g.row.S-Ticket.Denot). IsEdited content s (edit.Set c.args.place c.args.column c.args.cell) (state_of c.set.new.self n c.take_out.new.aggregates)) c.self.view_is
-    (put c.self.inside.rows c.set.new.self c.args.place c.args.column content c.args.cell c.in_ok-value.value n c.self.inside.aggregates c.take_out.new.aggregates c.in_ok-value.ensures.cell c.in_default-set.ensures.put c.in_ok-value.ensures.refused (c.take_out.ensures.registered ∙ c.in_ok-pending.ensures.registered))
+    (put c.self.inside.rows c.set.new.self c.args.place c.args.column content c.args.cell c.in_ok-value.value n c.self.inside.aggregates c.take_out.new.aggregates c.in_ok-value.ensures.cell c.in_ok-value.ensures.free.of_kind c.in_default-set.ensures.put c.in_ok-value.ensures.refused (c.take_out.ensures.registered ∙ c.in_ok-pending.ensures.registered))
