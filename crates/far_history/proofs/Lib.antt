@@ -1,0 +1,4 @@
+pub mod Histories
+pub mod Legal
+pub mod Lists
+pub mod Moves

@@ -1,0 +1,5 @@
+pub mod Histories
+pub mod Readings
+pub mod Rule
+pub mod Sessions
+pub mod Views

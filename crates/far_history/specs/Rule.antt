@@ -1,0 +1,48 @@
+-- The rule of a cell beside a table's lock, and what its steps tell.
+use Rattle.std.specs.Prelude.{◌≡◌, ℕ, ◌<◌, true, List, [], ◌∷◌, ◌++◌}
+use mathlib.Core.Option.{some}
+use mathlib.Core.List.{IsPrefix}
+use lib.ListN.{get_elem?}
+use Rattle.far_types.specs.declared.edit.Edit.{Edit}
+use Rattle.far_history.specs.Histories.{Planned, IsLegal, AllBelow, by_session, gauge_of}
+use Rattle.far_history.specs.Readings.{reading_in}
+use Rattle.far_history.specs.declared.view.Entry.{Entry}
+use Rattle.far_history.specs.declared.view.View.{View}
+
+abbrev pub entry : ℕ → Edit → Entry
+entry by edit = record { by = by; edit = edit }
+
+-- the words tell what a history leaves
+abbrev pub Reads : Planned → List ℕ → List Entry → Type 0
+Reads p words log = reading_in words ≡ gauge_of p log
+
+-- what the rule says of one pass. One keeps the history, and `owner` says which has a session
+pub record Fits (keeper_at : ℕ) (owner : ℕ → ℕ) (given : ℕ) (log : List Entry) (at : ℕ) (v : View) : Type 0 where
+  pub keeps : v.keeps ≡ true → (at ≡ keeper_at) × (v.all ≡ log) × (v.given ≡ given)
+  pub sits : v.sits ≡ true → (at ≡ owner v.by) × (v.by < given) × IsPrefix v.seen log × (by_session v.by log ≡ v.mine)
+
+-- there is one legal history, which the words tell. One pass keeps it, and each session has seen a beginning of it, and knows which
+-- entries are its own
+pub record Kept (p : Planned) (words : List ℕ) (views : List View) : Type 0 where
+  pub keeper_at : ℕ
+  pub owner : ℕ → ℕ
+  pub given : ℕ
+  pub log : List Entry
+  pub reads : Reads p words log
+  pub legal : IsLegal p log
+  pub below : AllBelow given log
+  pub each : (at : ℕ) (v : View) → get_elem? views at ≡ some v → Fits keeper_at owner given log at v
+
+-- a session sees the history so far, which the words tell
+abbrev pub Looks : Planned → View → List ℕ → List ℕ → View → Type 0
+Looks p v before after w =
+    (w ≡ record v { seen = w.seen }) × IsPrefix v.seen w.seen × (v.keeps ≡ true → w.seen ≡ v.all)
+    × IsLegal p w.seen × Reads p before w.seen × (by_session v.by w.seen ≡ v.mine) × (v.keeps ≡ true → AllBelow v.given w.seen)
+
+-- a pass that keeps the history and has a session, with one edit more, which is the session's
+abbrev pub added : View → Edit → View
+added v e = record { keeps = v.keeps; all = v.all ++ entry v.by e ∷ []; given = v.given; sits = v.sits; by = v.by; seen = v.all ++ entry v.by e ∷ []; mine = v.mine ++ entry v.by e ∷ [] }
+
+-- an edit is added to the history
+abbrev pub Adds : Edit → View → List ℕ → List ℕ → View → Type 0
+Adds e v before after w = w ≡ added v e

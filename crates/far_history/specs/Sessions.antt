@@ -1,0 +1,31 @@
+-- What a session knows of a history.
+use Rattle.std.specs.Prelude.{◌≡◌, ℕ, List, []}
+use Rattle.far_history.specs.Histories.{by_session}
+use Rattle.far_history.specs.Views.{keeper, session}
+use Rattle.far_history.specs.declared.view.Entry.{Entry}
+use Rattle.far_history.specs.declared.view.View.{View}
+
+-- its number, the beginning of the history that it has seen, and its own entries in it
+pub record Told : Type 0 where
+  pub by : ℕ
+  pub seen : List Entry
+  pub mine : List Entry
+
+abbrev pub told_of : View → Told
+told_of v = record { by = v.by; seen = v.seen; mine = v.mine }
+
+-- a session that has seen nothing
+abbrev pub newcomer : ℕ → Told
+newcomer n = record { by = n; seen = []; mine = [] }
+
+-- a pass with a session alone, whose entries in what it has seen are its own
+abbrev pub IsSession : View → Type 0
+IsSession v = (v ≡ session v.by v.seen v.mine) × (by_session v.by v.seen ≡ v.mine)
+
+-- a pass that keeps a history, and has no session
+abbrev pub IsKeeper : View → Type 0
+IsKeeper v = v ≡ keeper v.all v.given
+
+-- a pass that keeps the empty history, and has no session
+abbrev pub IsGiver : View → Type 0
+IsGiver v = v ≡ keeper [] v.given

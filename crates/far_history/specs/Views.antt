@@ -1,0 +1,33 @@
+-- What a pass of a cell knows, and how it is cut and joined.
+use Rattle.std.specs.Prelude.{ℕ, ◌+◌, true, false, List, []}
+use Rattle.far_history.specs.declared.view.Entry.{Entry}
+use Rattle.far_history.specs.declared.view.View.{View}
+
+-- a pass that keeps the history, by which some sessions were given out
+abbrev pub keeper : List Entry → ℕ → View
+keeper all given = record { keeps = true; all = all; given = given; sits = false; by = 0; seen = []; mine = [] }
+
+-- a pass with a session
+abbrev pub session : ℕ → List Entry → List Entry → View
+session by seen mine = record { keeps = false; all = []; given = 0; sits = true; by = by; seen = seen; mine = mine }
+
+-- a pass that was joined to another, or whose session went
+abbrev pub nobody : View
+nobody = record { keeps = false; all = []; given = 0; sits = false; by = 0; seen = []; mine = [] }
+
+-- the history of one pass and the session of another
+abbrev pub joined : View → View → View
+joined v w = record { keeps = v.keeps; all = v.all; given = v.given; sits = w.sits; by = w.by; seen = w.seen; mine = w.mine }
+
+abbrev pub keeper_part : View → View
+keeper_part v = joined v nobody
+
+abbrev pub session_part : View → View
+session_part v = joined nobody v
+
+-- the keeper once it has given out one session more, and that session
+abbrev pub one_given : View → View
+one_given v = record { keeps = v.keeps; all = v.all; given = v.given + 1; sits = false; by = 0; seen = []; mine = [] }
+
+abbrev pub new_session : View → View
+new_session v = session v.given v.all []

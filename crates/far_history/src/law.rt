@@ -1,0 +1,111 @@
+// The cell beside a table's lock, its passes, and the kinds of step.
+use crate::view::View;
+use atomic_table::{Join, Split};
+use crossbeam_utils::atomic::seq_cell;
+use crossbeam_utils::atomic::seq_cell::RuledSeqCell;
+use crossbeam_utils::rule::{Outcome, Protocol};
+use std::marker::{Brand, PhantomData};
+
+/// Names the plan of a shared table: its schema, its limits, its gauge and how many sessions it has. A lock's value is known by its
+/// type alone, so the plan is a type parameter of all that lies under a lock.
+pub trait Naming {
+    ghost use Rattle.far_history.specs.Histories.{Planned};
+
+    ghost plan: { Planned };
+}
+
+impl Naming for Brand {
+    ghost use Rattle.far_history.specs.Histories.{no_plan};
+
+    ghost plan = { no_plan };
+}
+
+/// Names an edit that is about to be added to a history.
+pub trait Asking {
+    ghost use Rattle.far_types.specs.declared.edit.Edit.{Edit};
+
+    ghost edit: { Edit };
+}
+
+impl Asking for Brand {
+    ghost use Rattle.far_types.specs.declared.edit.Edit.TheVariants.{Remove};
+
+    ghost edit = { Remove 0 };
+}
+
+/// The rule of a cell: there is one legal history, which the words tell. One pass keeps it, and each session has seen a beginning of
+/// it and knows which entries are its own.
+pub struct Law<N> {
+    of: PhantomData<N>,
+}
+
+impl<N: Naming> Protocol<[u64; 4], View> for Law<N> {
+    ghost use Rattle.std.specs.Prelude.{[]};
+    ghost use Rattle.far_history.specs.Rule.{Kept};
+    ghost use Rattle.far_history.specs.Views.{keeper};
+
+    ghost holds = { Kept N.plan };
+
+    ghost first = { keeper [] 0 };
+}
+
+/// A step that looks: the session has seen the history so far.
+pub struct Look<N> {
+    of: PhantomData<N>,
+}
+
+impl<N: Naming> Outcome<[u64; 4], View> for Look<N> {
+    ghost use Rattle.far_history.specs.Rule.{Looks};
+
+    ghost then = { Looks N.plan };
+}
+
+/// A step that adds an edit.
+pub struct Add<E> {
+    of: PhantomData<E>,
+}
+
+impl<E: Asking> Outcome<[u64; 4], View> for Add<E> {
+    ghost use Rattle.far_history.specs.Rule.{Adds};
+
+    ghost then = { Adds E.edit };
+}
+
+/// Gives a new session out.
+pub struct Give;
+
+impl Split<View> for Give {
+    ghost use Rattle.far_history.specs.Views.{one_given, new_session};
+
+    ghost left = { one_given };
+
+    ghost right = { new_session };
+}
+
+/// Takes the session out of its pass.
+pub struct Rise;
+
+impl Split<View> for Rise {
+    ghost use Rattle.far_history.specs.Views.{keeper_part, session_part};
+
+    ghost left = { keeper_part };
+
+    ghost right = { session_part };
+}
+
+/// Puts the session of one pass into the keeper's.
+pub struct Sit;
+
+impl Join<View> for Sit {
+    ghost use Rattle.far_history.specs.Views.{joined, nobody};
+
+    ghost both = { joined };
+
+    ghost spent = { nobody };
+}
+
+/// The cell of a history: four words that are read and written in one step.
+pub type Cell<N> = RuledSeqCell<[u64; 4], View, Law<N>, 4>;
+
+/// A pass of such a cell. It takes no bytes.
+pub type Pass = seq_cell::Pass<[u64; 4], View>;

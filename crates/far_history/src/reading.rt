@@ -1,0 +1,36 @@
+// What a cell tells, and the words that it is kept in.
+ghost use Rattle.std.specs.Prelude.{◌≡◌};
+ghost use Rattle.far_history.specs.Readings.{reading_in};
+
+/// What a table's history so far leaves.
+#[derive(Clone, Copy, Debug, PartialEq, Eq)]
+pub struct Reading {
+    /// How many edits were accepted.
+    pub edits: u64,
+    /// How many rows the gauge folds.
+    pub count: u64,
+    /// The sum of their values.
+    pub sum: i128,
+}
+
+/// The words of a cell that tell this: the edits, the count, and the sum in two's complement, its low word first.
+pub fn words_of(reading: Reading) -> [u64; 4]
+    ensures { reading_in result ≡ reading }
+{
+    let bits = reading.sum.cast_unsigned();
+    let low = bits % (1 << 64);
+    let high = bits >> 64;
+    [reading.edits, reading.count, low as u64, high as u64]
+}
+
+/// What the words of a cell tell.
+pub fn reading_of(words: [u64; 4]) -> Reading
+    ensures { result ≡ reading_in words }
+{
+    let sum = (u128::from(words[3]) << 64) + u128::from(words[2]);
+    Reading {
+        edits: words[0],
+        count: words[1],
+        sum: sum.cast_signed(),
+    }
+}

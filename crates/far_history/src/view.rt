@@ -1,0 +1,27 @@
+// What a pass knows of a history. No value of these types is made.
+use far_types::Edit;
+use std::collections::LinkedList;
+
+/// An edit of a history, with the number of the session that made it.
+pub struct Entry {
+    pub by: u64,
+    pub edit: Edit,
+}
+
+/// What one pass knows: a pass may keep the history, have a session, or both.
+pub struct View {
+    /// Whether the pass keeps the history.
+    pub keeps: bool,
+    /// The history, if it keeps it.
+    pub all: LinkedList<Entry>,
+    /// How many sessions were given out, if it keeps the history.
+    pub given: u64,
+    /// Whether the pass has a session.
+    pub sits: bool,
+    /// The session's number.
+    pub by: u64,
+    /// The beginning of the history that the session has seen.
+    pub seen: LinkedList<Entry>,
+    /// The session's own entries.
+    pub mine: LinkedList<Entry>,
+}
