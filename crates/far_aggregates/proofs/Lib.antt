@@ -12,6 +12,7 @@ pub mod NumberLaws
 pub mod PairLaws
 pub mod PendingLaws
 pub mod ReadLaws
+pub mod RecountLaws
 pub mod RegisterLaws
 pub mod RoomLaws
 pub mod ScanLaws

@@ -7,6 +7,7 @@ pub mod Kept
 pub mod Lending
 pub mod Pending
 pub mod Readings
+pub mod Recounting
 pub mod Rooms
 pub mod Scans
 pub mod Until

@@ -1,10 +1,12 @@
 // A row group that is built into an aggregate.
-ghost use Rattle.std.specs.Prelude.{◌≡◌, ◌<◌, ◌≤◌, ◌^◌, ℕ, List, true, length, slice_get, slice_set, OnOk, OnErr, IfErr};
+ghost use Rattle.std.specs.Prelude.{◌≡◌, ◌<◌, ◌≤◌, ◌^◌, ℕ, List, true, length, slice_get, slice_set, IfOk, OnOk, OnErr, IfErr};
 ghost use Rattle.far_types.specs.Table.{Place, in_group};
-ghost use Rattle.far_aggregates.specs.Kept.{KeepsSlot, Keeps, fold_of, registered_in, registered_of};
+ghost use Rattle.far_offload.specs.Partials.{partial_of};
+ghost use Rattle.far_aggregates.specs.Kept.{KeepsSlot, Keeps, fold_of, pairs_here, registered_in, registered_of};
 ghost use Rattle.far_aggregates.specs.Lending.{IsServed, SlotIsServed};
 ghost use Rattle.far_aggregates.specs.Scans.{built_slot, has_unbuilt, IsScanned, IsSame, KeptMayScan, SlotMayBuild};
 ghost use Rattle.far_aggregates.specs.Aggregates.{joined};
+ghost use Rattle.far_aggregates.specs.Recounting.{KeptMayMerge, IsMerged};
 
 use super::aggregate::{Aggregate, Kept};
 use super::lend_group::LendGroup;
@@ -12,6 +14,44 @@ use super::needed::needed_columns;
 use far_offload::{PartialDone, fold};
 use far_types::{Refusal, Spec};
 use std::alloc::Global;
+
+/// What the live places of a row group come to. Refused with `NoMemory` (1) alone.
+pub fn fold_group<G: LendGroup>(
+    alloc: Global,
+    spec: &Spec,
+    group: &G,
+) -> Result<PartialDone, Refusal>
+    requires few { length (G.places group.now) ≤ 2 ^ 24 }
+    requires served { IsServed (G.has group.now) spec.now }
+    ensures partial { IfOk result (λ done. done ≡ partial_of spec.now.fold (pairs_here spec.now (G.places group.now))) }
+    ensures memory { IfErr result (λ e. e ≡ Refusal.NoMemory) }
+{
+    let columns = needed_columns(spec, group);
+    fold(alloc, spec, &columns, group.alive())
+}
+
+/// The rows that a partial stands for are in too. Refused with `NoMemory` (1) alone, and then what is in stays the same.
+pub fn merge_in(kept: &mut Kept, number: u32, partial: PartialDone) -> Result<(), Refusal>
+    requires { KeptMayMerge number partial kept.old }
+    ensures ok { OnOk result (IsMerged number partial kept.old kept.new) }
+    ensures err { OnErr result (IsSame kept.old kept.new) }
+    ensures memory { IfErr result (λ e. e ≡ Refusal.NoMemory) }
+{
+    match kept {
+        Kept::Totals(live) => match partial {
+            PartialDone::Totals(totals) => live.merge(&totals),
+            PartialDone::Extrema(_) => unreachable!(),
+        },
+        Kept::Extrema(live) => match partial {
+            PartialDone::Totals(_) => unreachable!(),
+            PartialDone::Extrema(extrema) => {
+                live.make_room_for(number, &extrema)?;
+                live.merge(number, extrema);
+                Ok(())
+            }
+        },
+    }
+}
 
 /// The rows of a row group are in too. Refused with `NoMemory` (1) alone, and then what is in stays the same.
 fn scan<G: LendGroup>(
@@ -29,22 +69,8 @@ fn scan<G: LendGroup>(
     ensures err { OnErr result (IsSame kept.old kept.new) }
     ensures memory { IfErr result (λ e. e ≡ Refusal.NoMemory) }
 {
-    let columns = needed_columns(spec, group);
-    let partial = fold(alloc, spec, &columns, group.alive())?;
-    match kept {
-        Kept::Totals(live) => match partial {
-            PartialDone::Totals(totals) => live.merge(&totals),
-            PartialDone::Extrema(_) => unreachable!(),
-        },
-        Kept::Extrema(live) => match partial {
-            PartialDone::Totals(_) => unreachable!(),
-            PartialDone::Extrema(extrema) => {
-                live.make_room_for(number, &extrema)?;
-                live.merge(number, extrema);
-                Ok(())
-            }
-        },
-    }
+    let partial = fold_group(alloc, spec, group)?;
+    merge_in(kept, number, partial)
 }
 
 /// Builds the rows of a row group into an aggregate into which they are still to be built. Refused with `NoMemory` (1)

@@ -1,4 +1,8 @@
 mod RunLaws
+mod PinLaws
+mod PinRows
+mod PinAway
+mod PinRuns
 mod ViewLaws
 mod FrameLaws
 mod WaitingLaws

@@ -1,5 +1,5 @@
 -- A run goes on by one step.
-use Rattle.std.proofs.Common.{◌≡◌, ◌≢◌, ℕ, ◌+◌, ◌≤◌, ◌==◌, Bool, true, false, if◌then◌else◌, cond, arith, List, [], ◌∷◌, ◌++◌, IsSomeAnd, ap, ◌∙◌, subst, refl, Option, None, Some}
+use Rattle.std.proofs.Common.{◌≡◌, ◌≢◌, ℕ, ◌+◌, ◌≤◌, ◌==◌, Bool, true, false, if◌then◌else◌, cond, arith, List, [], ◌∷◌, ◌++◌, IsSomeAnd, ap, sym, ◌∙◌, subst, refl, Option, None, Some}
 use Rattle.std.specs.Prelude.{slice_range}
 use Rattle.std.specs.List.{flat_map}
 use Rattle.far_types.specs.declared.answer.Answer.{Answer}
@@ -11,7 +11,7 @@ use Rattle.far_types.specs.Bounds.{AreLimits}
 use Rattle.far_types.specs.Table.{Place, Registered, left, answer_now, rows_of, part}
 use Rattle.far_aggregates.specs.Aggregates.{Answers}
 use Rattle.far_table.specs.State.{State as LiveState}
-use Rattle.far_frame.specs.State.{State}
+use Rattle.far_frame.specs.State.{State, live}
 use Rattle.far_table.specs.Watching.{aggregate_at}
 use Rattle.far_frame.specs.declared.step.Step.{Step}
 use Rattle.far_frame.specs.declared.step.Step.TheVariants as step
@@ -24,7 +24,9 @@ use Rattle.far_rows.specs.Jobs.{evac_refusal, fetch_refusal, pins_by}
 use Rattle.far_frame.specs.Changes.{Replies, Accepts, Refuses, Changes}
 use Rattle.far_frame.specs.Lending.{IsLent, flags_of, pieces_in}
 use Rattle.far_frame.proofs.LendingLaws.{given-cells, given-flags, lends-low}
-use Rattle.far_frame.specs.Jobs.{JobRecord, WorkOf, IsEvacJob, IsFetchJob, Commits, CommitRefusal, Installs, InstallRefusal}
+use Rattle.far_table.specs.Offloading.{Build, offload_refusal}
+use Rattle.far_table.specs.Watching.{scanned_at}
+use Rattle.far_frame.specs.Jobs.{JobRecord, WorkOf, IsEvacJob, IsFetchJob, IsOffloadJob, Commits, CommitRefusal, Installs, InstallRefusal, Merges, MergeRefusal}
 use Rattle.far_frame.specs.declared.job.Work.TheVariants as work
 use Rattle.far_frame.specs.Steps.{IsStep, IsRun}
 use Rattle.far_frame.specs.Waiting.{job_at}
@@ -38,7 +40,7 @@ given-answer : (x y : Answer) → reply.Answer x ≡ reply.Answer y → y ≡ x
 given-answer x y h = cc
 
 -- whichever a reply is
-replied : {A : Type 0} (serves : Reply → Type 0) (refuses : Refusal → Type 0) (given : Reply) → ((served : Reply) → serves served → A) → ((why : Refusal) → refuses why → A) → Replies serves refuses given → A
+pub replied : {A : Type 0} (serves : Reply → Type 0) (refuses : Refusal → Type 0) (given : Reply) → ((served : Reply) → serves served → A) → ((why : Refusal) → refuses why → A) → Replies serves refuses given → A
 replied serves refuses (reply.Refused why) f g h = g why h
 replied serves refuses (reply.Place place) f g h = f (reply.Place place) h
 replied serves refuses reply.Done f g h = f reply.Done h
@@ -132,9 +134,11 @@ module _ {K : Type 0} (content : K → List ℕ) (number_of : K → ℕ) where
   accepted-rows old new (step.Prefetch column) given h = ap (λ (t : State K). t.table.places) h.2
   accepted-rows old new (step.BeginEvac column group) given h = absurd h
   accepted-rows old new (step.BeginFetch column group) given h = absurd h
+  accepted-rows old new (step.BeginOffload a g) given h = absurd h
   accepted-rows old new (step.Carry n) given h = absurd h
   accepted-rows old new (step.Commit n) given h = absurd h
   accepted-rows old new (step.Install n) given h = absurd h
+  accepted-rows old new (step.Merge n) given h = absurd h
 
   changed-rows : (old new : State K) (s : Step) (given : Reply) → Changes content old s given new → new.table.places ≡ cond (is_refused given) old.table.places (rows_after s old.table.places)
   changed-rows old new s (reply.Refused given) h = ap (λ (t : State K). t.table.places) h.0
@@ -168,12 +172,35 @@ module _ {K : Type 0} (content : K → List ℕ) (number_of : K → ℕ) where
   installs-table old (work.Offload build) new h = absurd h
   installs-table old (work.Offloaded build) new h = absurd h
 
+  merges-rows : (old : State K) (w : WorkOf K) (new : State K) → Merges number_of old w new → new.table.places ≡ old.table.places
+  merges-rows old (work.Offloaded build) new h = ap (λ (t : LiveState K). t.table.places) h.changed.state
+  merges-rows old (work.Evac evac) new h = absurd h
+  merges-rows old (work.Carried carried) new h = absurd h
+  merges-rows old (work.Fetch fetch) new h = absurd h
+  merges-rows old (work.Fetched fetched) new h = absurd h
+  merges-rows old (work.Offload build) new h = absurd h
+
+  -- a merge that is accepted builds the row group of its build in, as a scan does
+  module _ (old : World K) (n : ℕ) (job : JobRecord K) (build : Build K) (is : job_at old.jobs n ≡ Some job) (phase : job.work ≡ work.Offloaded build) (new : World K) (taken : IsStep content number_of old (step.Merge n) reply.Done new) where
+    merged : Merges number_of old.state (work.Offloaded build) new.state
+    merged =
+        let found : IsSomeAnd (Some job) (λ j. Merges number_of old.state j.work new.state) = subst (λ (o : Option (JobRecord K)). IsSomeAnd o (λ j. Merges number_of old.state j.work new.state)) is taken.ended in
+        subst (λ (w : WorkOf K). Merges number_of old.state w new.state) phase found
+
+    pub merged-state : new.state ≡ record old.state { table = scanned_at build.aggregate build.group old.state.table }
+    merged-state = λ i. record { table = (merged.changed.state i).table; rows = (merged.changed.state i).rows; seen = merged.seen i }
+
+    pub merged-scan : (scanned : World K) → IsStep content number_of old (step.ScanGroup build.aggregate build.group) reply.Done scanned → new.state ≡ scanned.state
+    merged-scan scanned h =
+        let by_scan : scanned.state ≡ record old.state { table = scanned_at build.aggregate build.group old.state.table } = λ i. record { table = (h.0.1.changed.state i).table; rows = (h.0.1.changed.state i).rows; seen = h.0.1.seen i } in
+        merged-state ∙ sym by_scan
+
   same-faults : (old new : World K) (serves : Reply → World K → Type 0) (refuses : Refusal → World K → Type 0) (given : Reply) → ((served : Reply) → serves served new → new.faults ≡ old.faults) → ((why : Refusal) → refuses why new → new.faults ≡ old.faults) → Replies (λ served. serves served new) (λ why. refuses why new) given → new.faults ≤ old.faults + 1
   same-faults old new serves refuses given f g h = (let same = replied (λ served. serves served new) (λ why. refuses why new) given f g h in omega (arith, same))
 
   -- a step of jobs leaves the table as it is
   module _ (old new : World K) (given : Reply) where
-    some-ended : (ends : WorkOf K → State K → Type 0) → ((w : WorkOf K) → ends w new.state → new.state.table ≡ old.state.table) → (found : Option (JobRecord K)) → IsSomeAnd found (λ job. ends job.work new.state) → new.state.table ≡ old.state.table
+    some-ended : {P : Type 0} (ends : WorkOf K → State K → Type 0) → ((w : WorkOf K) → ends w new.state → P) → (found : Option (JobRecord K)) → IsSomeAnd found (λ job. ends job.work new.state) → P
     some-ended ends each None h = absurd h
     some-ended ends each (Some job) h = each job.work h
 
@@ -183,8 +210,11 @@ module _ {K : Type 0} (content : K → List ℕ) (number_of : K → ℕ) where
     carry-table : (n : ℕ) → Replies (λ served. IsCarry content n old served new) (λ why. IsNoCarry n old why new) given → new.state.table ≡ old.state.table
     carry-table n h = replied (λ served. IsCarry content n old served new) (λ why. IsNoCarry n old why new) given (λ served k. ap (λ (w : World K). w.state.table) k.world) (λ why k. ap (λ (w : World K). w.state.table) k.world) h
 
+    pub ended-so : {P : Type 0} (n : ℕ) (ends : WorkOf K → State K → Type 0) (why : WorkOf K → Refusal → Type 0) → ((w : WorkOf K) → ends w new.state → P) → (new.state ≡ old.state → P) → Replies (λ served. IsEnded ends n old served new) (λ e. IsNotEnded why n old e new) given → P
+    ended-so n ends why each stays h = replied (λ served. IsEnded ends n old served new) (λ e. IsNotEnded why n old e new) given (λ served k. some-ended ends each (job_at old.jobs n) k.ended) (λ e k. stays (ap (λ (w : World K). w.state) k.world)) h
+
     ended-table : (n : ℕ) (ends : WorkOf K → State K → Type 0) (why : WorkOf K → Refusal → Type 0) → ((w : WorkOf K) → ends w new.state → new.state.table ≡ old.state.table) → Replies (λ served. IsEnded ends n old served new) (λ e. IsNotEnded why n old e new) given → new.state.table ≡ old.state.table
-    ended-table n ends why each h = replied (λ served. IsEnded ends n old served new) (λ e. IsNotEnded why n old e new) given (λ served k. some-ended ends each (job_at old.jobs n) k.ended) (λ e k. ap (λ (w : World K). w.state.table) k.world) h
+    ended-table n ends why each h = ended-so n ends why each (λ same. ap (λ (t : State K). t.table) same) h
 
   -- a step that moves objects or is about a job leaves the table as it is
   pub moved-table : (old : World K) (s : Step) (given : Reply) (new : World K) → is_movement s ≡ true → IsStep content number_of old s given new → new.state.table ≡ old.state.table
@@ -195,9 +225,11 @@ module _ {K : Type 0} (content : K → List ℕ) (number_of : K → ℕ) where
   moved-table old (step.Compact kind segment) given new is k = replied (λ served. Accepts content old.state (step.Compact kind segment) served new.state) (λ why. Refuses old.state (step.Compact kind segment) why new.state) given (λ served h. h.1.changed.table) (λ why h. ap (λ (t : State K). t.table) h.0) k.0
   moved-table old (step.BeginEvac column group) given new is k = begun-table old new given (IsEvacJob old.state.rows column group) (evac_refusal old.state.rows column group) k
   moved-table old (step.BeginFetch column group) given new is k = begun-table old new given (IsFetchJob old.state.rows column group) (fetch_refusal old.state.rows column group) k
+  moved-table old (step.BeginOffload a g) given new is k = begun-table old new given (IsOffloadJob old.state a g) (offload_refusal (live old.state) (aggregate_at old.state.table a) g) k
   moved-table old (step.Carry n) given new is k = carry-table old new given n k
   moved-table old (step.Commit n) given new is k = ended-table old new given n (Commits number_of old.state) (CommitRefusal number_of old.state) (λ w h. commits-table old.state w new.state h) k
   moved-table old (step.Install n) given new is k = ended-table old new given n (Installs number_of old.state content) (InstallRefusal number_of old.state content) (λ w h. installs-table old.state w new.state h) k
+  moved-table old (step.Merge n) given new is k = absurd (not-moved is)
   moved-table old (step.Edit e) given new is k = absurd (not-moved is)
   moved-table old (step.Watch spec) given new is k = absurd (not-moved is)
   moved-table old (step.Unwatch a) given new is k = absurd (not-moved is)
@@ -220,9 +252,11 @@ module _ {K : Type 0} (content : K → List ℕ) (number_of : K → ℕ) where
   step-rows old (step.Compact kind segment) given new h = moved-rows old (step.Compact kind segment) given new refl h
   step-rows old (step.BeginEvac column group) given new h = moved-rows old (step.BeginEvac column group) given new refl h
   step-rows old (step.BeginFetch column group) given new h = moved-rows old (step.BeginFetch column group) given new refl h
+  step-rows old (step.BeginOffload a g) given new h = moved-rows old (step.BeginOffload a g) given new refl h
   step-rows old (step.Carry n) given new h = moved-rows old (step.Carry n) given new refl h
   step-rows old (step.Commit n) given new h = moved-rows old (step.Commit n) given new refl h
   step-rows old (step.Install n) given new h = moved-rows old (step.Install n) given new refl h
+  step-rows old (step.Merge n) given new h = either (is_refused given) old.state.table.places new.state.table.places (ended-so old new given n (Merges number_of old.state) (MergeRefusal number_of old.state) (λ w m. merges-rows old.state w new.state m) (λ same. ap (λ (t : State K). t.table.places) same) h)
 
   pub run-rows : (old : World K) (steps : List Step) (replies : List Reply) (new : World K) → IsRun content number_of old steps replies new → new.state.table.places ≡ plain_rows steps replies old.state.table.places
   run-rows old [] [] new h = ap (λ (t : World K). t.state.table.places) h
@@ -244,6 +278,8 @@ module _ {K : Type 0} (content : K → List ℕ) (number_of : K → ℕ) where
   refused-state old (step.Compact kind segment) why new h = h.0.0
   refused-state old (step.BeginEvac column group) why new h = ap (λ (w : World K). w.state) h.world
   refused-state old (step.BeginFetch column group) why new h = ap (λ (w : World K). w.state) h.world
+  refused-state old (step.BeginOffload a g) why new h = ap (λ (w : World K). w.state) h.world
+  refused-state old (step.Merge n) why new h = ap (λ (w : World K). w.state) h.world
   refused-state old (step.Carry n) why new h = ap (λ (w : World K). w.state) h.world
   refused-state old (step.Commit n) why new h = ap (λ (w : World K). w.state) h.world
   refused-state old (step.Install n) why new h = ap (λ (w : World K). w.state) h.world
@@ -267,6 +303,8 @@ module _ {K : Type 0} (content : K → List ℕ) (number_of : K → ℕ) where
   step-faults old (step.BeginFetch column group) given new h = same-faults old new (IsBegun (IsFetchJob old.state.rows column group) old) (IsNotBegun (fetch_refusal old.state.rows column group) old) given (λ served k. ap (λ (w : World K). w.faults) k.world) (λ why k. ap (λ (w : World K). w.faults) k.world) h
   step-faults old (step.Commit n) given new h = same-faults old new (IsEnded (Commits number_of old.state) n old) (IsNotEnded (CommitRefusal number_of old.state) n old) given (λ served k. ap (λ (w : World K). w.faults) k.world) (λ why k. ap (λ (w : World K). w.faults) k.world) h
   step-faults old (step.Install n) given new h = same-faults old new (IsEnded (Installs number_of old.state content) n old) (IsNotEnded (InstallRefusal number_of old.state content) n old) given (λ served k. ap (λ (w : World K). w.faults) k.world) (λ why k. ap (λ (w : World K). w.faults) k.world) h
+  step-faults old (step.BeginOffload a g) given new h = same-faults old new (IsBegun (IsOffloadJob old.state a g) old) (IsNotBegun (offload_refusal (live old.state) (aggregate_at old.state.table a) g) old) given (λ served k. ap (λ (w : World K). w.faults) k.world) (λ why k. ap (λ (w : World K). w.faults) k.world) h
+  step-faults old (step.Merge n) given new h = same-faults old new (IsEnded (Merges number_of old.state) n old) (IsNotEnded (MergeRefusal number_of old.state) n old) given (λ served k. ap (λ (w : World K). w.faults) k.world) (λ why k. ap (λ (w : World K). w.faults) k.world) h
   step-faults old (step.Carry n) given new h = replied (λ served. IsCarry content n old served new) (λ why. IsNoCarry n old why new) given
       (λ served k. omega (arith, ap (λ (w : World K). w.faults) k.world))
       (λ why k. omega (arith, ap (λ (w : World K). w.faults) k.world, few-faults why)) h

@@ -72,9 +72,11 @@ module _ {K : Type 0} where
   WhyRefused s (step.Prefetch column) given = MayRefuse (prefetch_refusal s.table column) true given
   WhyRefused s (step.BeginEvac column group) given = ⊥
   WhyRefused s (step.BeginFetch column group) given = ⊥
+  WhyRefused s (step.BeginOffload a g) given = ⊥
   WhyRefused s (step.Carry n) given = ⊥
   WhyRefused s (step.Commit n) given = ⊥
   WhyRefused s (step.Install n) given = ⊥
+  WhyRefused s (step.Merge n) given = ⊥
 
   -- a step is refused: nothing changes
   abbrev pub Refuses : State K → Step → Refusal → State K → Type 0
@@ -96,9 +98,11 @@ module _ {K : Type 0} where
     Accepts old (step.Prefetch column) given new = (prefetch_refusal old.table column ≡ None) × Proposes (next_groups old.table old.seen column) given × (new ≡ old)
     Accepts old (step.BeginEvac column group) given new = ⊥
     Accepts old (step.BeginFetch column group) given new = ⊥
+    Accepts old (step.BeginOffload a g) given new = ⊥
     Accepts old (step.Carry n) given new = ⊥
     Accepts old (step.Commit n) given new = ⊥
     Accepts old (step.Install n) given new = ⊥
+    Accepts old (step.Merge n) given new = ⊥
 
     -- what a step with this reply does to the table and its objects
     abbrev pub Changes : State K → Step → Reply → State K → Type 0

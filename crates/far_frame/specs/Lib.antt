@@ -5,6 +5,7 @@ pub mod Changes
 pub mod Worlds
 pub mod Waiting
 pub mod Runs
+pub mod Pins
 pub mod Views
 pub mod Jobs
 pub mod Renewing

@@ -32,9 +32,11 @@ rows_after (step.Compact kind segment) places = places
 rows_after (step.Prefetch column) places = places
 rows_after (step.BeginEvac column group) places = places
 rows_after (step.BeginFetch column group) places = places
+rows_after (step.BeginOffload a g) places = places
 rows_after (step.Carry n) places = places
 rows_after (step.Commit n) places = places
 rows_after (step.Install n) places = places
+rows_after (step.Merge n) places = places
 
 -- the plain list under the edits that were accepted
 abbrev pub plain_rows : List Step → List Reply → List Place → List Place
@@ -54,8 +56,10 @@ is_movement (step.Pin column group) = true
 is_movement (step.Unpin column group) = true
 is_movement (step.BeginEvac column group) = true
 is_movement (step.BeginFetch column group) = true
+is_movement (step.BeginOffload a g) = true
 is_movement (step.Carry n) = true
 is_movement (step.Commit n) = true
 is_movement (step.Install n) = true
+is_movement (step.Merge n) = false
 is_movement (step.Compact kind segment) = true
 is_movement (step.Prefetch column) = true

@@ -5,7 +5,10 @@ use Rattle.far_frame.specs.declared.step.Step.{Step}
 use Rattle.far_frame.specs.declared.step.Step.TheVariants as step
 use Rattle.far_frame.specs.declared.step.Reply.{Reply}
 use Rattle.far_frame.specs.Changes.{Replies, Changes}
-use Rattle.far_frame.specs.Jobs.{IsEvacJob, IsFetchJob, Commits, CommitRefusal, Installs, InstallRefusal}
+use Rattle.far_table.specs.Offloading.{offload_refusal}
+use Rattle.far_table.specs.Watching.{aggregate_at}
+use Rattle.far_frame.specs.State.{live}
+use Rattle.far_frame.specs.Jobs.{IsEvacJob, IsFetchJob, IsOffloadJob, Commits, CommitRefusal, Installs, InstallRefusal, Merges, MergeRefusal}
 use Rattle.far_frame.specs.Worlds.{World, IsBegun, IsNotBegun, IsCarry, IsNoCarry, IsEnded, IsNotEnded}
 
 module _ {K : Type 0} (content : K → List ℕ) (number_of : K → ℕ) (old : World K) where
@@ -27,9 +30,11 @@ module _ {K : Type 0} (content : K → List ℕ) (number_of : K → ℕ) (old : 
   IsStep (step.Prefetch column) given new = OnTable (step.Prefetch column) given new
   IsStep (step.BeginEvac column group) given new = Replies (λ served. IsBegun (IsEvacJob old.state.rows column group) old served new) (λ why. IsNotBegun (evac_refusal old.state.rows column group) old why new) given
   IsStep (step.BeginFetch column group) given new = Replies (λ served. IsBegun (IsFetchJob old.state.rows column group) old served new) (λ why. IsNotBegun (fetch_refusal old.state.rows column group) old why new) given
+  IsStep (step.BeginOffload a g) given new = Replies (λ served. IsBegun (IsOffloadJob old.state a g) old served new) (λ why. IsNotBegun (offload_refusal (live old.state) (aggregate_at old.state.table a) g) old why new) given
   IsStep (step.Carry n) given new = Replies (λ served. IsCarry content n old served new) (λ why. IsNoCarry n old why new) given
   IsStep (step.Commit n) given new = Replies (λ served. IsEnded (Commits number_of old.state) n old served new) (λ why. IsNotEnded (CommitRefusal number_of old.state) n old why new) given
   IsStep (step.Install n) given new = Replies (λ served. IsEnded (Installs number_of old.state content) n old served new) (λ why. IsNotEnded (InstallRefusal number_of old.state content) n old why new) given
+  IsStep (step.Merge n) given new = Replies (λ served. IsEnded (Merges number_of old.state) n old served new) (λ why. IsNotEnded (MergeRefusal number_of old.state) n old why new) given
 
 module _ {K : Type 0} (content : K → List ℕ) (number_of : K → ℕ) where
   -- from old the world goes to new by these steps with these replies, one for each

@@ -15,6 +15,7 @@ ghost use Rattle.far_frame.specs.declared.step.Reply.TheVariants as reply;
 mod lending;
 mod moving;
 mod offloading;
+mod recounting;
 mod renewing;
 
 use super::view::View;

@@ -1,18 +1,25 @@
 // The promises of a run in the subject's own words, as they follow from the relation of steps.
-ghost use Rattle.std.specs.Prelude.{◌≡◌, ◌≢◌, ℕ, List, ◌∷◌, [], ◌++◌, Some, true, false, slice_range};
+ghost use Rattle.std.specs.Prelude.{◌≡◌, ◌≢◌, ℕ, List, ◌∷◌, [], ◌++◌, Some, IfSome, true, false, slice_range};
 ghost use Rattle.std.specs.List.{flat_map};
 ghost use Rattle.far_types.specs.declared.answer.Answer.{Answer};
+ghost use Rattle.far_types.specs.declared.cell.Kind.{Kind};
 ghost use Rattle.far_types.specs.declared.edit.Edit.{Edit};
+ghost use Rattle.far_types.specs.declared.limits.Limits.{Limits};
 ghost use Rattle.far_types.specs.declared.refusal.Refusal.{Refusal};
+ghost use Rattle.far_types.specs.declared.refusal.Refusal.TheVariants as refusal;
 ghost use Rattle.far_types.specs.Edits.{edited};
 ghost use Rattle.far_types.specs.MayRefuse.{MayRefuse};
 ghost use Rattle.far_types.specs.Bounds.{AreLimits};
 ghost use Rattle.far_types.specs.Table.{Registered, left, answer_now, part};
 ghost use Rattle.far_evacuator.specs.Jobs.{CarriedEvacuation};
 ghost use Rattle.far_rows.specs.declared.job.ByKind.{ByKind};
+ghost use Rattle.far_rows.specs.declared.object.Object.{Object};
 ghost use Rattle.far_rows.specs.Jobs.{pins_by};
+ghost use Rattle.far_rows.specs.Moving.{object_at};
+ghost use Rattle.far_rows.specs.Opening.{empty_rows};
 ghost use Rattle.far_table.specs.Edits.{edit_due};
-ghost use Rattle.far_table.specs.Watching.{aggregate_at};
+ghost use Rattle.far_table.specs.Offloading.{Build};
+ghost use Rattle.far_table.specs.Watching.{aggregate_at, scanned_at};
 ghost use Rattle.far_frame.specs.declared.job.Work.TheVariants as work;
 ghost use Rattle.far_frame.specs.declared.step.Reply.{Reply};
 ghost use Rattle.far_frame.specs.declared.step.Reply.TheVariants as reply;
@@ -20,6 +27,7 @@ ghost use Rattle.far_frame.specs.declared.step.Step.{Step};
 ghost use Rattle.far_frame.specs.declared.step.Step.TheVariants as step;
 ghost use Rattle.far_frame.specs.Jobs.{JobRecord};
 ghost use Rattle.far_frame.specs.Lending.{flags_of, pieces_in};
+ghost use Rattle.far_frame.specs.Pins.{ArePinnedHere, is_here, is_pinning, pins_on};
 ghost use Rattle.far_frame.specs.Runs.{is_movement, is_refused, plain_rows};
 ghost use Rattle.far_frame.specs.Waiting.{job_at, without_job};
 ghost use Rattle.far_frame.specs.State.{live};
@@ -61,21 +69,35 @@ pub fn a_refused_step_changes_nothing<S: FarTickets>()
     ensures { (old : World S.Ticket) → (s : Step) → (given : Refusal) → (new : World S.Ticket) → IsStep S.content S.number_of old s (reply.Refused given) new → new.state ≡ old.state }
 {}
 
-/// Lendings, pins, jobs in any phase, compactions and proposals change no row, no aggregate and no answer.
+/// Lendings, pins, jobs that move objects in any phase, beginnings and carries of offloaded builds, compactions and proposals change no
+/// row, no aggregate and no answer.
 pub fn movement_changes_no_row<S: FarTickets>()
     ensures { (old : World S.Ticket) → (s : Step) → (given : Reply) → (new : World S.Ticket) → is_movement s ≡ true → IsStep S.content S.number_of old s given new → new.state.table ≡ old.state.table }
 {}
 
-/// No commit sends away an object that has a pin.
+/// No step of any kind sends an object away that has a pin: a commit of its evacuation is refused. Only `Pin` and `Unpin` change how many
+/// pins an object has. So from a table as it is opened on, every object that has a pin is local, and a lending is not refused for it.
 pub fn a_pinned_object_stays<S: FarTickets>()
-    ensures { (old : World S.Ticket) → (n : ℕ) → (job : JobRecord S.Ticket) → (carried : ByKind (CarriedEvacuation S.Ticket) (CarriedEvacuation S.Ticket)) → job_at old.jobs n ≡ Some job → job.work ≡ work.Carried carried → pins_by old.state.rows carried ≢ 0 → (new : World S.Ticket) → ¬ (IsStep S.content S.number_of old (step.Commit n) reply.Done new) }
+    ensures stays { (old : World S.Ticket) → (s : Step) → (given : Reply) → (new : World S.Ticket) → IsStep S.content S.number_of old s given new → (o : Object) → pins_on old.state.rows o ≢ 0 → is_here old.state.rows o ≡ true → is_here new.state.rows o ≡ true }
+    ensures pins { (old : World S.Ticket) → (s : Step) → (given : Reply) → (new : World S.Ticket) → is_pinning s ≡ false → IsStep S.content S.number_of old s given new → (o : Object) → pins_on new.state.rows o ≡ pins_on old.state.rows o }
+    ensures run { (old : World S.Ticket) → (steps : List Step) → (replies : List Reply) → (new : World S.Ticket) → ArePinnedHere old.state.rows → IsRun S.content S.number_of old steps replies new → ArePinnedHere new.state.rows }
+    ensures opened { (schema : List Kind) → (limits : Limits) → (number : ℕ) → ArePinnedHere (empty_rows {K = S.Ticket} schema limits number) }
+    ensures lent { (old : World S.Ticket) → ArePinnedHere old.state.rows → (column from to c g : ℕ) → (new : World S.Ticket) → IsStep S.content S.number_of old (step.Lend column from to) (reply.Refused (refusal.Absent c g)) new → IfSome (object_at old.state.rows c g) (λ o. pins_on old.state.rows o ≡ 0) }
+    ensures committed { (old : World S.Ticket) → (n : ℕ) → (job : JobRecord S.Ticket) → (carried : ByKind (CarriedEvacuation S.Ticket) (CarriedEvacuation S.Ticket)) → job_at old.jobs n ≡ Some job → job.work ≡ work.Carried carried → pins_by old.state.rows carried ≢ 0 → (new : World S.Ticket) → ¬ (IsStep S.content S.number_of old (step.Commit n) reply.Done new) }
+{}
+
+/// A merge that is accepted does to the table exactly what a scan of its row group does, and changes no row and no object.
+pub fn a_merge_is_a_scan<S: FarTickets>()
+    ensures table { (old : World S.Ticket) → (n : ℕ) → (job : JobRecord S.Ticket) → (build : Build S.Ticket) → job_at old.jobs n ≡ Some job → job.work ≡ work.Offloaded build → (new : World S.Ticket) → IsStep S.content S.number_of old (step.Merge n) reply.Done new → new.state ≡ record old.state { table = scanned_at build.aggregate build.group old.state.table } }
+    ensures scan { (old : World S.Ticket) → (n : ℕ) → (job : JobRecord S.Ticket) → (build : Build S.Ticket) → job_at old.jobs n ≡ Some job → job.work ≡ work.Offloaded build → (new : World S.Ticket) → IsStep S.content S.number_of old (step.Merge n) reply.Done new → (scanned : World S.Ticket) → IsStep S.content S.number_of old (step.ScanGroup build.aggregate build.group) reply.Done scanned → new.state ≡ scanned.state }
 {}
 
 /// A job that is stale changes nothing but that its number is spent: one that was accepted, is of another kind or phase, or whose
-/// object was written or away since.
+/// object was written or away since; or a build whose row group was edited, built in otherwise, or whose aggregate is another now.
 pub fn a_stale_job_changes_nothing<S: FarTickets>()
     ensures committed { (old : World S.Ticket) → (n : ℕ) → (new : World S.Ticket) → IsStep S.content S.number_of old (step.Commit n) (reply.Refused Refusal.StaleJob) new → new ≡ record old { jobs = without_job old.jobs n } }
     ensures installed { (old : World S.Ticket) → (n : ℕ) → (new : World S.Ticket) → IsStep S.content S.number_of old (step.Install n) (reply.Refused Refusal.StaleJob) new → new ≡ record old { jobs = without_job old.jobs n } }
+    ensures merged { (old : World S.Ticket) → (n : ℕ) → (new : World S.Ticket) → IsStep S.content S.number_of old (step.Merge n) (reply.Refused Refusal.StaleJob) new → new ≡ record old { jobs = without_job old.jobs n } }
     ensures carried { (old : World S.Ticket) → (n : ℕ) → (new : World S.Ticket) → IsStep S.content S.number_of old (step.Carry n) (reply.Refused Refusal.StaleJob) new → new ≡ old }
 {}
 

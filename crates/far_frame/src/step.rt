@@ -55,12 +55,21 @@ pub enum Step {
         /// The row group.
         group: u32,
     },
+    /// Begins to build the rows of one row group into an aggregate from the far store's copies: a job, under the next number.
+    BeginOffload {
+        /// The aggregate.
+        aggregate: u32,
+        /// The row group.
+        group: u32,
+    },
     /// Carries the job of a number.
     Carry(u64),
     /// Ends the job of a number, an evacuation that was carried: its object is away.
     Commit(u64),
     /// Ends the job of a number, a fetch that was carried: its object is back.
     Install(u64),
+    /// Ends the job of a number, an offloaded build that was carried: its row group is built in.
+    Merge(u64),
     /// Compacts a segment, the second, of the objects of a kind.
     Compact(Kind, u32),
     /// Asks which row groups of a column to fetch next.

@@ -65,9 +65,10 @@ impl<S: FarStore> World<S> {
         &self.frame
     }
 
-    /// The store to which the table's objects go. Takes no memory.
+    /// The store to which the table's objects go. All tickets of the rows are of it. Takes no memory.
     pub fn store(&self) -> &S
-        ensures { S.name result.now ≡ self.now.store }
+        ensures name { S.name result.now ≡ self.now.store }
+        ensures here { AreAt S.is_of self.now.store self.now.state.rows }
     {
         &self.store
     }
@@ -106,9 +107,11 @@ impl<S: FarStore> World<S> {
             Step::Unpin { column, group } => serving::unpin(&mut self.frame, column, group),
             Step::BeginEvac { column, group } => self.begin_evac(column, group),
             Step::BeginFetch { column, group } => self.begin_fetch(column, group),
+            Step::BeginOffload { aggregate, group } => self.begin_offload(aggregate, group),
             Step::Carry(n) => self.carry(n),
             Step::Commit(n) => self.commit(n),
             Step::Install(n) => self.install(n),
+            Step::Merge(n) => self.merge(n),
             Step::Compact(kind, segment) => serving::compact(&mut self.frame, kind, segment),
             Step::Prefetch(column) => serving::prefetch(&self.frame, column),
         }
@@ -116,8 +119,8 @@ impl<S: FarStore> World<S> {
 }
 
 /// Serves steps in order, with one reply to each: the replies and the new state are a run of the plain table from the
-/// old one. So after any list of steps, in which edits, registrations, lendings, pins and every phase of evacuations and fetches
-/// follow one another anyhow, each aggregate that answers gives what folding it over the rows as they are gives, each lent slice is
+/// old one. So after any list of steps, in which edits, registrations, lendings, pins and every phase of evacuations, fetches and
+/// offloaded builds follow one another anyhow, each aggregate that answers gives what folding it over the rows as they are gives, each lent slice is
 /// that part of its column, each edit's reply is the plain list's, and a refused step changes no row, column or answer. Refused with
 /// `NoMemory` (1) alone, before any step, and then nothing is changed.
 pub fn run<S: FarStore>(world: &mut World<S>, steps: Vec<Step>) -> Result<Vec<Reply>, Refusal>

@@ -22,3 +22,7 @@ mod Renewed
 mod Copied
 mod Tickets
 mod Merging
+mod Away
+mod MixedReads
+mod PieceLaws
+mod Recounted

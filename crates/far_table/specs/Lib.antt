@@ -8,3 +8,6 @@ pub mod Moving
 pub mod Renewing
 pub mod Offloading
 pub mod FarGroups
+pub mod MixedGroups
+pub mod Recounting
+pub mod Pieces

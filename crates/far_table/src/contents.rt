@@ -1,12 +1,16 @@
-// Contents that were read from the far store for an offloaded build.
-ghost use Rattle.std.specs.Prelude.{◌≡◌, ◌==◌, ◌+◌, ◌<◌, ◌^◌, [], ◌∷◌, IfOk, option_map};
+// Contents that were read from the far store, for an offloaded build or a recount.
+ghost use Rattle.std.specs.Prelude.{◌≡◌, ◌==◌, ◌+◌, ◌*◌, ◌<◌, ◌^◌, [], ◌∷◌, length, IfOk, option_map};
 ghost use Rattle.std.specs.List.{find};
 ghost use Rattle.far_store.specs.Faults.{faults_in, RefusedBy};
+ghost use Rattle.far_rows.specs.Jobs.{AreAt};
 ghost use Rattle.far_table.specs.Offloading.{AreTicketsOf};
 ghost use Rattle.far_table.specs.FarGroups.{contents_under};
+ghost use Rattle.far_table.specs.MixedGroups.{AreRead, MayFold};
 
+use crate::copies::away_copy;
+use far_rows::Rows;
 use far_store::{FarRead, Meter};
-use far_types::Refusal;
+use far_types::{Refusal, Spec};
 use std::alloc::Global;
 use std::marker::Model;
 
@@ -72,6 +76,36 @@ pub(crate) fn contents_of<S: FarRead>(
     let mut contents = Vec::new(alloc);
     for (column, ticket) in tickets {
         contents.push(content_of(alloc, store, meter, *column, ticket)?)?;
+    }
+    Ok(contents)
+}
+
+/// The contents of the columns of a row group that an aggregate needs and that are away, one buffer for each.
+///
+/// Refused with `FarFault` (21) if the store fails in this call, exactly when the meter rises, by one; and with `NoMemory` (1).
+pub(crate) fn contents_away<S: FarRead>(
+    alloc: Global,
+    rows: &Rows<S>,
+    store: &S,
+    meter: &mut Meter,
+    spec: &Spec,
+    group: u32,
+) -> Result<Vec<Content>, Refusal>
+    requires few { meter.old < 2 ^ 63 }
+    requires here { AreAt S.is_of (S.name store.now) rows.now }
+    requires begun { group * rows.now.size < length rows.now.alive }
+    requires may_fold { MayFold rows.now spec.now }
+    ensures contents { IfOk result (λ contents. AreRead S.content record { rows = rows.now; group = group } spec.now contents.items) }
+    ensures faults { meter.new ≡ meter.old + faults_in result }
+    ensures refused { RefusedBy (21 ∷ 1 ∷ []) result }
+{
+    // For the proof: gives `AreRows`.
+    let _len = rows.len();
+    let mut contents = Vec::new(alloc);
+    for column in 0..rows.slots().len() {
+        if let Some(ticket) = away_copy(rows, spec, column as u32, group) {
+            contents.push(content_of(alloc, store, meter, column as u32, ticket)?)?;
+        }
     }
     Ok(contents)
 }

@@ -1,16 +1,19 @@
 // The far store's copies of a row group's columns.
-ghost use Rattle.std.specs.Prelude.{◌≡◌, ◌<◌, ◌↔◌, ◌++◌, ◌&&◌, [], is_none, ℕ, List, None, cond, length, option_map, IsTrue, IfOk, IfErr, IfSome, OnOk, IsSomeAnd};
+ghost use Rattle.std.specs.Prelude.{◌≡◌, ◌<◌, ◌*◌, ◌↔◌, ◌++◌, ◌&&◌, [], is_none, ℕ, List, None, true, false, cond, length, option_map, IsTrue, IfOk, IfErr, IfSome, IsSome, OnOk, IsSomeAnd};
 ghost use Rattle.std.specs.List.{cons_option};
 ghost use Rattle.far_codec.specs.Lent.{IsForm};
 ghost use Rattle.far_codec.specs.Spelling.{IsSpelled};
 ghost use Rattle.far_types.specs.Bounds.{needs};
 ghost use Rattle.far_types.specs.FirstOf.{first_of};
+ghost use Rattle.far_scopes.specs.Movement.{is_local};
 ghost use Rattle.far_scopes.specs.Refusing.{refusal_in};
 ghost use Rattle.far_offload.specs.Jobs.{AreForms};
 ghost use Rattle.far_rows.specs.Rows.{AreRows};
+ghost use Rattle.far_rows.specs.Refusing.{absent_in};
 ghost use Rattle.far_rows.specs.Jobs.{AreAt};
 ghost use Rattle.far_table.specs.Offloading.{ticket_for, AreTicketsOf, HaveOneNumber, clean_ticket, copy_of, dirty_from};
 ghost use Rattle.far_table.specs.FarGroups.{IsCopy, AllNeeded};
+ghost use Rattle.far_table.specs.Groups.{has_column};
 
 use far_codec::Elem;
 use far_rows::{Object, Rows};
@@ -24,6 +27,7 @@ fn clean_ticket<T: Elem, S: FarTickets>(objects: &Objects<T, S>, o: u32) -> Opti
     requires { o < length objects.now.entries }
     ensures ticket { option_map (λ ticket. ticket.now) result ≡ clean_ticket objects.now o }
     ensures form { IfSome result (λ ticket. IsSpelled T.in_range T.has_spelling T.spelling (T.meaning (S.content ticket.now)) (S.content ticket.now)) }
+    ensures away { is_local objects.now o ≡ false → IsSome result }
 {
     // For the proof: gives `AreTracked`.
     let _number = objects.number();
@@ -39,6 +43,7 @@ pub(crate) fn copy_of<S: FarTickets>(rows: &Rows<S>, column: u32, group: u32) ->
     ensures ticket { option_map (λ ticket. ticket.now) result ≡ copy_of rows.now column group }
     ensures copy { IfSome result (λ ticket. IsCopy S.content rows.now group column ticket.now) }
     ensures here { (name : List ℕ) → AreAt S.is_of name rows.now → IfSome result (λ ticket. S.is_of ticket.now name) }
+    ensures away { (absent_in rows.now column group).0 ≡ true → IsSome result }
 {
     // For the proof: gives `AreRows`.
     let _len = rows.len();
@@ -47,6 +52,27 @@ pub(crate) fn copy_of<S: FarTickets>(rows: &Rows<S>, column: u32, group: u32) ->
         Ok(Object::Text(o)) => clean_ticket(rows.text_objects(), o),
         Err(_) => None,
     }
+}
+
+/// The ticket of a column of a row group, if an aggregate needs the column and its object is away. Allocates nothing.
+pub(crate) fn away_copy<'a, S: FarTickets>(
+    rows: &'a Rows<S>,
+    spec: &Spec,
+    column: u32,
+    group: u32,
+) -> Option<&'a S::Ticket>
+    requires inside { column < length rows.now.slots }
+    requires begun { group * rows.now.size < length rows.now.alive }
+    ensures copy { IfSome result (λ ticket. IsCopy S.content rows.now group column ticket.now) }
+    ensures here { (name : List ℕ) → AreAt S.is_of name rows.now → IfSome result (λ ticket. S.is_of ticket.now name) }
+    ensures all { needs spec.now column ≡ true → has_column record { rows = rows.now; group = group } column ≡ false → IsSome result }
+{
+    // For the proof: gives `AreRows`.
+    let _len = rows.len();
+    if !spec.needs(column) || rows.group_column(column as usize, group).is_ok() {
+        return None;
+    }
+    copy_of(rows, column, group)
 }
 
 /// Whether the far store has the columns of a row group that an aggregate needs, as they are now. Allocates nothing.

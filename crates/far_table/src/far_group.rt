@@ -76,9 +76,9 @@ impl<'a, S: FarTickets> LendGroup for FarGroup<'a, S> {
     }
 }
 
-// The column of a content. Its bytes came from a store, so they are tested before a value is read: a store that breaks its contract
-// has no values here.
-fn column_of(number: u32, form: &[u8]) -> Column<'_>
+/// The column of a content. Its bytes came from a store, so they are tested before a value is read: a store that breaks its contract
+/// has no values here.
+pub(crate) fn column_of(number: u32, form: &[u8]) -> Column<'_>
     requires { IsForm form.now }
     ensures { result ≡ (number, cells_meant form.now) }
 {

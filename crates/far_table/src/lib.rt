@@ -7,7 +7,10 @@ mod copies;
 mod far_group;
 mod faults;
 mod live_table;
+mod mixed_group;
 mod offload_build;
+mod piece;
+mod recounting;
 mod row_group;
 mod table_rows;
 

@@ -13,6 +13,7 @@ ghost use Rattle.far_table.specs.Live.{IsEdited, Refuses};
 
 mod moving;
 mod offloading;
+mod recounting;
 mod renewing;
 mod watching;
 

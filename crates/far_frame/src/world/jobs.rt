@@ -4,7 +4,10 @@ ghost use Rattle.std.specs.Option.{option_or};
 ghost use Rattle.far_types.specs.MayRefuse.{MayRefuse};
 ghost use Rattle.far_scopes.specs.Refusing.{refusal_in};
 ghost use Rattle.far_rows.specs.Jobs.{AreAt, evac_refusal, fetch_refusal};
-ghost use Rattle.far_frame.specs.Jobs.{IsJobAt, IsEvacJob, IsFetchJob, Commits, CommitRefusal, Installs, InstallRefusal};
+ghost use Rattle.far_table.specs.Offloading.{offload_refusal};
+ghost use Rattle.far_table.specs.Watching.{aggregate_at};
+ghost use Rattle.far_frame.specs.Jobs.{IsJobAt, IsEvacJob, IsFetchJob, IsOffloadJob, Commits, CommitRefusal, Installs, InstallRefusal, Merges, MergeRefusal};
+ghost use Rattle.far_frame.specs.State.{live};
 ghost use Rattle.far_frame.specs.Steps.{IsStep};
 ghost use Rattle.far_frame.specs.Waiting.{AreJobsAt, RefusalAt, job_at, one_more};
 ghost use Rattle.far_frame.specs.Worlds.{used_up};
@@ -56,6 +59,19 @@ impl<S: FarStore> World<S> {
         Ok(job)
     }
 
+    /// An offloaded build, where a job may be begun.
+    fn offload(&self, a: u32, group: u32) -> Result<Job<S>, Refusal>
+        ensures begun { IfOk result (IsOffloadJob self.now.state a group) }
+        ensures few { OnOk result (self.now.begun < self.now.state.table.limits.edits) }
+        ensures next { OnOk result (self.now.begun + 1 < 2 ^ 64) }
+        ensures here { IfOk result (IsJobAt S.is_of self.now.store) }
+        ensures refused { IfErr result (MayRefuse (option_or (offload_refusal (live self.now.state) (aggregate_at self.now.state.table a) group) (used_up self.now)) true) }
+    {
+        self.frame.may_offload(a, group)?;
+        self.may_begin()?;
+        self.frame.begin_offload(&self.store, a, group)
+    }
+
     /// Gives a job that was begun its number. Refused with `NoMemory` (1) alone; then nothing is changed.
     fn add(&mut self, job: Job<S>) -> Result<u64, Refusal>
         requires next { self.old.begun + 1 < 2 ^ 64 }
@@ -97,6 +113,19 @@ impl<S: FarStore> World<S> {
         }
     }
 
+    /// Serves the beginning of an offloaded build.
+    pub(super) fn begin_offload(&mut self, aggregate: u32, group: u32) -> Reply
+        ensures { IsStep S.content S.number_of self.old (Step.BeginOffload aggregate group) result self.new }
+    {
+        match self.offload(aggregate, group) {
+            Ok(job) => match self.add(job) {
+                Ok(n) => Reply::Job(n),
+                Err(refusal) => Reply::Refused(refusal),
+            },
+            Err(refusal) => Reply::Refused(refusal),
+        }
+    }
+
     /// Serves a carry.
     pub(super) fn carry(&mut self, n: u64) -> Reply
         requires few { self.old.faults < 2 ^ 63 }
@@ -119,6 +148,15 @@ impl<S: FarStore> World<S> {
         ensures { IsStep S.content S.number_of self.old (Step.Install n) result self.new }
     {
         let ended = end_fetch(&mut self.frame, &self.store, &self.jobs, n);
+        self.jobs.end(n, &ended);
+        Reply::done_or(ended)
+    }
+
+    /// Serves the end of an offloaded build.
+    pub(super) fn merge(&mut self, n: u64) -> Reply
+        ensures { IsStep S.content S.number_of self.old (Step.Merge n) result self.new }
+    {
+        let ended = end_build(&mut self.frame, &self.store, &self.jobs, n);
         self.jobs.end(n, &ended);
         Reply::done_or(ended)
     }
@@ -160,6 +198,26 @@ fn end_fetch<S: FarTickets>(
 {
     match jobs.get(n) {
         Some(job) => frame.install(store, job),
+        None => Err(Refusal::StaleJob),
+    }
+}
+
+/// Ends the job of a number as an offloaded build. Refused as the table refuses it, and with `StaleJob` (20) where there is no such job.
+fn end_build<S: FarTickets>(
+    frame: &mut Frame<S>,
+    store: &S,
+    jobs: &Waiting<S>,
+    n: u64,
+) -> Result<(), Refusal>
+    requires rows_here { AreAt S.is_of (S.name store.now) frame.old.rows }
+    requires jobs_here { AreJobsAt S.is_of (S.name store.now) jobs.now }
+    ensures ended { OnOk result (IsSomeAnd (job_at jobs.now n) (λ job. Merges S.number_of frame.old job.work frame.new)) }
+    ensures refused { IfErr result (RefusalAt (λ job. MergeRefusal S.number_of frame.old job.work) (job_at jobs.now n)) }
+    ensures err { OnErr result (frame.new ≡ frame.old) }
+    ensures here { AreAt S.is_of (S.name store.now) frame.new.rows }
+{
+    match jobs.get(n) {
+        Some(job) => frame.merge(store, job),
         None => Err(Refusal::StaleJob),
     }
 }

@@ -8,5 +8,6 @@ pub returns : goal.returns
 returns g c = record {
   committed = λ old n new h. h.world;
   installed = λ old n new h. h.world;
+  merged = λ old n new h. h.world;
   carried = λ old n new h. h.world ∙ ap (λ (faults : ℕ). record old { faults = faults }) (no-fault old.faults);
 }

@@ -1,0 +1,38 @@
+-- Row groups that were folded apart, and are merged into an aggregate one after the other.
+use Rattle.std.specs.Prelude.{◌≡◌, ℕ, zero, suc, ◌+◌, ◌-◌, List, [], ◌∷◌, slice_set}
+use Rattle.std.specs.FinMap as fin
+use Rattle.far_types.specs.declared.spec.Spec.{Spec}
+use Rattle.far_types.specs.Changes.{joined_totals}
+use Rattle.far_types.specs.Table.{Place}
+use Rattle.far_extrema.specs.Live.{with_room, group_at}
+use Rattle.far_groups.specs.Live.{CanJoin}
+use Rattle.far_offload.specs.declared.partial.PartialDone.{PartialDone}
+use Rattle.far_offload.specs.declared.partial.PartialDone.TheVariants as partial
+use Rattle.far_offload.specs.Partials.{partial_of}
+use Rattle.far_aggregates.specs.declared.aggregate.Kept.{Kept}
+use Rattle.far_aggregates.specs.declared.aggregate.Kept.TheVariants as kept
+use Rattle.far_aggregates.specs.Kept.{group_pairs}
+
+-- what the live places of a row group come to
+abbrev pub partial_at : Spec → ℕ → List Place → ℕ → PartialDone
+partial_at spec size places g = partial_of spec.fold (group_pairs spec size g places)
+
+-- the same of some row groups, in order, of which g is the first
+abbrev pub partials_from : Spec → ℕ → List Place → ℕ → ℕ → List PartialDone
+partials_from spec size places g zero = []
+partials_from spec size places g (suc n) = partial_at spec size places g ∷ partials_from spec size places (g + 1) n
+
+-- a partial of the same fold may be merged: a row group is left; the counts stay small, and no row of the row group is in the extrema
+abbrev pub KeptMayMerge : ℕ → PartialDone → Kept → Type 0
+KeptMayMerge g (partial.Totals done) (kept.Totals live) = (live.left ≡ 0 → ⊥) × CanJoin live.totals done.totals
+KeptMayMerge g (partial.Totals done) (kept.Extrema live) = ⊥
+KeptMayMerge g (partial.Extrema seen) (kept.Totals live) = ⊥
+KeptMayMerge g (partial.Extrema seen) (kept.Extrema live) = (live.left ≡ 0 → ⊥) × (group_at live.groups g ≡ fin.empty)
+
+-- the rows that a partial stands for are in what is kept. Which keys have room is left open
+abbrev pub IsMerged : ℕ → PartialDone → Kept → Kept → Type 0
+IsMerged g (partial.Totals done) (kept.Totals live) new = new ≡ kept.Totals (record { left = live.left - 1; totals = joined_totals live.totals done.totals })
+IsMerged g (partial.Totals done) (kept.Extrema live) new = ⊥
+IsMerged g (partial.Extrema seen) (kept.Totals live) new = ⊥
+IsMerged g (partial.Extrema seen) (kept.Extrema live) (kept.Totals new) = ⊥
+IsMerged g (partial.Extrema seen) (kept.Extrema live) (kept.Extrema new) = (new.left ≡ live.left - 1) × (new.groups ≡ slice_set (with_room g live.groups) g seen)

@@ -1,0 +1,29 @@
+-- Pins: how many an object has, and which steps change that.
+use Rattle.std.specs.Prelude.{◌≡◌, ◌≢◌, ℕ, Bool, true, false}
+use Rattle.far_scopes.specs.Movement.{is_local, pins_of}
+use Rattle.far_rows.specs.declared.object.Object.{Object}
+use Rattle.far_rows.specs.declared.object.Object.TheVariants as object
+use Rattle.far_rows.specs.Rows.{Rows}
+use Rattle.far_frame.specs.declared.step.Step.{Step}
+use Rattle.far_frame.specs.declared.step.Step.TheVariants as step
+
+-- the step puts a pin on an object or takes one off
+abbrev pub is_pinning : Step → Bool
+is_pinning (step.Pin column group) = true
+is_pinning (step.Unpin column group) = true
+is_pinning _ = false
+
+module _ {K : Type 0} (r : Rows K) where
+  -- how many pins an object has
+  abbrev pub pins_on : Object → ℕ
+  pins_on (object.Number o) = pins_of r.number_objects o
+  pins_on (object.Text o) = pins_of r.text_objects o
+
+  -- whether an object is local
+  abbrev pub is_here : Object → Bool
+  is_here (object.Number o) = is_local r.number_objects o
+  is_here (object.Text o) = is_local r.text_objects o
+
+  -- each object that has a pin is local
+  abbrev pub ArePinnedHere : Type 0
+  ArePinnedHere = (o : Object) → pins_on o ≢ 0 → is_here o ≡ true

@@ -1,0 +1,36 @@
+// Aggregates that are computed from scratch.
+ghost use Rattle.std.specs.Prelude.{◌≡◌, ◌+◌, ◌<◌, ◌≤◌, ◌^◌, None, IfOk, IfErr, OnOk};
+ghost use Rattle.far_rows.specs.Jobs.{AreAt};
+ghost use Rattle.far_table.specs.Recounting.{recount_refusal, IsAnswerNow, RecountRefusal};
+
+use super::Frame;
+use far_store::{FarRead, Meter};
+use far_types::{Answer, Refusal};
+use std::thread::Threads;
+
+impl<S: FarRead> Frame<S> {
+    /// What the aggregate of a number answers over the rows as they are, computed from scratch, whatever is left to be built in and
+    /// whichever objects are away. At most `workers` threads fold the row groups, in consecutive pieces: a local object is read in
+    /// place, another through its ticket. Nothing is changed.
+    ///
+    /// Refused with `NoAggregate` (12); `OutOfRange` (14) unless there are 1 to 64 workers; `FarFault` (21) exactly where the meter
+    /// rises, by one for each piece in which the store failed; else with `NoMemory` (1) alone.
+    pub fn recount<R: Threads + Sync>(
+        &self,
+        rt: &R,
+        store: &S,
+        meter: &mut Meter,
+        a: u32,
+        workers: u32,
+    ) -> Result<Answer, Refusal>
+        requires few { meter.old < 2 ^ 63 }
+        requires here { AreAt S.is_of (S.name store.now) self.now.rows }
+        ensures answer { IfOk result (IsAnswerNow self.now.table a) }
+        ensures free { OnOk result (recount_refusal self.now.table a workers ≡ None) }
+        ensures none { OnOk result (meter.new ≡ meter.old) }
+        ensures refused { IfErr result (RecountRefusal (recount_refusal self.now.table a workers) meter.old meter.new) }
+        ensures most { meter.new ≤ meter.old + workers }
+    {
+        self.table.recount(rt, store, meter, a, workers)
+    }
+}

@@ -1,0 +1,60 @@
+// Aggregates that are computed from scratch.
+ghost use Rattle.std.specs.Prelude.{◌≡◌, ◌+◌, ◌<◌, ◌≤◌, ◌^◌, None, IfOk, IfErr, OnOk};
+ghost use Rattle.far_rows.specs.Jobs.{AreAt};
+ghost use Rattle.far_table.specs.Recounting.{recount_refusal, IsAnswerNow, RecountRefusal};
+
+use super::LiveTable;
+use crate::recounting::{cut_for, fold_pieces, gather};
+use far_aggregates::laws::an_aggregate_is_served_by_the_columns_of_its_schema;
+use far_aggregates::{answer_of, group_count};
+use far_store::{FarRead, Meter};
+use far_types::{Answer, Refusal};
+use std::thread::Threads;
+
+impl<S: FarRead> LiveTable<S> {
+    /// What the aggregate of a number answers over the rows as they are, computed from scratch, whatever is left to be built in and
+    /// whichever objects are away. At most `workers` threads fold the row groups, in consecutive pieces: a local object is read in
+    /// place, another through its ticket. Nothing is changed.
+    ///
+    /// Refused with `NoAggregate` (12); `OutOfRange` (14) unless there are 1 to 64 workers; `FarFault` (21) exactly if the meter rises,
+    /// by one for each piece that the store failed; else with `NoMemory` (1) alone.
+    pub fn recount<R: Threads + Sync>(
+        &self,
+        rt: &R,
+        store: &S,
+        meter: &mut Meter,
+        a: u32,
+        workers: u32,
+    ) -> Result<Answer, Refusal>
+        requires few { meter.old < 2 ^ 63 }
+        requires here { AreAt S.is_of (S.name store.now) self.now.rows }
+        ensures answer { IfOk result (IsAnswerNow self.now.table a) }
+        ensures free { OnOk result (recount_refusal self.now.table a workers ≡ None) }
+        ensures none { OnOk result (meter.new ≡ meter.old) }
+        ensures refused { IfErr result (RecountRefusal (recount_refusal self.now.table a workers) meter.old meter.new) }
+        ensures most { meter.new ≤ meter.old + workers }
+    {
+        let Some(spec) = self.aggregates.spec(a) else {
+            return Err(Refusal::NoAggregate);
+        };
+        if workers == 0 || workers > 64 {
+            return Err(Refusal::OutOfRange);
+        }
+        an_aggregate_is_served_by_the_columns_of_its_schema();
+        let held = self.rows.held();
+        let size = self.rows.limits().group;
+        let places = self.rows.len();
+        let count = group_count(size, places) as u32;
+        let pieces = fold_pieces(
+            rt,
+            self.alloc,
+            held,
+            store,
+            spec,
+            count,
+            cut_for(count, workers),
+        )?;
+        let partials = gather(self.alloc, pieces, meter)?;
+        answer_of(self.alloc, spec, partials, size, places)
+    }
+}
