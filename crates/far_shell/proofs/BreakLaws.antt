@@ -6,6 +6,7 @@ use Rattle.std.specs.Io.BufRead.{strip_last}
 use Rattle.std.specs.Io.KnownBytes.{Consumes}
 use Rattle.std.proofs.KnownBytes.{Appends-nil}
 use Rattle.std.specs.declared.io.traits.Read.{Ghosts}
+use Rattle.far_store.specs.declared.store.FarTickets.{Ghosts as Tickets}
 use Rattle.far_shell.specs.declared.fault.ShellFault.{ShellFault}
 use Rattle.far_shell.specs.declared.fault.ShellFault.TheVariants as fault
 use Rattle.far_shell.specs.declared.input.Input.{Input}
@@ -74,11 +75,11 @@ cut-more fault.Input a b text f h = h
 cut-more fault.Output a b text f h = front-more a b text f h
 cut-more fault.Memory a b text f h = front-more a b text f h
 
-not-bad : {K : Type 0} (content : K → List ℕ) (number_of : K → ℕ) (why : ShellFault) (at : At K) {bytes text : List ℕ} → BreaksOff content number_of at why bytes text → why ≡ fault.BadStart → ⊥
-not-bad content number_of fault.BadStart at b e = b.cut
-not-bad content number_of fault.Input at b e = cc e
-not-bad content number_of fault.Output at b e = cc e
-not-bad content number_of fault.Memory at b e = cc e
+not-bad : {S K : Type 0} (tickets : Tickets S K) (why : ShellFault) (at : At K) {bytes text : List ℕ} → BreaksOff tickets at why bytes text → why ≡ fault.BadStart → ⊥
+not-bad tickets fault.BadStart at b e = b.cut
+not-bad tickets fault.Input at b e = cc e
+not-bad tickets fault.Output at b e = cc e
+not-bad tickets fault.Memory at b e = cc e
 
 pub prints-cut-none : (why : ShellFault) (answer : List ℕ → Type 0) (u v : Option (List ℕ)) (held left : List ℕ) → (why ≡ fault.BadStart → ⊥) → Prints u held [] v left → PrintsCut why answer u held v left
 prints-cut-none why answer u v held left other p = ([], p, cut-none why answer other)
@@ -213,13 +214,13 @@ nothing-printed : (a b c d : Option (List ℕ)) (h k l m text front : List ℕ) 
 nothing-printed a b c d h k l m text front q t u none =
     prints-then-nothing a b d h text k m q (prints-then-nothing b c d k [] l m t (subst (λ (z : List ℕ). Prints c l z d m) none u))
 
-module _ {R : Type 0} (read : Ghosts R) {K : Type 0} (content : K → List ℕ) (number_of : K → ℕ) where
+module _ {R : Type 0} (read : Ghosts R) {S K : Type 0} (tickets : Tickets S K) where
   -- how the lines of a script break off
   abbrev pub Ending : Input R read → Input R read → Option (List ℕ) → Option (List ℕ) → List ℕ → List ℕ → At K → ShellFault → Type 0
-  Ending first new a b h k old why = (all : List ℕ) × (rest : List ℕ) × (said : List ℕ) × Gives read why first new all rest × Prints a h said b k × BreaksOff content number_of old why all said
+  Ending first new a b h k old why = (all : List ℕ) × (rest : List ℕ) × (said : List ℕ) × Gives read why first new all rest × Prints a h said b k × BreaksOff tickets old why all said
 
   between : (first after new : Input R read) (a b : Option (List ℕ)) (h k : List ℕ) (old at : At K) (bytes text : List ℕ) (why : ShellFault)
-      → IfInput why (Counts read first bytes new) → BreaksIn why at [] [] → Reads read first bytes after → Prints a h text b k → Answers content number_of old bytes text at → Ending first new a b h k old why
+      → IfInput why (Counts read first bytes new) → BreaksIn why at [] [] → Reads read first bytes after → Prints a h text b k → Answers tickets old bytes text at → Ending first new a b h k old why
   between first after new a b h k old at bytes text why counts cut p q r = (
     bytes,
     coming read after,
@@ -231,7 +232,7 @@ module _ {R : Type 0} (read : Ghosts R) {K : Type 0} (content : K → List ℕ) 
 
   -- no whole turn came behind
   stopped : (first after new : Input R read) (a b : Option (List ℕ)) (h k : List ℕ) (old at : At K) (bytes text : List ℕ)
-      → Reads read first bytes after → Prints a h text b k → Answers content number_of old bytes text at → Stops read (HasNoTurn (Fails at.world.state.table.schema)) after new → Ending first new a b h k old fault.Input
+      → Reads read first bytes after → Prints a h text b k → Answers tickets old bytes text at → Stops read (HasNoTurn (Fails at.world.state.table.schema)) after new → Ending first new a b h k old fault.Input
   stopped first after new a b h k old at bytes text p q r s = (
     bytes ++ s.0,
     s.1,
@@ -243,7 +244,7 @@ module _ {R : Type 0} (read : Ghosts R) {K : Type 0} (content : K → List ℕ) 
 
   -- a script breaks off between two lines
   pub breaks-between : (first after new : Input R read) (a b : Option (List ℕ)) (h k : List ℕ) (old at : At K) (bytes text : List ℕ) (why : ShellFault) → (why ≡ fault.BadStart → ⊥)
-      → Reads read first bytes after → Prints a h text b k → Answers content number_of old bytes text at → IfInput why (Stops read IsOneLine after new) → Ending first new a b h k old why
+      → Reads read first bytes after → Prints a h text b k → Answers tickets old bytes text at → IfInput why (Stops read IsOneLine after new) → Ending first new a b h k old why
   breaks-between first after new a b h k old at bytes text fault.BadStart other p q r s = absurd (other refl)
   breaks-between first after new a b h k old at bytes text fault.Input other p q r s = stopped first after new a b h k old at bytes text p q r (s.0, s.1, s.2, s.3, inl s.4)
   breaks-between first after new a b h k old at bytes text fault.Output other p q r s = between first after new a b h k old at bytes text fault.Output tt (refl, inl refl) p q r
@@ -252,7 +253,7 @@ module _ {R : Type 0} (read : Ghosts R) {K : Type 0} (content : K → List ℕ) 
   -- within a line
   within-line : (first before mid new : Input R read) (a b c d : Option (List ℕ)) (h k l m : List ℕ) (old at : At K) (raw bytes text front : List ℕ) (why : ShellFault)
       → IfInput why (Counts read first (bytes ++ raw) new) → BreaksIn why at raw front
-      → Reads read first bytes before → Prints a h text b k → Answers content number_of old bytes text at → Reads read before (raw ++ 10 ∷ []) mid → Prints b k [] c l → Prints c l front d m → Ending first new a d h m old why
+      → Reads read first bytes before → Prints a h text b k → Answers tickets old bytes text at → Reads read before (raw ++ 10 ∷ []) mid → Prints b k [] c l → Prints c l front d m → Ending first new a d h m old why
   within-line first before mid new a b c d h k l m old at raw bytes text front why counts cut p q r s t u = (
     bytes ++ raw,
     10 ∷ coming read mid,
@@ -269,7 +270,7 @@ module _ {R : Type 0} (read : Ghosts R) {K : Type 0} (content : K → List ℕ) 
   -- within the last line
   within-last : (first before mid new : Input R read) (a b c d : Option (List ℕ)) (h k l m : List ℕ) (old at : At K) (line bytes text front : List ℕ) (why : ShellFault)
       → IfInput why (Counts read first (bytes ++ line) new) → BreaksIn why at line front
-      → Reads read first bytes before → Prints a h text b k → Answers content number_of old bytes text at → Reads read before line mid → Prints b k [] c l → Prints c l front d m → Ending first new a d h m old why
+      → Reads read first bytes before → Prints a h text b k → Answers tickets old bytes text at → Reads read before line mid → Prints b k [] c l → Prints c l front d m → Ending first new a d h m old why
   within-last first before mid new a b c d h k l m old at line bytes text front why counts cut p q r s t u = (
     bytes ++ line,
     coming read mid,
@@ -281,7 +282,7 @@ module _ {R : Type 0} (read : Ghosts R) {K : Type 0} (content : K → List ℕ) 
 
   -- within the answer to a line
   pub breaks-line : (first before mid new : Input R read) (a b c d : Option (List ℕ)) (h k l m : List ℕ) (old at : At K) (line raw bytes text : List ℕ) (why : ShellFault)
-      → Reads read first bytes before → Prints a h text b k → Answers content number_of old bytes text at
+      → Reads read first bytes before → Prints a h text b k → Answers tickets old bytes text at
       → list_any (λ x. x == 10) raw ≡ false → line ≡ strip_last 13 raw → Reads read before (raw ++ 10 ∷ []) mid → Prints b k [] c l
       → PrintsCut why (λ said. Lists at line said) c l d m → IfInput why (Stops read (λ behind. Fails at.world.state.table.schema line behind) mid new)
       → Ending first new a d h m old why
@@ -297,7 +298,7 @@ module _ {R : Type 0} (read : Ghosts R) {K : Type 0} (content : K → List ℕ) 
 
   -- within the answer to the last line
   pub breaks-last : (first before mid new : Input R read) (a b c d : Option (List ℕ)) (h k l m : List ℕ) (old at : At K) (line bytes text : List ℕ) (why : ShellFault)
-      → Reads read first bytes before → Prints a h text b k → Answers content number_of old bytes text at
+      → Reads read first bytes before → Prints a h text b k → Answers tickets old bytes text at
       → list_any (λ x. x == 10) line ≡ false → Reads read before line mid → IsSpent read mid → Prints b k [] c l
       → PrintsCut why (λ said. Lists at line said) c l d m → IfInput why (Stops read (λ behind. Fails at.world.state.table.schema line behind) mid new)
       → Ending first new a d h m old why
@@ -315,28 +316,28 @@ pub starts-none : (known : Option (List ℕ)) → IfSome known (λ script. scrip
 starts-none None = tt
 starts-none (Some xs) = refl
 
-broken-first : {K : Type 0} (content : K → List ℕ) (number_of : K → ℕ) (why : ShellFault) (line text bytes rest : List ℕ) → Rejection why line text → (IsRejected line text → Rejects bytes (rest ≡ []) text) → IsBroken content number_of why bytes rest text
-broken-first content number_of fault.BadStart line text bytes rest h f = f h
-broken-first content number_of fault.Input line text bytes rest h f = absurd h
-broken-first content number_of fault.Output line text bytes rest h f = absurd h
-broken-first content number_of fault.Memory line text bytes rest h f = inl h
+broken-first : {S K : Type 0} (tickets : Tickets S K) (why : ShellFault) (line text bytes rest : List ℕ) → Rejection why line text → (IsRejected line text → Rejects bytes (rest ≡ []) text) → IsBroken tickets why bytes rest text
+broken-first tickets fault.BadStart line text bytes rest h f = f h
+broken-first tickets fault.Input line text bytes rest h f = absurd h
+broken-first tickets fault.Output line text bytes rest h f = absurd h
+broken-first tickets fault.Memory line text bytes rest h f = inl h
 
-broken-later : {K : Type 0} (content : K → List ℕ) (number_of : K → ℕ) (why : ShellFault) (bytes rest text : List ℕ) → (why ≡ fault.BadStart → ⊥) → BreaksLater content number_of why bytes rest text → IsBroken content number_of why bytes rest text
-broken-later content number_of fault.BadStart bytes rest text other h = absurd (other refl)
-broken-later content number_of fault.Input bytes rest text other h = inr h
-broken-later content number_of fault.Output bytes rest text other h = inr h
-broken-later content number_of fault.Memory bytes rest text other h = inr h
+broken-later : {S K : Type 0} (tickets : Tickets S K) (why : ShellFault) (bytes rest text : List ℕ) → (why ≡ fault.BadStart → ⊥) → BreaksLater tickets why bytes rest text → IsBroken tickets why bytes rest text
+broken-later tickets fault.BadStart bytes rest text other h = absurd (other refl)
+broken-later tickets fault.Input bytes rest text other h = inr h
+broken-later tickets fault.Output bytes rest text other h = inr h
+broken-later tickets fault.Memory bytes rest text other h = inr h
 
-ends-by : {K : Type 0} (content : K → List ℕ) (number_of : K → ℕ) (why : ShellFault) (bytes rest text lost : List ℕ) → IsBroken content number_of why bytes rest text → lost ≡ [] → EndsBy content number_of why bytes rest text lost
-ends-by content number_of fault.BadStart bytes rest text lost h none = (h, none)
-ends-by content number_of fault.Input bytes rest text lost h none = (h, none)
-ends-by content number_of fault.Output bytes rest text lost h none = inr (fault.Output, h)
-ends-by content number_of fault.Memory bytes rest text lost h none = (h, none)
+ends-by : {S K : Type 0} (tickets : Tickets S K) (why : ShellFault) (bytes rest text lost : List ℕ) → IsBroken tickets why bytes rest text → lost ≡ [] → EndsBy tickets why bytes rest text lost
+ends-by tickets fault.BadStart bytes rest text lost h none = (h, none)
+ends-by tickets fault.Input bytes rest text lost h none = (h, none)
+ends-by tickets fault.Output bytes rest text lost h none = inr (fault.Output, h)
+ends-by tickets fault.Memory bytes rest text lost h none = (h, none)
 
-module _ {R : Type 0} (read : Ghosts R) {K : Type 0} (content : K → List ℕ) (number_of : K → ℕ) where
+module _ {R : Type 0} (read : Ghosts R) {S K : Type 0} (tickets : Tickets S K) where
   -- how the first command of a script breaks off
   abbrev pub Starting : Input R read → Input R read → Option (List ℕ) → Option (List ℕ) → List ℕ → List ℕ → ShellFault → Type 0
-  Starting first new a b h k why = (bytes : List ℕ) × (rest : List ℕ) × (text : List ℕ) × Gives read why first new bytes rest × Prints a h text b k × IsBroken content number_of why bytes rest text
+  Starting first new a b h k why = (bytes : List ℕ) × (rest : List ℕ) × (text : List ℕ) × Gives read why first new bytes rest × Prints a h text b k × IsBroken tickets why bytes rest text
 
   -- no command was read yet
   pub breaks-first : (first before new : Input R read) (a b : Option (List ℕ)) (h k blank : List ℕ) (blanks : List (List ℕ)) (why : ShellFault) → (why ≡ fault.BadStart → ⊥)
@@ -365,7 +366,7 @@ module _ {R : Type 0} (read : Ghosts R) {K : Type 0} (content : K → List ℕ) 
     text,
     (starts-then read old before bytes (raw ++ 10 ∷ []) (coming read mid) p (starts read before mid (raw ++ 10 ∷ []) s), rejected-input why given text (Counts read old (bytes ++ (raw ++ 10 ∷ [])) mid) h),
     prints-nothing-then u v w held k text left q (prints-nothing-then v w w k l text left t (prints w l text left e)),
-    broken-first content number_of why given text (bytes ++ (raw ++ 10 ∷ [])) (coming read mid) h (λ rejected. record {
+    broken-first tickets why given text (bytes ++ (raw ++ 10 ∷ [])) (coming read mid) h (λ rejected. record {
       blanks = blanks;
       blank = bytes;
       empty = b;
@@ -389,7 +390,7 @@ module _ {R : Type 0} (read : Ghosts R) {K : Type 0} (content : K → List ℕ) 
     text,
     (starts-then read old before bytes line (coming read mid) p (starts read before mid line s), rejected-input why given text (Counts read old (bytes ++ line) mid) h),
     prints-nothing-then u v w held k text left q (prints-nothing-then v w w k l text left t (prints w l text left e)),
-    broken-first content number_of why given text (bytes ++ line) (coming read mid) h (λ rejected. record {
+    broken-first tickets why given text (bytes ++ line) (coming read mid) h (λ rejected. record {
       blanks = blanks;
       blank = bytes;
       empty = b;
@@ -420,7 +421,7 @@ module _ {R : Type 0} (read : Ghosts R) {K : Type 0} (content : K → List ℕ) 
   -- behind the first command
   pub breaks-later : (old mid new : Input R read) (u v w : Option (List ℕ)) (held k left first bytes rest text : List ℕ) (at : At K) (why : ShellFault)
       → held ≡ [] → Reads read old first mid → Prints u held (codes "ok\n") v k → Opens first (IsSpent read mid) at
-      → Gives read why mid new bytes rest → Prints v k text w left → BreaksOff content number_of at why bytes text
+      → Gives read why mid new bytes rest → Prints v k text w left → BreaksOff tickets at why bytes text
       → Starting old new u w [] left why
   breaks-later old mid new u v w held k left first bytes rest text at why empty p q o g t b = (
     first ++ bytes,
@@ -428,34 +429,34 @@ module _ {R : Type 0} (read : Ghosts R) {K : Type 0} (content : K → List ℕ) 
     codes "ok\n" ++ text,
     gives-then read old mid new first bytes rest why p g,
     subst (λ (z : List ℕ). Prints u z (codes "ok\n" ++ text) w left) empty (prints-then u v w held (codes "ok\n") k text left q t),
-    broken-later content number_of why (first ++ bytes) rest (codes "ok\n" ++ text) (not-bad content number_of why at b)
+    broken-later tickets why (first ++ bytes) rest (codes "ok\n" ++ text) (not-bad tickets why at b)
         (record { first = first; at = at; more = bytes; tail = text; opens = opens-then first (IsSpent read mid) (bytes ++ rest ≡ []) at g.0.1 o; breaks = b; whole = refl; said = refl }),
   )
 
 -- a script is broken off, and what was printed is written
-pub breaks-written : {K : Type 0} (content : K → List ℕ) (number_of : K → ℕ) (splits : List ℕ → List ℕ → Type 0) (u v w : Option (List ℕ)) (why : ShellFault) (bytes rest text left : List ℕ) → splits bytes rest → Prints u [] text v left → IsBroken content number_of why bytes rest text
-    → Prints v left [] w [] → Breaks content number_of splits u w why
-breaks-written content number_of splits u v w why bytes rest text left begins p b q =
+pub breaks-written : {S K : Type 0} (tickets : Tickets S K) (splits : List ℕ → List ℕ → Type 0) (u v w : Option (List ℕ)) (why : ShellFault) (bytes rest text left : List ℕ) → splits bytes rest → Prints u [] text v left → IsBroken tickets why bytes rest text
+    → Prints v left [] w [] → Breaks tickets splits u w why
+breaks-written tickets splits u v w why bytes rest text left begins p b q =
     let all = prints-then-nothing u v w [] text left [] p q in
-    record { bytes = bytes; rest = rest; begins = begins; text = text; sent = all.0; lost = []; written = all.1; said = all.2; ends = ends-by content number_of why bytes rest text [] b refl }
+    record { bytes = bytes; rest = rest; begins = begins; text = text; sent = all.0; lost = []; written = all.1; said = all.2; ends = ends-by tickets why bytes rest text [] b refl }
 
 -- a script is broken off, and then a write fails
-pub breaks-unwritten : {K : Type 0} (content : K → List ℕ) (number_of : K → ℕ) (splits : List ℕ → List ℕ → Type 0) (u v w : Option (List ℕ)) (why : ShellFault) (bytes rest text left lost : List ℕ) → splits bytes rest → Prints u [] text v left → IsBroken content number_of why bytes rest text
-    → Prints v left [] w lost → Breaks content number_of splits u w fault.Output
-breaks-unwritten content number_of splits u v w why bytes rest text left lost begins p b q =
+pub breaks-unwritten : {S K : Type 0} (tickets : Tickets S K) (splits : List ℕ → List ℕ → Type 0) (u v w : Option (List ℕ)) (why : ShellFault) (bytes rest text left lost : List ℕ) → splits bytes rest → Prints u [] text v left → IsBroken tickets why bytes rest text
+    → Prints v left [] w lost → Breaks tickets splits u w fault.Output
+breaks-unwritten tickets splits u v w why bytes rest text left lost begins p b q =
     let all = prints-then-nothing u v w [] text left lost p q in
     record { bytes = bytes; rest = rest; begins = begins; text = text; sent = all.0; lost = lost; written = all.1; said = all.2; ends = inr (why, b) }
 
 -- a whole script is answered, and then a write fails
-pub whole-unwritten : {K : Type 0} (content : K → List ℕ) (number_of : K → ℕ) (splits : List ℕ → List ℕ → Type 0) (u v w : Option (List ℕ)) (script rest text left lost : List ℕ) → splits script rest → Prints u [] text v left → IsScript content number_of script text → Prints v left [] w lost
-    → Breaks content number_of splits u w fault.Output
-whole-unwritten content number_of splits u v w script rest text left lost begins p s q =
+pub whole-unwritten : {S K : Type 0} (tickets : Tickets S K) (splits : List ℕ → List ℕ → Type 0) (u v w : Option (List ℕ)) (script rest text left lost : List ℕ) → splits script rest → Prints u [] text v left → IsScript tickets script text → Prints v left [] w lost
+    → Breaks tickets splits u w fault.Output
+whole-unwritten tickets splits u v w script rest text left lost begins p s q =
     let all = prints-then-nothing u v w [] text left lost p q in
     record { bytes = script; rest = rest; begins = begins; text = text; sent = all.0; lost = lost; written = all.1; said = all.2; ends = inl s }
 
 -- the same of another split
-pub breaks-as : {K : Type 0} (content : K → List ℕ) (number_of : K → ℕ) (splits others : List ℕ → List ℕ → Type 0) (u v : Option (List ℕ)) (why : ShellFault) → ((bytes rest : List ℕ) → splits bytes rest → others bytes rest) → Breaks content number_of splits u v why → Breaks content number_of others u v why
-breaks-as content number_of splits others u v why f b =
+pub breaks-as : {S K : Type 0} (tickets : Tickets S K) (splits others : List ℕ → List ℕ → Type 0) (u v : Option (List ℕ)) (why : ShellFault) → ((bytes rest : List ℕ) → splits bytes rest → others bytes rest) → Breaks tickets splits u v why → Breaks tickets others u v why
+breaks-as tickets splits others u v why f b =
     record { bytes = b.bytes; rest = b.rest; begins = f b.bytes b.rest b.begins; text = b.text; sent = b.sent; lost = b.lost; written = b.written; said = b.said; ends = b.ends }
 
 module _ {R : Type 0} (read : Ghosts R) where
@@ -467,6 +468,6 @@ module _ {R : Type 0} (read : Ghosts R) where
       (subst (λ (z : List ℕ). IfSome (read.remaining input.source.reader) (λ script. z ++ script ≡ bytes ++ rest)) none g.0.0)
 
 -- nothing was read
-pub breaks-none : {K : Type 0} (content : K → List ℕ) (number_of : K → ℕ) (known u : Option (List ℕ)) → Breaks content number_of (λ bytes rest. IfSome known (λ script. script ≡ bytes ++ rest)) u u fault.Memory
-breaks-none content number_of known u =
+pub breaks-none : {S K : Type 0} (tickets : Tickets S K) (known u : Option (List ℕ)) → Breaks tickets (λ bytes rest. IfSome known (λ script. script ≡ bytes ++ rest)) u u fault.Memory
+breaks-none tickets known u =
     record { bytes = []; rest = unwrap_or known []; begins = starts-none known; text = []; sent = []; lost = []; written = Appends-nil u; said = refl; ends = (inl refl, refl) }

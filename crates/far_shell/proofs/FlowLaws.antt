@@ -8,6 +8,7 @@ use Rattle.std.proofs.lemmas.Grind.{flat_map-append}
 use Rattle.std.specs.Io.KnownBytes.{Appends, Consumes, Keeps}
 use Rattle.std.proofs.KnownBytes.{Appends-nil, Appends-trans, Appends-kept, Consumes-nil, Consumes-trans}
 use Rattle.std.specs.declared.io.traits.Read.{Ghosts}
+use Rattle.far_store.specs.declared.store.FarTickets.{Ghosts as Tickets}
 use Rattle.far_shell.specs.declared.input.Input.{Input}
 use Rattle.far_shell.specs.Flow.{Prints, Reads, unread, IsSpent, IsWhole}
 use Rattle.far_shell.specs.Progress.{At}
@@ -169,25 +170,25 @@ module _ {R : Type 0} (read : Ghosts R) where
 all-more : (f : Turn → List ℕ) (turns : List Turn) (turn : Turn) (whole : List ℕ) → whole ≡ flat_map f turns → whole ++ f turn ≡ flat_map f (turns ++ turn ∷ [])
 all-more f turns turn whole e = ap (λ (t : List ℕ). t ++ f turn) e ∙ ap (λ (t : List ℕ). flat_map f turns ++ t) (sym (append-nil (f turn))) ∙ sym (flat_map-append f turns (turn ∷ []))
 
-module _ {K : Type 0} (content : K → List ℕ) (number_of : K → ℕ) where
+module _ {S K : Type 0} (tickets : Tickets S K) where
   -- turns, one more
-  turns-more : (old mid new : At K) (turns : List Turn) (turn : Turn) → AreTurns content number_of old turns mid → IsTurn content number_of mid turn new → AreTurns content number_of old (turns ++ turn ∷ []) new
-  turns-more old mid new [] turn h k = (new, subst (λ (at : At K). IsTurn content number_of at turn new) h k, refl)
+  turns-more : (old mid new : At K) (turns : List Turn) (turn : Turn) → AreTurns tickets old turns mid → IsTurn tickets mid turn new → AreTurns tickets old (turns ++ turn ∷ []) new
+  turns-more old mid new [] turn h k = (new, subst (λ (at : At K). IsTurn tickets at turn new) h k, refl)
   turns-more old mid new (first ∷ turns) turn h k = (h.0, h.1, turns-more h.0 mid new turns turn h.2 k)
 
-  pub answers-none : (at : At K) → Answers content number_of at [] [] at
+  pub answers-none : (at : At K) → Answers tickets at [] [] at
   answers-none at = ([], refl, refl, refl)
 
-  pub answers-more : (old mid new : At K) (bytes text : List ℕ) (turn : Turn) → Answers content number_of old bytes text mid → IsTurn content number_of mid turn new → Answers content number_of old (bytes ++ bytes_of turn) (text ++ text_of turn) new
+  pub answers-more : (old mid new : At K) (bytes text : List ℕ) (turn : Turn) → Answers tickets old bytes text mid → IsTurn tickets mid turn new → Answers tickets old (bytes ++ bytes_of turn) (text ++ text_of turn) new
   answers-more old mid new bytes text turn h k = (h.0 ++ turn ∷ [], all-more bytes_of h.0 turn bytes h.1, all-more text_of h.0 turn text h.2, turns-more old mid new h.0 turn h.3 k)
 
   -- a line that has a byte
   pub answers-command : (old new : At K) (line rows text : List ℕ) → (length line ≡ 0 → ⊥) → IsUtf8 line → new.number ≡ old.number + 1
-      → ServesLine content number_of new.number old.world (command_of old.world.state.table.schema line) rows text new.world → AnswersLine content number_of old line rows text new
+      → ServesLine tickets new.number old.world (command_of old.world.state.table.schema line) rows text new.world → AnswersLine tickets old line rows text new
   answers-command old new [] rows text some utf8 number serves = absurd (some refl)
   answers-command old new (c ∷ cs) rows text some utf8 number serves = (utf8, number, serves)
 
-  pub answers-empty : (at : At K) (line : List ℕ) → line ≡ [] → AnswersLine content number_of at line [] [] at
+  pub answers-empty : (at : At K) (line : List ℕ) → line ≡ [] → AnswersLine tickets at line [] [] at
   answers-empty at line e = rw e (refl, refl, refl)
 
 pub range-empty : (xs : List ℕ) (from to : ℕ) → to ≤ from → slice_range xs from to ≡ []
@@ -205,36 +206,36 @@ one-more rows = omega arith
 pub turn-more : (n : ℕ) (bytes line rows : List ℕ) → n ≤ length bytes → n + 1 ≤ length (bytes ++ (line ++ 10 ∷ rows))
 turn-more n bytes line rows h = omega (arith, h, length-append bytes (line ++ 10 ∷ rows), length-append line (10 ∷ rows), one-more rows)
 
-module _ {R : Type 0} (read : Ghosts R) {K : Type 0} (content : K → List ℕ) (number_of : K → ℕ) where
+module _ {R : Type 0} (read : Ghosts R) {S K : Type 0} (tickets : Tickets S K) where
   -- a line, and what belongs to it, is one turn more
   pub goes-on : (first before mid after : Input R read) (a b c d : Option (List ℕ)) (h k l m : List ℕ) (old at new : At K) (line raw rows more bytes text : List ℕ) (end : List ℕ) (e : Option (List ℕ))
-      → Reads read first bytes before → Prints a h text b k → Answers content number_of old bytes text at
+      → Reads read first bytes before → Prints a h text b k → Answers tickets old bytes text at
       → list_any (λ x. x == 10) raw ≡ false → line ≡ strip_last 13 raw → Reads read before (raw ++ 10 ∷ []) mid → Prints b k [] c l
-      → Reads read mid rows after → Prints c l more d m → AnswersLine content number_of at line rows more new → Prints d m [] e end
-      → (all : List ℕ) × (said : List ℕ) × Reads read first all after × Prints a h said e end × Answers content number_of old all said new × (length bytes + 1 ≤ length all)
+      → Reads read mid rows after → Prints c l more d m → AnswersLine tickets at line rows more new → Prints d m [] e end
+      → (all : List ℕ) × (said : List ℕ) × Reads read first all after × Prints a h said e end × Answers tickets old all said new × (length bytes + 1 ≤ length all)
   goes-on first before mid after a b c d h k l m old at new line raw rows more bytes text end e p q r one stripped s t u v w x =
       let turn : Turn = record { line = raw; rows = rows; text = more } in (
         bytes ++ bytes_of turn,
         text ++ more,
         subst (λ (z : List ℕ). Reads read first (bytes ++ z) after) (append_assoc raw (10 ∷ []) rows) (reads-then read first before after bytes ((raw ++ 10 ∷ []) ++ rows) p (reads-then read before mid after (raw ++ 10 ∷ []) rows s u)),
         prints-then-nothing a d e h (text ++ more) m end (prints-then a b d h text k more m q (prints-nothing-then b c d k l more m t v)) x,
-        answers-more content number_of old at new bytes text turn r (one, subst (λ (z : List ℕ). AnswersLine content number_of at z rows more new) stripped w),
+        answers-more tickets old at new bytes text turn r (one, subst (λ (z : List ℕ). AnswersLine tickets at z rows more new) stripped w),
         turn-more (length bytes) bytes raw rows (omega arith),
       )
 
   -- the last line
   pub comes-to-end : (first before mid after : Input R read) (a b c d : Option (List ℕ)) (h k l m : List ℕ) (old at new : At K) (line rows more bytes text : List ℕ)
-      → Reads read first bytes before → Prints a h text b k → Answers content number_of old bytes text at
+      → Reads read first bytes before → Prints a h text b k → Answers tickets old bytes text at
       → list_any (λ x. x == 10) line ≡ false → Reads read before line mid → Prints b k [] c l → unread read mid ≡ [] → mid.source.ended ≡ true
-      → Reads read mid rows after → Prints c l more d m → AnswersLine content number_of at line rows more new
-      → (all : List ℕ) × (said : List ℕ) × Reads read first all after × Prints a h said d m × Ends content number_of old all said × IsSpent read after
+      → Reads read mid rows after → Prints c l more d m → AnswersLine tickets at line rows more new
+      → (all : List ℕ) × (said : List ℕ) × Reads read first all after × Prints a h said d m × Ends tickets old all said × IsSpent read after
   comes-to-end first before mid after a b c d h k l m old at new line rows more bytes text p q r one s t none ended u v w =
       let no-rows : rows ≡ [] = no-first rows (unread read after) (sym u.taken ∙ ap (λ (z : List ℕ). unread read mid ++ z) (u.none ended) ∙ append-nil (unread read mid) ∙ none) in (
         bytes ++ line,
         text ++ more,
         subst (λ (z : List ℕ). Reads read first (bytes ++ z) after) (ap (λ (z : List ℕ). line ++ z) no-rows ∙ append-nil line) (reads-then read first before after bytes (line ++ rows) p (reads-then read before mid after line rows s u)),
         prints-then a b d h text k more m q (prints-nothing-then b c d k l more m t v),
-        record { bytes = bytes; printed = text; mid = at; answered = r; last = line; line = one; tail = more; new = new; answers = subst (λ (z : List ℕ). AnswersLine content number_of at line z more new) no-rows w; whole = refl; said = refl },
+        record { bytes = bytes; printed = text; mid = at; answered = r; last = line; line = one; tail = more; new = new; answers = subst (λ (z : List ℕ). AnswersLine tickets at line z more new) no-rows w; whole = refl; said = refl },
         (no-rest rows (unread read after) (sym u.taken ∙ ap (λ (z : List ℕ). unread read mid ++ z) (u.none ended) ∙ append-nil (unread read mid) ∙ none), u.ended ended),
       )
 
@@ -276,9 +277,9 @@ opened-number bytes blank line P at (inr h) = h.1.3
 pub first-number : {K : Type 0} (bytes : List ℕ) (P : Type 0) (at : At K) → Opens bytes P at → at.number ≡ 1
 first-number bytes P at o = opened-number bytes o.blank o.line P at o.opens
 
-pub next-number : {K : Type 0} (content : K → List ℕ) (number_of : K → ℕ) (old new : At K) (line rows text : List ℕ) → AnswersLine content number_of old line rows text new → new.number ≤ old.number + 1
-next-number content number_of old new [] rows text h = let same = ap (λ at. at.number) h.2 in omega (arith, same)
-next-number content number_of old new (c ∷ cs) rows text h = let next = h.1 in omega (arith, next)
+pub next-number : {S K : Type 0} (tickets : Tickets S K) (old new : At K) (line rows text : List ℕ) → AnswersLine tickets old line rows text new → new.number ≤ old.number + 1
+next-number tickets old new [] rows text h = let same = ap (λ at. at.number) h.2 in omega (arith, same)
+next-number tickets old new (c ∷ cs) rows text h = let next = h.1 in omega (arith, next)
 
 module _ {R : Type 0} (read : Ghosts R) where
   -- nothing is read where nothing comes any more
@@ -297,12 +298,12 @@ module _ {R : Type 0} (read : Ghosts R) where
       few (length bytes) (length (unread read new)) (length (unread read old)) (length p.came) old.source.bytes new.source.bytes old.start (length old.held)
       (sym (length-append (unread read old) p.came) ∙ ap (λ (t : List ℕ). length t) p.taken ∙ length-append bytes (unread read new)) p.counted (dropped old.held old.start (front-within old.start old.plain (length old.held) old.known)) old.most
 
-module _ {R : Type 0} (read : Ghosts R) {K : Type 0} (content : K → List ℕ) (number_of : K → ℕ) where
+module _ {R : Type 0} (read : Ghosts R) {S K : Type 0} (tickets : Tickets S K) where
   -- a script is its first command and what follows it
   pub script-whole : (old mid new : Input R read) (first rest text : List ℕ) (u v w : Option (List ℕ)) (held k left : List ℕ) (at : At K) → held ≡ []
       → Reads read old first mid → Prints u held (codes "ok\n") v k → Opens first (IsSpent read mid) at
-      → Reads read mid rest new → Prints v k text w left → Ends content number_of at rest text → IsSpent read new
-      → (script : List ℕ) × (said : List ℕ) × Reads read old script new × Prints u [] said w left × IsScript content number_of script said × IsSpent read new
+      → Reads read mid rest new → Prints v k text w left → Ends tickets at rest text → IsSpent read new
+      → (script : List ℕ) × (said : List ℕ) × Reads read old script new × Prints u [] said w left × IsScript tickets script said × IsSpent read new
   script-whole old mid new first rest text u v w held k left at empty r1 p1 o r2 p2 e spent = (
     first ++ rest,
     codes "ok\n" ++ text,

@@ -12,3 +12,4 @@ pub mod RowLaws
 pub mod PieceLaws
 pub mod LoadLaws
 pub mod BreakLaws
+pub mod RenewLaws

@@ -10,6 +10,7 @@ use Rattle.csv.specs.declared.parser.Action.TheVariants as act
 use Rattle.csv.specs.declared.reader.Reader.{Reader}
 use Rattle.csv.specs.declared.reader.Trim.TheVariants as trim
 use Rattle.csv.proofs.ReadFacts.{rows-end, rows-more}
+use Rattle.far_store.specs.declared.store.FarTickets.{Ghosts as Tickets}
 use Rattle.far_frame.specs.declared.step.Reply.{Reply}
 use Rattle.far_frame.specs.declared.step.Reply.TheVariants as reply
 use Rattle.far_types.specs.declared.refusal.Refusal.{Refusal}
@@ -156,19 +157,19 @@ not-refused (reply.Texts copies) other ends goes h = h
 not-refused (reply.Job n) other ends goes h = h
 not-refused (reply.Next groups) other ends goes h = h
 
-module _ {K : Type 0} (content : K → List ℕ) (number_of : K → ℕ) where
+module _ {S K : Type 0} (tickets : Tickets S K) where
   -- what a load prints, from a record on
   abbrev pub GoesTo : World K → List (List (List ℕ)) → ℕ → World K → List (List (List ℕ)) → Type 0
-  GoesTo old all count at rows = (said : List ℕ) (new : World K) → Loads content number_of count at rows said new → Loads content number_of 0 old all said new
+  GoesTo old all count at rows = (said : List ℕ) (new : World K) → Loads tickets count at rows said new → Loads tickets 0 old all said new
 
   pub loads-none : (old at : World K) (count : ℕ) (said : List ℕ) (all rows : List (List (List ℕ))) → GoesTo old all count at rows → rows ≡ []
-      → said ≡ numbered_text (codes "loaded") count → Loads content number_of 0 old all said at
+      → said ≡ numbered_text (codes "loaded") count → Loads tickets 0 old all said at
   loads-none old at count said all rows go none is = go said at (rw none (refl, is))
 
   pub loads-refused : (old at new : World K) (count : ℕ) (said : List ℕ) (all rows more : List (List (List ℕ))) (fields : List (List ℕ)) (refusal : Refusal) → GoesTo old all count at rows → rows ≡ fields ∷ more
-      → IsStep content number_of at (insert_of_record at.state.table.schema fields) (reply.Refused refusal) new → said ≡ numbered_text (codes "loaded") count ++ refusal_text refusal → Loads content number_of 0 old all said new
+      → IsStep tickets.content tickets.number_of at (insert_of_record at.state.table.schema fields) (reply.Refused refusal) new → said ≡ numbered_text (codes "loaded") count ++ refusal_text refusal → Loads tickets 0 old all said new
   loads-refused old at new count said all rows more fields refusal go some taken is = go said new (rw some (reply.Refused refusal, new, taken, (refl, is)))
 
   pub loads-more : (old at mid : World K) (count : ℕ) (all rows more : List (List (List ℕ))) (fields : List (List ℕ)) (given : Reply) → GoesTo old all count at rows → rows ≡ fields ∷ more
-      → IsStep content number_of at (insert_of_record at.state.table.schema fields) given mid → ((refusal : Refusal) → given ≡ reply.Refused refusal → ⊥) → GoesTo old all (count + 1) mid more
+      → IsStep tickets.content tickets.number_of at (insert_of_record at.state.table.schema fields) given mid → ((refusal : Refusal) → given ≡ reply.Refused refusal → ⊥) → GoesTo old all (count + 1) mid more
   loads-more old at mid count all rows more fields given go some taken other said new rest = go said new (rw some (given, mid, taken, not-refused given other _ _ rest))

@@ -4,6 +4,7 @@ use Rattle.std.specs.Io.KnownBytes.{Appends}
 use Rattle.far_types.specs.declared.cell.Kind.{Kind}
 use Rattle.far_types.specs.declared.refusal.Refusal.TheVariants as refusal
 use Rattle.far_types.specs.Bounds.{IsSchema, AreLimits}
+use Rattle.far_store.specs.declared.store.FarTickets.{Ghosts as Tickets}
 use Rattle.far_shell.specs.declared.fault.ShellFault.{ShellFault}
 use Rattle.far_shell.specs.declared.fault.ShellFault.TheVariants as fault
 use Rattle.far_shell.specs.declared.command.Command.{Command}
@@ -99,13 +100,13 @@ module _ {K : Type 0} where
   BreaksIn fault.Output at next front = IsOneLine next × IsFront (ListsNext at next) front
   BreaksIn fault.Memory at next front = IsOneLine next × IsFront (ListsNext at next) front
 
-module _ {K : Type 0} (content : K → List ℕ) (number_of : K → ℕ) where
+module _ {S K : Type 0} (tickets : Tickets S K) where
   -- behind the first command a script breaks off: whole lines are answered, and then no more
   pub record BreaksOff (old : At K) (why : ShellFault) (bytes text : List ℕ) : Type 0 where
     pub before : List ℕ
     pub printed : List ℕ
     pub mid : At K
-    pub answered : Answers content number_of old before printed mid
+    pub answered : Answers tickets old before printed mid
     pub next : List ℕ
     pub front : List ℕ
     pub cut : BreaksIn why mid next front
@@ -135,7 +136,7 @@ module _ {K : Type 0} (content : K → List ℕ) (number_of : K → ℕ) where
   EndsBy fault.BadStart bytes rest text lost = IsBroken fault.BadStart bytes rest text × (lost ≡ [])
   EndsBy fault.Input bytes rest text lost = IsBroken fault.Input bytes rest text × (lost ≡ [])
   EndsBy fault.Memory bytes rest text lost = IsBroken fault.Memory bytes rest text × (lost ≡ [])
-  EndsBy fault.Output bytes rest text lost = IsScript content number_of bytes text ⊎ ((why : ShellFault) × IsBroken why bytes rest text)
+  EndsBy fault.Output bytes rest text lost = IsScript tickets bytes text ⊎ ((why : ShellFault) × IsBroken why bytes rest text)
 
   -- a script ends early: of what its first bytes are answered a front was written. How it is split is told by the first
   -- argument

@@ -4,6 +4,7 @@ use Rattle.csv.specs.Reading.{default_config, records, strip_bom}
 use Rattle.far_types.specs.declared.cell.Kind.{Kind}
 use Rattle.far_types.specs.declared.edit.Edit.TheVariants as edit
 use Rattle.far_types.specs.declared.refusal.Refusal.{Refusal}
+use Rattle.far_store.specs.declared.store.FarTickets.{Ghosts as Tickets}
 use Rattle.far_frame.specs.declared.step.Step.{Step}
 use Rattle.far_frame.specs.declared.step.Step.TheVariants as step
 use Rattle.far_frame.specs.declared.step.Reply.{Reply}
@@ -18,6 +19,7 @@ use Rattle.far_shell.specs.Fields.{cells_from}
 use Rattle.far_shell.specs.Listings.{listing_of}
 use Rattle.far_shell.specs.Pieces.{pieces_text, next_text}
 use Rattle.far_shell.specs.Printing.{numbered_text, answer_text, refusal_text}
+use Rattle.far_shell.specs.Renewals.{Renews}
 
 -- what a step is answered that is done and has nothing to say
 abbrev pub done_text : Step → List ℕ
@@ -49,16 +51,16 @@ AfterReply _ ends goes = goes
 abbrev pub records_of : List ℕ → List (List (List ℕ))
 records_of text = records default_config (strip_bom text)
 
-module _ {K : Type 0} (content : K → List ℕ) (number_of : K → ℕ) where
+module _ {S K : Type 0} (tickets : Tickets S K) where
   -- a step is taken, and the text is its reply
   abbrev pub Takes : World K → Step → List ℕ → World K → Type 0
-  Takes old s text new = (given : Reply) × IsStep content number_of old s given new × (text ≡ reply_text (done_text s) given)
+  Takes old s text new = (given : Reply) × IsStep tickets.content tickets.number_of old s given new × (text ≡ reply_text (done_text s) given)
 
   -- the records of a load are inserted in order, up to the first that is refused, behind as many as count
   abbrev pub Loads : ℕ → World K → List (List (List ℕ)) → List ℕ → World K → Type 0
   Loads count old [] text new = (new ≡ old) × (text ≡ numbered_text (codes "loaded") count)
   Loads count old (fields ∷ more) text new =
-      (given : Reply) × (mid : World K) × IsStep content number_of old (insert_of_record old.state.table.schema fields) given mid
+      (given : Reply) × (mid : World K) × IsStep tickets.content tickets.number_of old (insert_of_record old.state.table.schema fields) given mid
       × AfterReply given (λ refusal. (new ≡ mid) × (text ≡ numbered_text (codes "loaded") count ++ refusal_text refusal)) (Loads (count + 1) mid more text new)
 
   -- a command is answered; the rows are the bytes behind its line that belong to it
@@ -66,6 +68,7 @@ module _ {K : Type 0} (content : K → List ℕ) (number_of : K → ℕ) where
   Serves old (command.Step s) rows text new = (rows ≡ []) × Takes old s text new
   Serves old (command.Load count) rows text new = (length rows ≡ count) × IsUtf8 rows × Loads 0 old (records_of rows) text new
   Serves old command.Dump rows text new = (rows ≡ []) × (text ≡ listing_of (live old.state)) × (new ≡ old)
+  Serves old (command.Renew capacity) rows text new = (rows ≡ []) × Renews tickets capacity old text new
 
   -- a line is answered; one that spells no command changes nothing
   abbrev pub ServesLine : ℕ → World K → Option Command → List ℕ → List ℕ → World K → Type 0

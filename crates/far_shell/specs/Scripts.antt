@@ -3,6 +3,7 @@ use Rattle.std.specs.Prelude.{◌≡◌, ◌⊎◌, ℕ, ◌+◌, Bool, false, �
 use Rattle.std.specs.List.{list_any, flat_map}
 use Rattle.std.specs.Io.BufRead.{strip_last}
 use Rattle.far_types.specs.Bounds.{IsSchema, AreLimits}
+use Rattle.far_store.specs.declared.store.FarTickets.{Ghosts as Tickets}
 use Rattle.far_frame.specs.State.{empty_state}
 use Rattle.far_frame.specs.Worlds.{World}
 use Rattle.far_shell.specs.Openings.{Opened, opening_of}
@@ -62,13 +63,13 @@ module _ {K : Type 0} where
     pub one : IsOneLine line
     pub opens : ((bytes ≡ blank ++ line ++ 10 ∷ []) × IsOpenedBy (without_return line) at) ⊎ ((bytes ≡ blank ++ line) × IsOpenedBy line at × spent)
 
-module _ {K : Type 0} (content : K → List ℕ) (number_of : K → ℕ) where
+module _ {S K : Type 0} (tickets : Tickets S K) where
   -- an empty line is no command; any other is text, and the next command
   abbrev pub AnswersLine : At K → List ℕ → List ℕ → List ℕ → At K → Type 0
   AnswersLine old [] rows text new = (rows ≡ []) × (text ≡ []) × (new ≡ old)
   AnswersLine old (c ∷ cs) rows text new =
       IsUtf8 (c ∷ cs) × (new.number ≡ old.number + 1)
-      × ServesLine content number_of new.number old.world (command_of old.world.state.table.schema (c ∷ cs)) rows text new.world
+      × ServesLine tickets new.number old.world (command_of old.world.state.table.schema (c ∷ cs)) rows text new.world
 
   -- one turn
   abbrev pub IsTurn : At K → Turn → At K → Type 0

@@ -17,6 +17,8 @@ mod pieces;
 mod print;
 mod progress;
 mod record;
+mod renewing;
+mod resources;
 mod script;
 mod serve;
 mod watch;

@@ -36,7 +36,7 @@ pub fn load<S: FarStore>(
     text: &str,
     reply: &mut Page,
 ) -> Result<(), Refusal>
-    ensures ok { OnOk result (Loads S.content S.number_of 0 world.old (records_of text.now) reply.new world.new) }
+    ensures ok { OnOk result (Loads S.FarTickets 0 world.old (records_of text.now) reply.new world.new) }
     ensures faults { world.new.faults ≡ world.old.faults }
     ensures memory { IfErr result (λ e. e ≡ Refusal.NoMemory) }
 {

@@ -1,11 +1,15 @@
 // The line that opens a table.
-ghost use Rattle.std.specs.Prelude.{◌≡◌, ◌++◌, IfOk, IfErr, option_map, option_and_then, Some, None};
+ghost use Rattle.std.specs.Prelude.{◌≡◌, ◌⊎◌, ◌++◌, IfOk, IfErr, option_map, option_and_then, Some, None};
 ghost use Rattle.std.specs.List.{slice_split};
+ghost use Rattle.far_types.specs.Bounds.{IsSchema, AreLimits};
 ghost use Rattle.far_shell.specs.OneRecord.{is_comma};
 ghost use Rattle.far_shell.specs.Openings.{kind_named, kinds_named, kinds_of, usual_limits, given_limits, limits_of, opening_in, opening_of};
+ghost use Rattle.far_shell.specs.Scripts.{IsEmpty};
 
 use super::words::Words;
-use far_types::{Kind, Limits, Refusal};
+use far_frame::{Frame, World};
+use far_store::FarStore;
+use far_types::{Kind, Limits, Refusal, Schema};
 use std::alloc::Global;
 
 /// What the line `schema GROUP KINDS` or `schema GROUP KINDS PLACES EDITS INT_SEGMENTS INT_SIZE TEXT_SEGMENTS TEXT_SIZE`
@@ -128,4 +132,22 @@ pub fn first_line(alloc: Global, line: &str) -> Result<Option<Opening>, Refusal>
         Some(word) if word == "schema" => read_opening(alloc, words),
         _ => Ok(None),
     }
+}
+
+/// The table that a line asks for, over a store. Refused with `BadSchema` (2) exactly where its columns or its limits are not what a
+/// table may have, else with `NoMemory` (1) alone.
+pub fn open_table<S: FarStore>(
+    alloc: Global,
+    store: S,
+    opening: Opening,
+) -> Result<World<S>, Refusal>
+    ensures ok { IfOk result (IsEmpty (opening.kinds.items, opening.limits)) }
+    ensures bad { IfErr result (λ e. ((e ≡ Refusal.BadSchema) × ¬ (IsSchema opening.kinds.items × AreLimits opening.limits)) ⊎ (e ≡ Refusal.NoMemory)) }
+{
+    let schema = Schema::new(opening.kinds)?;
+    let frame = Frame::open(alloc, schema, opening.limits, 0)?;
+    let Ok(world) = World::new(alloc, frame, store) else {
+        unreachable!()
+    };
+    Ok(world)
 }

@@ -1,23 +1,22 @@
 // Scripts, read as they are answered.
 ghost use Rattle.std.specs.Prelude.{◌≡◌, ◌⊎◌, ℕ, List, [], ◌++◌, ◌≤◌, codes, IfOk, IfErr, IfSome, OnOk};
 ghost use Rattle.std.specs.Io.KnownBytes.{Appends};
-ghost use Rattle.far_types.specs.Bounds.{IsSchema, AreLimits};
 ghost use Rattle.far_shell.specs.Breaks.{Breaks, BreaksOff, IsBroken, Rejection};
 ghost use Rattle.far_shell.specs.Flow.{Gives, IsSpent, IsWhole, Prints, Reads};
-ghost use Rattle.far_shell.specs.Scripts.{Ends, IsEmpty, IsOpenedBy, IsScript, Opens};
+ghost use Rattle.far_shell.specs.Scripts.{Ends, IsOpenedBy, IsScript, Opens};
 
 use super::bounded::MAX_BYTES;
 use super::fault::ShellFault;
 use super::input::{Input, Line};
-use super::opening::{Opening, first_line};
+use super::opening::{first_line, open_table};
 use super::output::Output;
 use super::page::Page;
 use super::print::refused;
 use super::progress::Progress;
+use super::resources::{Agents, Resources};
 use super::serve::answer_line;
-use far_frame::{Frame, World};
 use far_store::{AgentStore, FarStore, FarTickets};
-use far_types::{Refusal, Schema};
+use far_types::Refusal;
 use std::alloc::Global;
 use std::io::{Read, Write};
 use std::sync::Wait;
@@ -29,43 +28,29 @@ const MAX_LINES: u32 = MAX_BYTES + 1;
 const STORE_CAPACITY: u64 = 1_048_576;
 
 /// Answers the lines that follow the first command, up to the end of the script.
-fn serve_lines<S: FarStore, R: Read + Drop, W: Write>(
-    alloc: Global,
+fn serve_lines<S: FarStore, A: Resources<S>, R: Read + Drop, W: Write>(
+    resources: &A,
     progress: &mut Progress<S>,
     input: &mut Input<R>,
     output: &mut Output,
     writer: &mut W,
 ) -> Result<(), ShellFault>
     requires first { progress.old.number ≡ 1 }
-    ensures ok { OnOk result ((bytes : List ℕ) × (text : List ℕ) × Reads R.Read input.old bytes input.new × Prints (W.contents writer.old) output.old.page text (W.contents writer.new) output.new.page × Ends S.content S.number_of progress.old bytes text × IsSpent R.Read input.new) }
-    ensures err { IfErr result (λ fault. (bytes : List ℕ) × (rest : List ℕ) × (text : List ℕ) × Gives R.Read fault input.old input.new bytes rest × Prints (W.contents writer.old) output.old.page text (W.contents writer.new) output.new.page × BreaksOff S.content S.number_of progress.old fault bytes text) }
+    ensures ok { OnOk result ((bytes : List ℕ) × (text : List ℕ) × Reads R.Read input.old bytes input.new × Prints (W.contents writer.old) output.old.page text (W.contents writer.new) output.new.page × Ends S.FarTickets progress.old bytes text × IsSpent R.Read input.new) }
+    ensures err { IfErr result (λ fault. (bytes : List ℕ) × (rest : List ℕ) × (text : List ℕ) × Gives R.Read fault input.old input.new bytes rest × Prints (W.contents writer.old) output.old.page text (W.contents writer.new) output.new.page × BreaksOff S.FarTickets progress.old fault bytes text) }
     ensures asked { input.new.source.reads ≤ input.old.source.reads }
 {
     for turn in 0..MAX_LINES {
         match input.line(output, writer)? {
-            Line::Whole(line) => answer_line(alloc, progress, line, input, output, writer)?,
+            Line::Whole(line) => answer_line(resources, progress, line, input, output, writer)?,
             Line::Last(line) => {
-                answer_line(alloc, progress, line, input, output, writer)?;
+                answer_line(resources, progress, line, input, output, writer)?;
                 return Ok(());
             }
         }
         output.flush_if_full(writer)?;
     }
     Err(ShellFault::Input)
-}
-
-/// The table that a line asks for, over a store. Refused with `BadSchema` (2) exactly where its columns or its limits are not what a
-/// table may have, else with `NoMemory` (1) alone.
-fn open_table<S: FarStore>(alloc: Global, store: S, opening: Opening) -> Result<World<S>, Refusal>
-    ensures ok { IfOk result (IsEmpty (opening.kinds.items, opening.limits)) }
-    ensures bad { IfErr result (λ e. ((e ≡ Refusal.BadSchema) × ¬ (IsSchema opening.kinds.items × AreLimits opening.limits)) ⊎ (e ≡ Refusal.NoMemory)) }
-{
-    let schema = Schema::new(opening.kinds)?;
-    let frame = Frame::open(alloc, schema, opening.limits, 0)?;
-    let Ok(world) = World::new(alloc, frame, store) else {
-        unreachable!()
-    };
-    Ok(world)
 }
 
 /// The table that a first line opens, over a store. Where it opens none, because it is no such line or is refused with
@@ -109,7 +94,7 @@ fn open<S: FarStore, R: Read + Drop, W: Write>(
     writer: &mut W,
 ) -> Result<Progress<S>, ShellFault>
     ensures ok { IfOk result (λ progress. (bytes : List ℕ) × Reads R.Read input.old bytes input.new × Prints (W.contents writer.old) output.old.page (codes "ok\n") (W.contents writer.new) output.new.page × Opens bytes (IsSpent R.Read input.new) progress) }
-    ensures err { IfErr result (λ fault. (bytes : List ℕ) × (rest : List ℕ) × (text : List ℕ) × Gives R.Read fault input.old input.new bytes rest × Prints (W.contents writer.old) output.old.page text (W.contents writer.new) output.new.page × IsBroken S.content S.number_of fault bytes rest text) }
+    ensures err { IfErr result (λ fault. (bytes : List ℕ) × (rest : List ℕ) × (text : List ℕ) × Gives R.Read fault input.old input.new bytes rest × Prints (W.contents writer.old) output.old.page text (W.contents writer.new) output.new.page × IsBroken S.FarTickets fault bytes rest text) }
     ensures asked { input.new.source.reads ≤ input.old.source.reads }
 {
     for turn in 0..MAX_LINES {
@@ -133,37 +118,37 @@ fn open<S: FarStore, R: Read + Drop, W: Write>(
 }
 
 /// Opens the table of a script over a store, and answers its commands.
-fn serve<S: FarStore, R: Read + Drop, W: Write>(
-    alloc: Global,
+fn serve<S: FarStore, A: Resources<S>, R: Read + Drop, W: Write>(
+    resources: &A,
     store: S,
     input: &mut Input<R>,
     output: &mut Output,
     writer: &mut W,
 ) -> Result<(), ShellFault>
     requires { output.old.page ≡ [] }
-    ensures ok { OnOk result ((script : List ℕ) × (text : List ℕ) × Reads R.Read input.old script input.new × Prints (W.contents writer.old) [] text (W.contents writer.new) output.new.page × IsScript S.content S.number_of script text × IsSpent R.Read input.new) }
-    ensures err { IfErr result (λ fault. (bytes : List ℕ) × (rest : List ℕ) × (text : List ℕ) × Gives R.Read fault input.old input.new bytes rest × Prints (W.contents writer.old) [] text (W.contents writer.new) output.new.page × IsBroken S.content S.number_of fault bytes rest text) }
+    ensures ok { OnOk result ((script : List ℕ) × (text : List ℕ) × Reads R.Read input.old script input.new × Prints (W.contents writer.old) [] text (W.contents writer.new) output.new.page × IsScript S.FarTickets script text × IsSpent R.Read input.new) }
+    ensures err { IfErr result (λ fault. (bytes : List ℕ) × (rest : List ℕ) × (text : List ℕ) × Gives R.Read fault input.old input.new bytes rest × Prints (W.contents writer.old) [] text (W.contents writer.new) output.new.page × IsBroken S.FarTickets fault bytes rest text) }
     ensures asked { input.new.source.reads ≤ input.old.source.reads }
 {
-    let mut progress = open(alloc, store, input, output, writer)?;
-    serve_lines(alloc, &mut progress, input, output, writer)?;
+    let mut progress = open(resources.alloc(), store, input, output, writer)?;
+    serve_lines(resources, &mut progress, input, output, writer)?;
     Ok(())
 }
 
 /// Runs a script that is lent, over a store of its own: each reply is written before the reader is asked for more than was
 /// read.
-fn run_over<S: FarStore, R: Read + Drop, W: Write>(
-    alloc: Global,
+fn run_over<S: FarStore, A: Resources<S>, R: Read + Drop, W: Write>(
+    resources: &A,
     store: S,
     input: &mut Input<R>,
     writer: &mut W,
 ) -> Result<(), ShellFault>
-    ensures ok { OnOk result ((script : List ℕ) × (text : List ℕ) × Reads R.Read input.old script input.new × IsSpent R.Read input.new × Appends (W.contents writer.old) (W.contents writer.new) text × IsScript S.content S.number_of script text) }
-    ensures err { IfErr result (λ fault. Breaks S.content S.number_of (Gives R.Read fault input.old input.new) (W.contents writer.old) (W.contents writer.new) fault) }
+    ensures ok { OnOk result ((script : List ℕ) × (text : List ℕ) × Reads R.Read input.old script input.new × IsSpent R.Read input.new × Appends (W.contents writer.old) (W.contents writer.new) text × IsScript S.FarTickets script text) }
+    ensures err { IfErr result (λ fault. Breaks S.FarTickets (Gives R.Read fault input.old input.new) (W.contents writer.old) (W.contents writer.new) fault) }
     ensures asked { input.new.source.reads ≤ input.old.source.reads }
 {
-    let mut output = Output::new(alloc);
-    let outcome = serve(alloc, store, input, &mut output, writer);
+    let mut output = Output::new(resources.alloc());
+    let outcome = serve(resources, store, input, &mut output, writer);
     match outcome {
         Ok(()) => {
             output.flush(writer)?;
@@ -186,12 +171,13 @@ pub fn run_input<T: AllocGlobal + Sync + Wait, R: Read + Drop, W: Write>(
     input: &mut Input<R>,
     writer: &mut W,
 ) -> Result<(), ShellFault>
-    ensures ok { OnOk result ((script : List ℕ) × (text : List ℕ) × Reads R.Read input.old script input.new × IsSpent R.Read input.new × Appends (W.contents writer.old) (W.contents writer.new) text × IsScript ⟦<AgentStore<&'static T> as FarTickets>⟧.content ⟦<AgentStore<&'static T> as FarTickets>⟧.number_of script text) }
-    ensures err { IfErr result (λ fault. Breaks ⟦<AgentStore<&'static T> as FarTickets>⟧.content ⟦<AgentStore<&'static T> as FarTickets>⟧.number_of (Gives R.Read fault input.old input.new) (W.contents writer.old) (W.contents writer.new) fault) }
+    ensures ok { OnOk result ((script : List ℕ) × (text : List ℕ) × Reads R.Read input.old script input.new × IsSpent R.Read input.new × Appends (W.contents writer.old) (W.contents writer.new) text × IsScript ⟦<AgentStore<&'static T> as FarTickets>⟧ script text) }
+    ensures err { IfErr result (λ fault. Breaks ⟦<AgentStore<&'static T> as FarTickets>⟧ (Gives R.Read fault input.old input.new) (W.contents writer.old) (W.contents writer.new) fault) }
     ensures asked { input.new.source.reads ≤ input.old.source.reads }
 {
-    let store = AgentStore::new(rt, rt.alloc(), STORE_CAPACITY)?;
-    run_over(rt.alloc(), store, input, writer)
+    let agents = Agents::new(rt, rt.alloc());
+    let store = agents.store(STORE_CAPACITY)?;
+    run_over(&agents, store, input, writer)
 }
 
 /// Runs a script: reads its commands and writes the replies, each before the reader is asked for more than was read. The
@@ -206,8 +192,8 @@ pub fn run_script<T: AllocGlobal + Sync + Wait, R: Read + Drop, W: Write>(
     reader: R,
     writer: &mut W,
 ) -> Result<(), ShellFault>
-    ensures ok { OnOk result ((script : List ℕ) × (text : List ℕ) × IsWhole (R.remaining reader) script × Appends (W.contents writer.old) (W.contents writer.new) text × IsScript ⟦<AgentStore<&'static T> as FarTickets>⟧.content ⟦<AgentStore<&'static T> as FarTickets>⟧.number_of script text) }
-    ensures err { IfErr result (λ fault. Breaks ⟦<AgentStore<&'static T> as FarTickets>⟧.content ⟦<AgentStore<&'static T> as FarTickets>⟧.number_of (λ bytes rest. IfSome (R.remaining reader) (λ script. script ≡ bytes ++ rest)) (W.contents writer.old) (W.contents writer.new) fault) }
+    ensures ok { OnOk result ((script : List ℕ) × (text : List ℕ) × IsWhole (R.remaining reader) script × Appends (W.contents writer.old) (W.contents writer.new) text × IsScript ⟦<AgentStore<&'static T> as FarTickets>⟧ script text) }
+    ensures err { IfErr result (λ fault. Breaks ⟦<AgentStore<&'static T> as FarTickets>⟧ (λ bytes rest. IfSome (R.remaining reader) (λ script. script ≡ bytes ++ rest)) (W.contents writer.old) (W.contents writer.new) fault) }
 {
     let mut input = Input::new(rt.alloc(), reader)?;
     run_input(rt, &mut input, writer)?;

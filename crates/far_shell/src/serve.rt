@@ -22,10 +22,11 @@ use super::page::Page;
 use super::pieces::{ints, next, texts};
 use super::print::{answer, numbered, refused};
 use super::progress::Progress;
+use super::renewing::renew;
+use super::resources::Resources;
 use far_frame::{Reply, Step, World};
 use far_store::FarStore;
 use far_types::Refusal;
-use std::alloc::Global;
 use std::io::{Read, Write};
 
 /// What a step is answered that is done and has nothing to say.
@@ -59,8 +60,8 @@ pub fn print_reply(page: &mut Page, done: &str, reply: &Reply) -> Result<(), Ref
 
 /// Takes a step, and prints its reply.
 fn take_step<S: FarStore>(world: &mut World<S>, step: Step, reply: &mut Page) -> Result<(), Refusal>
-    requires few { world.old.faults < 2 ^ 63 }
-    ensures ok { OnOk result (Takes S.content S.number_of world.old step reply.new world.new) }
+    requires few { world.old.faults < 2 ^ 62 }
+    ensures ok { OnOk result (Takes S.FarTickets world.old step reply.new world.new) }
     ensures faults { world.new.faults ≤ world.old.faults + 1 }
     ensures memory { IfErr result (λ e. e ≡ Refusal.NoMemory) }
 {
@@ -71,16 +72,16 @@ fn take_step<S: FarStore>(world: &mut World<S>, step: Step, reply: &mut Page) ->
 }
 
 /// Answers a command, with the bytes behind its line that belong to it.
-fn answer_command<S: FarStore, R: Read + Drop, W: Write>(
-    alloc: Global,
+fn answer_command<S: FarStore, A: Resources<S>, R: Read + Drop, W: Write>(
+    resources: &A,
     world: &mut World<S>,
     command: Command,
     input: &mut Input<R>,
     output: &mut Output,
     writer: &mut W,
 ) -> Result<(), ShellFault>
-    requires few { world.old.faults < 2 ^ 63 }
-    ensures ok { OnOk result ((rows : List ℕ) × (text : List ℕ) × Reads R.Read input.old rows input.new × Prints (W.contents writer.old) output.old.page text (W.contents writer.new) output.new.page × Serves S.content S.number_of world.old command rows text world.new) }
+    requires few { world.old.faults < 2 ^ 62 }
+    ensures ok { OnOk result ((rows : List ℕ) × (text : List ℕ) × Reads R.Read input.old rows input.new × Prints (W.contents writer.old) output.old.page text (W.contents writer.new) output.new.page × Serves S.FarTickets world.old command rows text world.new) }
     ensures err { IfErr result (λ fault. PrintsCut fault (λ said. (command ≡ Command.Dump) × (said ≡ listing_of (live world.old.state))) (W.contents writer.old) output.old.page (W.contents writer.new) output.new.page) }
     ensures stopped { IfErr result (λ fault. IfInput fault (Stops R.Read (λ behind. FailsBy (Some command) behind) input.old input.new)) }
     ensures faults { world.new.faults ≤ world.old.faults + 1 }
@@ -94,7 +95,12 @@ fn answer_command<S: FarStore, R: Read + Drop, W: Write>(
         }
         Command::Load(count) => {
             let rows = input.bytes(output, writer, count as usize)?;
-            load(alloc, world, input.text(rows)?, &mut output.reply)?;
+            load(
+                resources.alloc(),
+                world,
+                input.text(rows)?,
+                &mut output.reply,
+            )?;
             output.add()?;
             Ok(())
         }
@@ -102,12 +108,17 @@ fn answer_command<S: FarStore, R: Read + Drop, W: Write>(
             dump(world.frame(), output, writer)?;
             Ok(())
         }
+        Command::Renew(capacity) => {
+            renew(resources, world, capacity, &mut output.reply)?;
+            output.add()?;
+            Ok(())
+        }
     }
 }
 
 /// Answers a line that is not empty: the command that it spells, or else `syntax command NUMBER`.
-fn answer_words<S: FarStore, R: Read + Drop, W: Write>(
-    alloc: Global,
+fn answer_words<S: FarStore, A: Resources<S>, R: Read + Drop, W: Write>(
+    resources: &A,
     world: &mut World<S>,
     line: Span,
     number: u32,
@@ -116,16 +127,20 @@ fn answer_words<S: FarStore, R: Read + Drop, W: Write>(
     writer: &mut W,
 ) -> Result<(), ShellFault>
     requires held { Holds R.Read input.old line }
-    requires few { world.old.faults < 2 ^ 63 }
+    requires few { world.old.faults < 2 ^ 62 }
     ensures text { OnOk result (IsUtf8 (spanned R.Read input.old line)) }
-    ensures ok { OnOk result ((rows : List ℕ) × (text : List ℕ) × Reads R.Read input.old rows input.new × Prints (W.contents writer.old) output.old.page text (W.contents writer.new) output.new.page × ServesLine S.content S.number_of number world.old (command_of world.old.state.table.schema (spanned R.Read input.old line)) rows text world.new) }
+    ensures ok { OnOk result ((rows : List ℕ) × (text : List ℕ) × Reads R.Read input.old rows input.new × Prints (W.contents writer.old) output.old.page text (W.contents writer.new) output.new.page × ServesLine S.FarTickets number world.old (command_of world.old.state.table.schema (spanned R.Read input.old line)) rows text world.new) }
     ensures err { IfErr result (λ fault. PrintsCut fault (λ said. (command_of world.old.state.table.schema (spanned R.Read input.old line) ≡ Some Command.Dump) × (said ≡ listing_of (live world.old.state))) (W.contents writer.old) output.old.page (W.contents writer.new) output.new.page) }
     ensures stopped { IfErr result (λ fault. IfInput fault (Stops R.Read (λ behind. Fails world.old.state.table.schema (spanned R.Read input.old line) behind) input.old input.new)) }
     ensures faults { world.new.faults ≤ world.old.faults + 1 }
     ensures asked { input.new.source.reads ≤ input.old.source.reads }
 {
-    match parse(alloc, world.frame().schema().as_slice(), input.text(line)?)? {
-        Some(command) => answer_command(alloc, world, command, input, output, writer),
+    match parse(
+        resources.alloc(),
+        world.frame().schema().as_slice(),
+        input.text(line)?,
+    )? {
+        Some(command) => answer_command(resources, world, command, input, output, writer),
         None => {
             output.reply.truncate(0);
             numbered(&mut output.reply, "syntax command", u64::from(number))?;
@@ -136,8 +151,8 @@ fn answer_words<S: FarStore, R: Read + Drop, W: Write>(
 }
 
 /// Answers a line: an empty one is no command, and any other the next one.
-pub fn answer_line<S: FarStore, R: Read + Drop, W: Write>(
-    alloc: Global,
+pub fn answer_line<S: FarStore, A: Resources<S>, R: Read + Drop, W: Write>(
+    resources: &A,
     progress: &mut Progress<S>,
     line: Span,
     input: &mut Input<R>,
@@ -146,7 +161,7 @@ pub fn answer_line<S: FarStore, R: Read + Drop, W: Write>(
 ) -> Result<(), ShellFault>
     requires held { Holds R.Read input.old line }
     requires few { progress.old.number < 4294967295 }
-    ensures ok { OnOk result ((rows : List ℕ) × (text : List ℕ) × Reads R.Read input.old rows input.new × Prints (W.contents writer.old) output.old.page text (W.contents writer.new) output.new.page × AnswersLine S.content S.number_of progress.old (spanned R.Read input.old line) rows text progress.new) }
+    ensures ok { OnOk result ((rows : List ℕ) × (text : List ℕ) × Reads R.Read input.old rows input.new × Prints (W.contents writer.old) output.old.page text (W.contents writer.new) output.new.page × AnswersLine S.FarTickets progress.old (spanned R.Read input.old line) rows text progress.new) }
     ensures err { IfErr result (λ fault. PrintsCut fault (λ said. Lists progress.old (spanned R.Read input.old line) said) (W.contents writer.old) output.old.page (W.contents writer.new) output.new.page) }
     ensures stopped { IfErr result (λ fault. IfInput fault (Stops R.Read (λ behind. Fails progress.old.world.state.table.schema (spanned R.Read input.old line) behind) input.old input.new)) }
     ensures asked { input.new.source.reads ≤ input.old.source.reads }
@@ -156,7 +171,7 @@ pub fn answer_line<S: FarStore, R: Read + Drop, W: Write>(
     }
     progress.number += 1;
     answer_words(
-        alloc,
+        resources,
         &mut progress.world,
         line,
         progress.number,

@@ -43,7 +43,7 @@ returns-in_err-line-clause-err g c =
     let i = c.loop-turn.invariant in
     let printed = prints-nothing-then (g.W.Write.contents c.args.writer.now) (g.W.Write.contents c.loop-turn.writer) (g.W.Write.contents c.line.new.writer) c.args.output.now.page c.loop-turn.output.page [] c.line.new.output.page c.loop-turn.invariant.3 c.in_err-line.ensures.printed in
     handed-on c.from_residual.result c.in_err-line.field-0.0 _ c.from_residual.ensures.1
-    (breaks-first g.R.Read g.S.FarTickets.content g.S.FarTickets.number_of c.args.input.now c.loop-turn.input c.line.new.self (g.W.Write.contents c.args.writer.now) (g.W.Write.contents c.line.new.writer) c.args.output.now.page c.line.new.output.page i.0 i.1 c.in_err-line.field-0.0 c.in_err-line.ensures.fault i.2 i.4 printed
+    (breaks-first g.R.Read g.S.FarTickets c.args.input.now c.loop-turn.input c.line.new.self (g.W.Write.contents c.args.writer.now) (g.W.Write.contents c.line.new.writer) c.args.output.now.page c.line.new.output.page i.0 i.1 c.in_err-line.field-0.0 c.in_err-line.ensures.fault i.2 i.4 printed
     (no-line g.R.Read c.in_err-line.field-0.0 c.loop-turn.input c.line.new.self c.in_err-line.ensures.stopped))
 
 pub returns-in_err-text-in-Whole-clause-err : goal.returns-in_err-text-in-Whole-clause-err
@@ -53,7 +53,7 @@ returns-in_err-text-in-Whole-clause-err g c =
     let f = c.in_err-text-in-Whole.ensures.fault in
     let printed = prints-nothing-then (g.W.Write.contents c.args.writer.now) (g.W.Write.contents c.loop-turn.writer) (g.W.Write.contents c.line.new.writer) c.args.output.now.page c.loop-turn.output.page [] c.line.new.output.page c.loop-turn.invariant.3 c.in_ok-line.ensures.printed in
     handed-on c.from_residual-in_err-text-in-Whole.result fault.Input _ (rw f.0 at c.from_residual-in_err-text-in-Whole.ensures.1)
-    (breaks-first g.R.Read g.S.FarTickets.content g.S.FarTickets.number_of c.args.input.now c.loop-turn.input c.line.new.self (g.W.Write.contents c.args.writer.now) (g.W.Write.contents c.line.new.writer) c.args.output.now.page c.line.new.output.page i.0 i.1 fault.Input (λ e. cc e) i.2 i.4 printed
+    (breaks-first g.R.Read g.S.FarTickets c.args.input.now c.loop-turn.input c.line.new.self (g.W.Write.contents c.args.writer.now) (g.W.Write.contents c.line.new.writer) c.args.output.now.page c.line.new.output.page i.0 i.1 fault.Input (λ e. cc e) i.2 i.4 printed
     (no-text-line g.R.Read c.loop-turn.input c.line.new.self t.1.0 _ t.1.1 t.1.2 t.1.3 f.1))
 
 pub returns-in_err-text-in-Last-clause-err : goal.returns-in_err-text-in-Last-clause-err
@@ -63,7 +63,7 @@ returns-in_err-text-in-Last-clause-err g c =
     let f = c.in_err-text-in-Last.ensures.fault in
     let printed = prints-nothing-then (g.W.Write.contents c.args.writer.now) (g.W.Write.contents c.loop-turn.writer) (g.W.Write.contents c.line.new.writer) c.args.output.now.page c.loop-turn.output.page [] c.line.new.output.page c.loop-turn.invariant.3 c.in_ok-line.ensures.printed in
     handed-on c.from_residual-in_err-text-in-Last.result fault.Input _ (rw f.0 at c.from_residual-in_err-text-in-Last.ensures.1)
-    (breaks-first g.R.Read g.S.FarTickets.content g.S.FarTickets.number_of c.args.input.now c.loop-turn.input c.line.new.self (g.W.Write.contents c.args.writer.now) (g.W.Write.contents c.line.new.writer) c.args.output.now.page c.line.new.output.page i.0 i.1 fault.Input (λ e. cc e) i.2 i.4 printed
+    (breaks-first g.R.Read g.S.FarTickets c.args.input.now c.loop-turn.input c.line.new.self (g.W.Write.contents c.args.writer.now) (g.W.Write.contents c.line.new.writer) c.args.output.now.page c.line.new.output.page i.0 i.1 fault.Input (λ e. cc e) i.2 i.4 printed
     (no-text-last g.R.Read c.loop-turn.input c.line.new.self _ t.1.0 t.1.3 (t.1.1, t.1.2) f.1))
 
 pub returns-in_err-progress-in-Whole-clause-err : goal.returns-in_err-progress-in-Whole-clause-err
@@ -73,7 +73,7 @@ returns-in_err-progress-in-Whole-clause-err g c =
     let p = c.in_err-progress-in-Whole.ensures.err in
     let why = c.in_err-progress-in-Whole.field-0.0 in
     handed-on c.from_residual-in_err-progress-in-Whole.result why _ c.from_residual-in_err-progress-in-Whole.ensures.1
-    (rejects-line g.R.Read g.S.FarTickets.content g.S.FarTickets.number_of c.args.input.now c.loop-turn.input c.line.new.self (g.W.Write.contents c.args.writer.now) (g.W.Write.contents c.loop-turn.writer) (g.W.Write.contents c.line.new.writer) c.args.output.now.page c.loop-turn.output.page c.line.new.output.page c.open_line.new.output.page i.0 t.1.0 _ _ p.0 i.1 why
+    (rejects-line g.R.Read g.S.FarTickets c.args.input.now c.loop-turn.input c.line.new.self (g.W.Write.contents c.args.writer.now) (g.W.Write.contents c.loop-turn.writer) (g.W.Write.contents c.line.new.writer) c.args.output.now.page c.loop-turn.output.page c.line.new.output.page c.open_line.new.output.page i.0 t.1.0 _ _ p.0 i.1 why
     i.2 i.3 i.4 t.1.1 t.1.2 t.1.3 c.in_ok-line.ensures.printed c.in_ok-text-in-Whole.ensures.ok.0 p.1 p.2)
 
 pub returns-in_err-last-in-Last-clause-err : goal.returns-in_err-last-in-Last-clause-err
@@ -83,14 +83,14 @@ returns-in_err-last-in-Last-clause-err g c =
     let p = c.in_err-last-in-Last.ensures.err in
     let why = c.in_err-last-in-Last.field-0.0 in
     handed-on c.from_residual-in_err-last-in-Last.result why _ c.from_residual-in_err-last-in-Last.ensures.1
-    (rejects-last g.R.Read g.S.FarTickets.content g.S.FarTickets.number_of c.args.input.now c.loop-turn.input c.line.new.self (g.W.Write.contents c.args.writer.now) (g.W.Write.contents c.loop-turn.writer) (g.W.Write.contents c.line.new.writer) c.args.output.now.page c.loop-turn.output.page c.line.new.output.page c.open_line-in-Last.new.output.page i.0 _ _ p.0 i.1 why
+    (rejects-last g.R.Read g.S.FarTickets c.args.input.now c.loop-turn.input c.line.new.self (g.W.Write.contents c.args.writer.now) (g.W.Write.contents c.loop-turn.writer) (g.W.Write.contents c.line.new.writer) c.args.output.now.page c.loop-turn.output.page c.line.new.output.page c.open_line-in-Last.new.output.page i.0 _ _ p.0 i.1 why
     i.2 i.3 i.4 t.1.0 t.1.3 c.in_ok-line.ensures.printed (t.1.1, t.1.2) c.in_ok-text-in-Last.ensures.ok.0 p.1 p.2)
 
 pub returns-then-is_empty-clause-err : goal.returns-then-is_empty-clause-err
 returns-then-is_empty-clause-err g c =
     let i = c.loop-turn.invariant in
     let t = rw c.in-Last.is at c.in_ok-line.ensures.line in
-    rejects-none g.R.Read g.S.FarTickets.content g.S.FarTickets.number_of c.args.input.now c.loop-turn.input c.line.new.self (g.W.Write.contents c.args.writer.now) (g.W.Write.contents c.loop-turn.writer) (g.W.Write.contents c.line.new.writer) c.args.output.now.page c.loop-turn.output.page c.line.new.output.page i.0 _ i.1
+    rejects-none g.R.Read g.S.FarTickets c.args.input.now c.loop-turn.input c.line.new.self (g.W.Write.contents c.args.writer.now) (g.W.Write.contents c.loop-turn.writer) (g.W.Write.contents c.line.new.writer) c.args.output.now.page c.loop-turn.output.page c.line.new.output.page i.0 _ i.1
     i.2 i.3 i.4 (range-empty c.line.new.self.held c.in-Last.line.from c.in-Last.line.to (grind (arith, c.if-is_empty.ensures))) t.1.3 c.in_ok-line.ensures.printed (t.1.1, t.1.2)
 
 pub returns-clause-err : goal.returns-clause-err

@@ -6,5 +6,5 @@ use Rattle.far_shell.proofs.script.serve_lines.Given as goal
 abbrev pub invariant-loop-turn : goal.invariant-loop-turn
 invariant-loop-turn g l = (bytes : List ℕ) × (text : List ℕ) × Reads g.R.Read l.fn.input bytes l.input
     × Prints (g.W.Write.contents l.fn.writer) l.fn.output.page text (g.W.Write.contents l.writer) l.output.page
-    × Answers g.S.FarTickets.content g.S.FarTickets.number_of l.fn.progress bytes text l.progress
+    × Answers g.S.FarTickets l.fn.progress bytes text l.progress
     × (l.turn ≤ length bytes) × (l.progress.number ≤ l.turn + 1) × (l.input.source.reads ≤ l.fn.input.source.reads)

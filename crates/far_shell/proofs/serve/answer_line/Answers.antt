@@ -13,7 +13,7 @@ returns-then-is_empty-clause-ok g c = (
   [],
   reads-none g.R.Read _ _ refl,
   prints-none (g.W.Write.contents c.args.writer.now) c.args.output.now.page,
-  answers-empty g.S.FarTickets.content g.S.FarTickets.number_of c.args.progress.now (spanned g.R.Read c.args.input.now c.args.line) (range-empty c.args.input.now.held c.args.line.from c.args.line.to (grind (arith, c.if-is_empty.ensures))),
+  answers-empty g.S.FarTickets c.args.progress.now (spanned g.R.Read c.args.input.now c.args.line) (range-empty c.args.input.now.held c.args.line.from c.args.line.to (grind (arith, c.if-is_empty.ensures))),
 )
 
 pub returns-clause-ok : goal.returns-clause-ok
@@ -26,8 +26,8 @@ returns-clause-ok g c =
       a.1,
       a.2,
       a.3,
-      subst (λ (at : At g.row.S-Ticket.Denot). AnswersLine g.S.FarTickets.content g.S.FarTickets.number_of at line a.0 a.1 new) c.progress.view_is
-          (answers-command g.S.FarTickets.content g.S.FarTickets.number_of (record { world = c.progress.inside.world; number = c.progress.inside.number }) new line a.0 a.1
+      subst (λ (at : At g.row.S-Ticket.Denot). AnswersLine g.S.FarTickets at line a.0 a.1 new) c.progress.view_is
+          (answers-command g.S.FarTickets (record { world = c.progress.inside.world; number = c.progress.inside.number }) new line a.0 a.1
           (range-some c.args.input.now.held c.args.line.from c.args.line.to some c.requires.held.1) c.in_ok-answer_words.ensures.text refl a.4),
     )
 
