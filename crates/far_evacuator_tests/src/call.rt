@@ -1,26 +1,56 @@
 // The calls that scripts make and that are drawn: both on objects with a store and on plain ones.
 use far_evacuator::Want;
+use far_types::Refusal;
 
-/// A call, with what it is given.
+/// A call, with what it is given. The lists are lent, or plain ones.
 #[derive(Drop)]
-pub enum Call<'l, T> {
-    Create(&'l [T]),
-    /// Writes a list over an object's where it is as long.
-    Write(u32, &'l [T]),
-    Replace(u32, &'l [T]),
-    ReplaceBoth([u32; 2], &'l [T], &'l [T]),
+pub enum Call<L> {
+    Create(L),
     /// Unmakes the last object.
     Uncreate,
-    Pin(u32),
-    Unpin(u32),
+    /// Changes one object.
+    On(u32, Change<L>),
+    ReplaceBoth([u32; 2], L, L),
     /// Pins three listings together, unpins the first once, and takes the others' pins back.
     PinTogether([u32; 3]),
-    Touch(u32),
     Compact(u32),
+    Move(Phase),
+}
+
+/// What is done to an object.
+#[derive(Drop)]
+pub enum Change<L> {
+    /// Writes a list over the object's where it is as long.
+    Write(L),
+    Replace(L),
+    Pin,
+    Unpin,
+    Touch,
+}
+
+/// A phase of an evacuation or of a fetch. Each goes on with what was begun or carried last.
+#[derive(Clone, Copy)]
+pub enum Phase {
     Begin(Want),
     Carry,
     Commit,
     BeginFetch(u32),
     CarryFetch,
     Install,
+}
+
+/// The reply of a call that gives no number: 0.
+pub fn done(reply: Result<(), Refusal>) -> Result<u32, Refusal> {
+    match reply {
+        Ok(()) => Ok(0),
+        Err(refusal) => Err(refusal),
+    }
+}
+
+/// The refusal of what only a local object may do.
+pub fn away(o: u32) -> Refusal {
+    Refusal::Absent {
+        column: 0,
+        group: o,
+    }
 }

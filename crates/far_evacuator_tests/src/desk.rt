@@ -1,18 +1,19 @@
 // Objects with their store, and the last job of each kind.
-ghost use Rattle.std.specs.Prelude.{◌<◌, ℕ, List, length, IsOk, IfOk};
+ghost use Rattle.std.specs.Prelude.{ℕ, List, IfOk};
 ghost use Rattle.far_scopes.specs.Movement.{AreClean, AreHere};
 
+mod changing;
 mod moving;
 mod renewing;
-mod several;
 
-use crate::call::Call;
+use crate::call::{Call, done};
+use changing::change;
 use far_evacuator::{Carried, EvacJob, FetchJob, Fetched};
 use far_fixtures::{Element, digest_of};
 use far_pointer::Pointer;
 use far_scopes::{ObjectLimits, Objects};
 use far_store::FarStore;
-use far_types::{Name, Refusal};
+use far_types::Refusal;
 use std::alloc::Global;
 use std::marker::Model;
 
@@ -37,8 +38,7 @@ pub struct Record {
     pub ticket: Option<u64>,
 }
 
-/// Objects with their store, and the last job of each kind that was begun and that was carried. A call that is refused for
-/// want of memory is made once more where it left the objects as they were; an object number that is not in use is refused.
+/// Objects with their store, and the last job of each kind that was begun and that was carried.
 #[derive(Drop)]
 pub struct Desk<'a, T: Element, S: FarStore> {
     store: &'a S,
@@ -94,131 +94,48 @@ impl<'a, T: Element, S: FarStore> Desk<'a, T, S> {
         Ok(())
     }
 
-    /// Makes a call. Answers the number that it gives, and 0 where it gives none.
-    pub fn make(&mut self, alloc: Global, call: &Call<'_, T>) -> Result<u32, Refusal> {
-        match *call {
-            Call::Create(list) => self.create(list),
-            Call::PinTogether(listed) => self.pin_together(alloc, listed),
-            _ => {
-                self.change(alloc, call)?;
-                Ok(0)
-            }
-        }
-    }
-
-    // Makes a call that gives no number.
-    fn change(&mut self, alloc: Global, call: &Call<'_, T>) -> Result<(), Refusal> {
-        match *call {
-            Call::Uncreate => self.uncreate(),
-            Call::Write(o, list) => self.write(o, list),
-            Call::Replace(o, list) => self.replace(o, list),
-            Call::ReplaceBoth(objects, first, second) => {
-                self.replace_both(alloc, objects, first, second)
-            }
-            Call::Pin(o) => self.pin(o),
-            Call::Unpin(o) => self.unpin(o),
-            Call::Touch(o) => self.touch(o),
-            Call::Compact(segment) => self.compact(alloc, segment),
-            _ => self.move_object(alloc, call),
-        }
-    }
-
-    fn create(&mut self, list: &[T]) -> Result<u32, Refusal> {
-        let count = self.objects.count();
-        if list.is_empty() || count >= 1 << 28 {
-            return Err(Refusal::TableFull);
-        }
-        let name = Name {
-            column: 0,
-            group: count,
-        };
+    /// Makes a call, once more where it is refused for want of memory and left the objects as they were. Answers the number
+    /// that it gives, and 0 where it gives none. An object number that is not in use is refused.
+    pub fn make(&mut self, alloc: Global, call: &Call<&[T]>) -> Result<u32, Refusal> {
         let before = digest_of(&self.objects);
-        match self.objects.create(name, list) {
+        match self.make_once(alloc, call) {
             Err(Refusal::NoMemory) if digest_of(&self.objects) == before => {
-                self.objects.create(name, list)
+                self.make_once(alloc, call)
             }
             reply => reply,
         }
     }
 
-    /// Writes a list over an object's where it is as long; else the object counts as written and no more.
-    fn write(&mut self, o: u32, list: &[T]) -> Result<(), Refusal> {
-        self.in_use(o)?;
-        write_over(&mut self.objects, o, list)
-    }
-
-    fn replace(&mut self, o: u32, list: &[T]) -> Result<(), Refusal> {
-        self.in_use(o)?;
-        if list.is_empty() {
-            return Err(Refusal::RowWidth);
-        }
-        let before = digest_of(&self.objects);
-        match self.objects.replace(o, list) {
-            Err(Refusal::NoMemory) if digest_of(&self.objects) == before => {
-                self.objects.replace(o, list)
-            }
-            reply => reply,
-        }
-    }
-
-    /// Unmakes the last object where it is local and has no pin.
-    fn uncreate(&mut self) -> Result<(), Refusal> {
-        let count = self.objects.count();
-        if count == 0 {
-            return Err(Refusal::NoRow);
-        }
-        let o = count - 1;
-        self.objects.lend(o)?;
-        if self.objects.pins(o) > 0 {
-            return Err(Refusal::Pinned);
-        }
-        self.objects.uncreate();
-        Ok(())
-    }
-
-    fn pin(&mut self, o: u32) -> Result<(), Refusal> {
-        self.in_use(o)?;
-        self.objects.pin(o)
-    }
-
-    fn unpin(&mut self, o: u32) -> Result<(), Refusal> {
-        self.in_use(o)?;
-        self.objects.unpin(o)
-    }
-
-    fn touch(&mut self, o: u32) -> Result<(), Refusal> {
-        self.in_use(o)?;
-        self.objects.touch(o);
-        Ok(())
-    }
-
-    fn compact(&mut self, alloc: Global, segment: u32) -> Result<(), Refusal> {
-        let before = digest_of(&self.objects);
-        match self.objects.compact(alloc, segment) {
-            Err(Refusal::NoMemory) if digest_of(&self.objects) == before => {
-                self.objects.compact(alloc, segment)
-            }
-            reply => reply,
+    fn make_once(&mut self, alloc: Global, call: &Call<&[T]>) -> Result<u32, Refusal> {
+        match call {
+            Call::Move(phase) => done(self.move_object(alloc, *phase)),
+            call => change(&mut self.objects, alloc, call),
         }
     }
 
     /// The list of an object.
     pub fn list(&self, o: u32) -> Result<&[T], Refusal> {
-        self.in_use(o)?;
+        if o >= self.objects.count() {
+            return Err(Refusal::NoRow);
+        }
         self.objects.lend(o)
     }
 
     /// Whether an object may be written.
     pub fn may_write(&self, o: u32) -> Result<(), Refusal> {
-        self.in_use(o)?;
+        if o >= self.objects.count() {
+            return Err(Refusal::NoRow);
+        }
         self.objects.may_write(o)
     }
 
     /// What is known of an object.
-    pub fn record(&self, o: u32) -> Result<Record, Refusal> {
-        self.in_use(o)?;
+    pub fn record(&self, o: u32) -> Option<Record> {
+        if o >= self.objects.count() {
+            return None;
+        }
         let word = self.objects.word(o);
-        Ok(Record {
+        Some(Record {
             local: word.read() != Pointer::Remote,
             dirty: word.dirty(),
             hot: word.hot(),
@@ -230,17 +147,6 @@ impl<'a, T: Element, S: FarStore> Desk<'a, T, S> {
                 None => None,
             },
         })
-    }
-
-    // Whether an object number is in use.
-    fn in_use(&self, o: u32) -> Result<(), Refusal>
-        ensures { IsOk result → o < length self.now.entries }
-    {
-        if o < self.objects.count() {
-            Ok(())
-        } else {
-            Err(Refusal::NoRow)
-        }
     }
 }
 
@@ -262,21 +168,4 @@ fn no_objects<T: Element, S: FarStore>(
         Err(Refusal::NoMemory) => Objects::new(alloc, number, limits),
         reply => reply,
     }
-}
-
-fn write_over<T: Element, S: FarStore>(
-    objects: &mut Objects<T, S>,
-    o: u32,
-    list: &[T],
-) -> Result<(), Refusal>
-    requires within { o < length objects.old.entries }
-    ensures clean { AreClean T.meaning S.content objects.old → AreClean T.meaning S.content objects.new }
-    ensures store { (name : List ℕ) → AreHere S.is_of name objects.old → AreHere S.is_of name objects.new }
-{
-    objects.may_write(o)?;
-    let lent = objects.lend_mut(o);
-    if lent.len() == list.len() {
-        lent.copy_from_slice(list);
-    }
-    Ok(())
 }

@@ -1,12 +1,15 @@
 // Jobs that are begun, carried, accepted and found stale: worked examples.
-use crate::call::Call;
+use crate::call::Call::{self, Create, Move, On};
+use crate::call::Change::{Pin, Replace, Touch, Unpin, Write};
+use crate::call::Phase::{self, Begin, BeginFetch, Carry, CarryFetch, Commit, Install};
+use crate::call::away;
 use crate::desk::{Desk, Limits};
-use far_byte_log::ByteLog;
+use crate::stores::{answered, faulty, logged};
 use far_evacuator::Want;
-use far_fixtures::agent;
-use far_store::{EngineStore, FarStore, FaultyStore};
+use far_store::FarStore;
 use far_types::Refusal;
 use std::alloc::Global;
+use std::sync::Wait;
 use std::test::Fail;
 
 const LIMITS: Limits = Limits {
@@ -14,6 +17,11 @@ const LIMITS: Limits = Limits {
     size: 16,
     changes: 8,
     leavings: 8,
+};
+
+const ONCE: Limits = Limits {
+    leavings: 1,
+    ..LIMITS
 };
 
 // The refusal of what only a local object may do, of the object 0.
@@ -25,9 +33,9 @@ const AWAY: Refusal = Refusal::Absent {
 /// What is done, and how it turns out.
 enum Step {
     /// The call is accepted.
-    Done(Call<'static, i64>),
+    Done(Call<&'static [i64]>),
     /// The call is refused so.
-    Refused(Call<'static, i64>, Refusal),
+    Refused(Call<&'static [i64]>, Refusal),
     /// The object is sent away.
     SentAway(u32),
     /// The object is brought back.
@@ -41,34 +49,40 @@ enum Step {
 }
 
 /// The index of the first step that turns out otherwise, in a store where there is no object at first.
-fn first_wrong<S: FarStore>(
+fn play<S: FarStore>(
     alloc: Global,
-    store: S,
+    store: Result<S, Refusal>,
     limits: Limits,
     steps: &[Step],
 ) -> Result<Option<usize>, Refusal> {
-    first_wrong_in(alloc, &store, limits, steps)
+    let store = store?;
+    play_over(alloc, &store, limits, steps)
 }
 
-fn first_wrong_in<S: FarStore>(
+fn play_over<S: FarStore>(
     alloc: Global,
     store: &S,
     limits: Limits,
     steps: &[Step],
 ) -> Result<Option<usize>, Refusal> {
-    let mut desk = Desk::new(alloc, store, 0, limits)?;
-    Ok(first_wrong_on(&mut desk, alloc, limits, steps))
+    match Desk::new(alloc, store, 0, limits) {
+        Ok(mut desk) => Ok(first_wrong(&mut desk, alloc, limits, steps)),
+        Err(refusal) => Err(refusal),
+    }
 }
 
-fn first_wrong_on<S: FarStore>(
+fn first_wrong<S: FarStore>(
     desk: &mut Desk<'_, i64, S>,
     alloc: Global,
     limits: Limits,
     steps: &[Step],
 ) -> Option<usize> {
-    steps
-        .iter()
-        .position(|step| !turns_out(desk, alloc, limits, step))
+    for (index, step) in steps.iter().enumerate() {
+        if !turns_out(desk, alloc, limits, step) {
+            return Some(index);
+        }
+    }
+    None
 }
 
 fn turns_out<S: FarStore>(
@@ -80,219 +94,220 @@ fn turns_out<S: FarStore>(
     match step {
         Step::Done(call) => desk.make(alloc, call).is_ok(),
         Step::Refused(call, refusal) => desk.make(alloc, call) == Err(*refusal),
-        Step::SentAway(o) => desk.evacuate(alloc, *o).is_ok(),
-        Step::BroughtBack(o) => desk.fetch_back(alloc, *o).is_ok(),
-        Step::Frame(number) => begin_frame(desk, alloc, limits, *number).is_ok(),
+        Step::SentAway(o) => are_done(desk, alloc, &[Begin(Want::Object(*o)), Carry, Commit]),
+        Step::BroughtBack(o) => are_done(desk, alloc, &[BeginFetch(*o), CarryFetch, Install]),
+        Step::Frame(number) => begins_frame(desk, alloc, limits, *number),
         Step::Has(o, list) => desk.list(*o) == Ok(*list),
         Step::IsAway(o) => is_away(desk, *o),
     }
 }
 
-// Whether an object is neither lent nor may be written since it is away.
-fn is_away<S: FarStore>(desk: &Desk<'_, i64, S>, o: u32) -> bool {
-    let away = Refusal::Absent {
-        column: 0,
-        group: o,
-    };
-    desk.list(o) == Err(away) && desk.may_write(o) == Err(away)
+// Whether these phases are accepted, one after the other.
+fn are_done<S: FarStore>(desk: &mut Desk<'_, i64, S>, alloc: Global, phases: &[Phase]) -> bool {
+    for phase in phases {
+        if desk.make(alloc, &Move(*phase)).is_err() {
+            return false;
+        }
+    }
+    true
 }
 
-fn begin_frame<S: FarStore>(
+// Whether an object is neither lent nor may be written since it is away.
+fn is_away<S: FarStore>(desk: &Desk<'_, i64, S>, o: u32) -> bool {
+    desk.list(o) == Err(away(o)) && desk.may_write(o) == Err(away(o))
+}
+
+fn begins_frame<S: FarStore>(
     desk: &mut Desk<'_, i64, S>,
     alloc: Global,
     limits: Limits,
     number: u32,
-) -> Result<(), Refusal> {
-    desk.clear(alloc, number, limits)?;
+) -> bool {
+    let mut begins = desk.clear(alloc, number, limits).is_ok();
     for first in 0..8 {
-        desk.make(alloc, &Call::Create(&[first, 5]))?;
+        begins &= desk.make(alloc, &Create([first, 5].as_slice())).is_ok();
     }
-    Ok(())
+    begins
+}
+
+/// The same over a store that takes so many contents, and of which a put and a get fail; 0 is none. It is played once more where the
+/// making of the store or of the objects finds no memory.
+fn play_faulty<R: Wait + Sync + Drop + Copy>(
+    rt: R,
+    alloc: Global,
+    store: [u64; 3],
+    limits: Limits,
+    steps: &[Step],
+) -> Result<(), Fail> {
+    answered(match play(alloc, faulty(rt, alloc, store), limits, steps) {
+        Err(Refusal::NoMemory) => play(alloc, faulty(rt, alloc, store), limits, steps),
+        reply => reply,
+    })
 }
 
 #[test]
 fn an_object_that_was_sent_away_stays_away_under_its_name(rt: HostRuntime) -> Result<(), Fail> {
     static STEPS: &[Step] = &[
-        Step::Done(Call::Create(&[1, 2])),
+        Step::Done(Create(&[1, 2])),
         Step::SentAway(0),
         Step::IsAway(0),
-        Step::Refused(Call::Begin(Want::Object(0)), AWAY),
+        Step::Refused(Move(Begin(Want::Object(0))), AWAY),
         Step::IsAway(0),
     ];
-    let store = agent(&rt, 4)?;
-    assert_eq!(rt; first_wrong(rt.alloc(), store, LIMITS, STEPS)?, None);
-    Ok(())
+    play_faulty(&rt, rt.alloc(), [4, 0, 0], LIMITS, STEPS)
 }
 
 #[test]
 fn the_coldest_object_is_the_one_that_was_used_least_lately(rt: HostRuntime) -> Result<(), Fail> {
     static STEPS: &[Step] = &[
-        Step::Done(Call::Create(&[1, 2])),
-        Step::Done(Call::Create(&[3, 4])),
-        Step::Done(Call::Touch(0)),
-        Step::Done(Call::Pin(0)),
-        Step::Done(Call::Pin(1)),
-        Step::Refused(Call::Begin(Want::Coldest), Refusal::StaleJob),
-        Step::Done(Call::Unpin(0)),
-        Step::Done(Call::Unpin(1)),
-        Step::Done(Call::Begin(Want::Coldest)),
-        Step::Done(Call::Carry),
-        Step::Done(Call::Commit),
-        Step::Done(Call::Replace(0, &[5, 6])),
+        Step::Done(Create(&[1, 2])),
+        Step::Done(Create(&[3, 4])),
+        Step::Done(On(0, Touch)),
+        Step::Done(On(0, Pin)),
+        Step::Done(On(1, Pin)),
+        Step::Refused(Move(Begin(Want::Coldest)), Refusal::StaleJob),
+        Step::Done(On(0, Unpin)),
+        Step::Done(On(1, Unpin)),
+        Step::Done(Move(Begin(Want::Coldest))),
+        Step::Done(Move(Carry)),
+        Step::Done(Move(Commit)),
+        Step::Done(On(0, Replace(&[5, 6]))),
         Step::IsAway(1),
         Step::Has(0, &[5, 6]),
     ];
-    let store = agent(&rt, 4)?;
-    assert_eq!(rt; first_wrong(rt.alloc(), store, LIMITS, STEPS)?, None);
-    Ok(())
+    play_faulty(&rt, rt.alloc(), [4, 0, 0], LIMITS, STEPS)
 }
 
 #[test]
 fn an_object_that_was_not_written_is_not_put_again(rt: HostRuntime) -> Result<(), Fail> {
     static STEPS: &[Step] = &[
-        Step::Done(Call::Create(&[1, 2])),
+        Step::Done(Create(&[1, 2])),
         Step::SentAway(0),
         Step::BroughtBack(0),
         Step::SentAway(0),
         Step::BroughtBack(0),
-        Step::Done(Call::Write(0, &[9, 2])),
-        Step::Done(Call::Begin(Want::Object(0))),
-        Step::Refused(Call::Carry, Refusal::FarFault),
-        Step::Done(Call::Carry),
-        Step::Done(Call::Commit),
+        Step::Done(On(0, Write(&[9, 2]))),
+        Step::Done(Move(Begin(Want::Object(0)))),
+        Step::Refused(Move(Carry), Refusal::FarFault),
+        Step::Done(Move(Carry)),
+        Step::Done(Move(Commit)),
         Step::BroughtBack(0),
         Step::Has(0, &[9, 2]),
     ];
-    let store = FaultyStore::new(agent(&rt, 8)?, 2, 0);
-    assert_eq!(rt; first_wrong(rt.alloc(), store, LIMITS, STEPS)?, None);
-    Ok(())
+    play_faulty(&rt, rt.alloc(), [8, 2, 0], LIMITS, STEPS)
 }
 
 #[test]
 fn a_job_is_accepted_once(rt: HostRuntime) -> Result<(), Fail> {
     static STEPS: &[Step] = &[
-        Step::Done(Call::Create(&[1, 2])),
+        Step::Done(Create(&[1, 2])),
         Step::SentAway(0),
-        Step::Refused(Call::Commit, Refusal::StaleJob),
+        Step::Refused(Move(Commit), Refusal::StaleJob),
         Step::BroughtBack(0),
-        Step::Refused(Call::Commit, Refusal::StaleJob),
-        Step::Refused(Call::Install, Refusal::StaleJob),
+        Step::Refused(Move(Commit), Refusal::StaleJob),
+        Step::Refused(Move(Install), Refusal::StaleJob),
         Step::SentAway(0),
-        Step::Refused(Call::Install, Refusal::StaleJob),
+        Step::Refused(Move(Install), Refusal::StaleJob),
     ];
-    let store = agent(&rt, 8)?;
-    assert_eq!(rt; first_wrong(rt.alloc(), store, LIMITS, STEPS)?, None);
-    Ok(())
+    play_faulty(&rt, rt.alloc(), [8, 0, 0], LIMITS, STEPS)
 }
 
 #[test]
 fn a_job_of_another_frame_is_stale(rt: HostRuntime) -> Result<(), Fail> {
     static STEPS: &[Step] = &[
         Step::Frame(1),
-        Step::Done(Call::Begin(Want::Object(7))),
-        Step::Done(Call::Carry),
+        Step::Done(Move(Begin(Want::Object(7)))),
+        Step::Done(Move(Carry)),
         Step::Frame(2),
-        Step::Refused(Call::Commit, Refusal::StaleJob),
+        Step::Refused(Move(Commit), Refusal::StaleJob),
         Step::SentAway(7),
-        Step::Done(Call::BeginFetch(7)),
-        Step::Done(Call::CarryFetch),
+        Step::Done(Move(BeginFetch(7))),
+        Step::Done(Move(CarryFetch)),
         Step::Frame(1),
         Step::SentAway(7),
-        Step::Refused(Call::Install, Refusal::StaleJob),
+        Step::Refused(Move(Install), Refusal::StaleJob),
     ];
-    let store = agent(&rt, 8)?;
-    assert_eq!(rt; first_wrong(rt.alloc(), store, LIMITS, STEPS)?, None);
-    Ok(())
+    play_faulty(&rt, rt.alloc(), [8, 0, 0], LIMITS, STEPS)
 }
 
 #[test]
 fn an_object_goes_away_as_often_as_it_may(rt: HostRuntime) -> Result<(), Fail> {
     static STEPS: &[Step] = &[
-        Step::Done(Call::Create(&[1, 2])),
+        Step::Done(Create(&[1, 2])),
         Step::SentAway(0),
         Step::BroughtBack(0),
-        Step::Done(Call::Begin(Want::Object(0))),
-        Step::Done(Call::Carry),
-        Step::Refused(Call::Commit, Refusal::StaleJob),
+        Step::Done(Move(Begin(Want::Object(0)))),
+        Step::Done(Move(Carry)),
+        Step::Refused(Move(Commit), Refusal::StaleJob),
         Step::Has(0, &[1, 2]),
     ];
-    const ONCE: Limits = Limits {
-        leavings: 1,
-        ..LIMITS
-    };
-    let store = agent(&rt, 8)?;
-    assert_eq!(rt; first_wrong(rt.alloc(), store, ONCE, STEPS)?, None);
-    Ok(())
+    play_faulty(&rt, rt.alloc(), [8, 0, 0], ONCE, STEPS)
 }
 
 #[test]
 fn a_pinned_object_stays_until_it_is_unpinned(rt: HostRuntime) -> Result<(), Fail> {
     static STEPS: &[Step] = &[
-        Step::Done(Call::Create(&[1, 2])),
-        Step::Done(Call::Pin(0)),
-        Step::Done(Call::Begin(Want::Object(0))),
-        Step::Done(Call::Carry),
-        Step::Refused(Call::Commit, Refusal::Pinned),
-        Step::Done(Call::Unpin(0)),
-        Step::Done(Call::Commit),
+        Step::Done(Create(&[1, 2])),
+        Step::Done(On(0, Pin)),
+        Step::Done(Move(Begin(Want::Object(0)))),
+        Step::Done(Move(Carry)),
+        Step::Refused(Move(Commit), Refusal::Pinned),
+        Step::Done(On(0, Unpin)),
+        Step::Done(Move(Commit)),
         Step::BroughtBack(0),
         Step::Has(0, &[1, 2]),
     ];
-    let store = agent(&rt, 8)?;
-    assert_eq!(rt; first_wrong(rt.alloc(), store, LIMITS, STEPS)?, None);
-    Ok(())
+    play_faulty(&rt, rt.alloc(), [8, 0, 0], LIMITS, STEPS)
 }
 
 #[test]
 fn a_carry_into_a_full_store_is_refused_and_keeps_its_job(rt: HostRuntime) -> Result<(), Fail> {
     static STEPS: &[Step] = &[
-        Step::Done(Call::Create(&[1, 2])),
-        Step::Done(Call::Create(&[3, 4])),
+        Step::Done(Create(&[1, 2])),
+        Step::Done(Create(&[3, 4])),
         Step::SentAway(0),
-        Step::Done(Call::Begin(Want::Object(1))),
-        Step::Refused(Call::Carry, Refusal::FarFull),
-        Step::Refused(Call::Carry, Refusal::FarFull),
+        Step::Done(Move(Begin(Want::Object(1)))),
+        Step::Refused(Move(Carry), Refusal::FarFull),
+        Step::Refused(Move(Carry), Refusal::FarFull),
         Step::Has(1, &[3, 4]),
         Step::BroughtBack(0),
         Step::Has(0, &[1, 2]),
     ];
-    let store = agent(&rt, 1)?;
-    assert_eq!(rt; first_wrong(rt.alloc(), store, LIMITS, STEPS)?, None);
-    Ok(())
+    play_faulty(&rt, rt.alloc(), [1, 0, 0], LIMITS, STEPS)
 }
 
 #[test]
 fn a_carry_into_a_full_log_is_a_fault_and_keeps_its_job(rt: HostRuntime) -> Result<(), Fail> {
     static STEPS: &[Step] = &[
-        Step::Done(Call::Create(&[1, 2])),
-        Step::Done(Call::Create(&[3, 4])),
+        Step::Done(Create(&[1, 2])),
+        Step::Done(Create(&[3, 4])),
         Step::SentAway(0),
-        Step::Done(Call::Begin(Want::Object(1))),
-        Step::Refused(Call::Carry, Refusal::FarFault),
-        Step::Refused(Call::Carry, Refusal::FarFault),
+        Step::Done(Move(Begin(Want::Object(1)))),
+        Step::Refused(Move(Carry), Refusal::FarFault),
+        Step::Refused(Move(Carry), Refusal::FarFault),
         Step::Has(1, &[3, 4]),
         Step::BroughtBack(0),
         Step::Has(0, &[1, 2]),
     ];
     // The far form of two numbers has 22 bytes.
-    let log = ByteLog::new(rt.alloc(), 43)?;
-    let store = EngineStore::new(&rt, rt.alloc(), log, 4)?;
-    assert_eq!(rt; first_wrong(rt.alloc(), store, LIMITS, STEPS)?, None);
-    Ok(())
+    answered(play(
+        rt.alloc(),
+        logged(&rt, rt.alloc(), 43, [4, 0]),
+        LIMITS,
+        STEPS,
+    ))
 }
 
 #[test]
 fn a_fetch_that_met_a_fault_is_carried_again(rt: HostRuntime) -> Result<(), Fail> {
     static STEPS: &[Step] = &[
-        Step::Done(Call::Create(&[1, 2])),
+        Step::Done(Create(&[1, 2])),
         Step::SentAway(0),
-        Step::Done(Call::BeginFetch(0)),
-        Step::Refused(Call::CarryFetch, Refusal::FarFault),
-        Step::Done(Call::CarryFetch),
-        Step::Done(Call::Install),
+        Step::Done(Move(BeginFetch(0))),
+        Step::Refused(Move(CarryFetch), Refusal::FarFault),
+        Step::Done(Move(CarryFetch)),
+        Step::Done(Move(Install)),
         Step::Has(0, &[1, 2]),
     ];
-    let store = FaultyStore::new(agent(&rt, 8)?, 0, 1);
-    assert_eq!(rt; first_wrong(rt.alloc(), store, LIMITS, STEPS)?, None);
-    Ok(())
+    play_faulty(&rt, rt.alloc(), [8, 0, 1], LIMITS, STEPS)
 }

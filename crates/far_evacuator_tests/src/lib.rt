@@ -11,4 +11,6 @@ mod jobs;
 #[cfg(test)]
 mod plain;
 #[cfg(test)]
+mod stores;
+#[cfg(test)]
 mod walk;

@@ -1,18 +1,19 @@
 // Random calls against plain objects, call by call.
-use crate::call::Call;
+use crate::call::{Call, Change, Phase};
 use crate::desk::{Desk, Limits};
-use crate::plain::{Log, Numbers, Plains};
-use far_byte_log::ByteLog;
+use crate::plain::{Drawn, Log, Numbers, Plains};
+use crate::stores::{Logged, answered, faulty, logged};
 use far_evacuator::Want;
 use far_fixtures::Element;
 use far_random::Draws;
-use far_store::{AgentStore, EngineStore, FarStore, FaultyStore};
+use far_store::{AgentStore, FarStore, FaultyStore};
 use far_types::Refusal;
 use std::alloc::Global;
+use std::sync::Wait;
 use std::test::Fail;
 
 // How many walks, over how many stores in turn, of how many calls over each, and with how many objects at most.
-const WALKS: u64 = 40;
+const WALKS: usize = 40;
 
 const STORES: u64 = 5;
 
@@ -28,11 +29,11 @@ const LIMITS: Limits = Limits {
 };
 
 /// Elements of which lists are drawn.
-trait Drawn: Element {
+trait Drawable: Element {
     fn draw(alloc: Global, draws: &mut Draws) -> Result<Vec<Self>, Refusal>;
 }
 
-impl Drawn for Option<i64> {
+impl Drawable for Option<i64> {
     fn draw(alloc: Global, draws: &mut Draws) -> Result<Vec<Option<i64>>, Refusal> {
         let mut list = Vec::new(alloc);
         for _ in 0..1 + draws.below(4) {
@@ -47,7 +48,7 @@ impl Drawn for Option<i64> {
     }
 }
 
-impl Drawn for i64 {
+impl Drawable for i64 {
     fn draw(alloc: Global, draws: &mut Draws) -> Result<Vec<i64>, Refusal> {
         let mut list = Vec::new(alloc);
         for _ in 0..1 + draws.below(4) {
@@ -57,7 +58,7 @@ impl Drawn for i64 {
     }
 }
 
-impl Drawn for u8 {
+impl Drawable for u8 {
     // The far form of up to three texts of one letter each.
     fn draw(alloc: Global, draws: &mut Draws) -> Result<Vec<u8>, Refusal> {
         let count = draws.below(4);
@@ -114,81 +115,165 @@ impl Roll {
         }
     }
 
-    fn call<'l, T>(&self, first: &'l [T], second: &'l [T]) -> Call<'l, T> {
+    fn call<L: Copy + Drop>(&self, first: L, second: L) -> Call<L> {
         let o = self.object;
         match self.kind {
             0 if self.count < OBJECTS => Call::Create(first),
-            0..=3 => Call::Write(o, first),
-            4 => Call::Replace(o, first),
-            5 => Call::Pin(o),
-            6 | 7 => Call::Unpin(o),
-            8 => Call::Touch(o),
             9 | 10 => Call::Compact(self.other),
-            11..=13 => Call::Begin(Want::Object(o)),
-            14 => Call::Begin(Want::Coldest),
-            15..=17 => Call::Carry,
-            18..=20 => Call::Commit,
-            21 | 22 => Call::BeginFetch(o),
-            23 => Call::CarryFetch,
             24 => Call::Uncreate,
             25 | 26 => Call::ReplaceBoth([o, self.other], first, second),
             27 | 28 => Call::PinTogether([o, self.other, o]),
-            _ => Call::Install,
+            0..=8 => Call::On(o, self.change(first)),
+            _ => Call::Move(self.phase()),
+        }
+    }
+
+    fn change<L: Copy + Drop>(&self, list: L) -> Change<L> {
+        match self.kind {
+            0..=3 => Change::Write(list),
+            4 => Change::Replace(list),
+            5 => Change::Pin,
+            6 | 7 => Change::Unpin,
+            _ => Change::Touch,
+        }
+    }
+
+    fn phase(&self) -> Phase {
+        match self.kind {
+            11..=13 => Phase::Begin(Want::Object(self.object)),
+            14 => Phase::Begin(Want::Coldest),
+            15..=17 => Phase::Carry,
+            18..=20 => Phase::Commit,
+            21 | 22 => Phase::BeginFetch(self.object),
+            23 => Phase::CarryFetch,
+            _ => Phase::Install,
         }
     }
 }
 
-/// A list for a call that takes one, and else an empty one, for which nothing is drawn.
-fn list_for<T: Drawn>(is_taken: bool, alloc: Global, draws: &mut Draws) -> Result<Vec<T>, Refusal> {
-    if is_taken {
-        T::draw(alloc, draws)
-    } else {
-        Ok(Vec::new(alloc))
+/// The lists that were drawn in a walk, which its plain objects name by their indices. The first is empty.
+#[derive(Drop)]
+struct Lists<T> {
+    lists: Vec<Vec<T>>,
+}
+
+impl<T: Drawable> Lists<T> {
+    fn new(alloc: Global) -> Result<Lists<T>, Refusal> {
+        let mut lists = Vec::new(alloc);
+        lists.push(Vec::new(alloc))?;
+        Ok(Lists { lists })
     }
-}
 
-/// Makes one call that is drawn. Answers whether all goes as it should.
-fn step<T: Drawn, S: FarStore>(
-    alloc: Global,
-    draws: &mut Draws,
-    desk: &mut Desk<'_, T, S>,
-    plains: &mut Plains<T>,
-) -> Result<bool, Refusal> {
-    let roll = Roll::draw(draws, plains.count());
-    let first = list_for(roll.lists() > 0, alloc, draws)?;
-    let second = list_for(roll.lists() > 1, alloc, draws)?;
-    Ok(makes(alloc, &roll.call(&first, &second), desk, plains))
-}
+    /// A list for a call that takes one, and else the empty one, for which nothing is drawn.
+    fn draw(&mut self, is_taken: bool, alloc: Global, draws: &mut Draws) -> Result<Drawn, Refusal> {
+        if !is_taken {
+            return Ok(Drawn { index: 0, len: 0 });
+        }
+        let list = T::draw(alloc, draws)?;
+        let drawn = Drawn {
+            index: self.index_of(&list),
+            len: list.len(),
+        };
+        self.lists.push(list)?;
+        Ok(drawn)
+    }
 
-/// Makes a call on objects and on plain ones. Answers whether the replies agree, and then all objects.
-fn makes<T: Drawn, S: FarStore>(
-    alloc: Global,
-    call: &Call<'_, T>,
-    desk: &mut Desk<'_, T, S>,
-    plains: &mut Plains<T>,
-) -> bool {
-    desk.make(alloc, call) == plains.make(alloc, call) && agree(desk, plains)
-}
+    /// The index of the first list with these elements, or behind the last.
+    fn index_of(&self, elements: &[T]) -> usize {
+        for (index, list) in self.lists.iter().enumerate() {
+            if list.as_slice() == elements {
+                return index;
+            }
+        }
+        self.lists.len()
+    }
 
-/// Makes as many calls as are made over one store. Answers whether all goes as it should.
-fn take_steps<T: Drawn, S: FarStore>(
-    alloc: Global,
-    draws: &mut Draws,
-    desk: &mut Desk<'_, T, S>,
-    plains: &mut Plains<T>,
-) -> Result<bool, Refusal> {
-    for _ in 0..STEPS {
-        if !step(alloc, draws, desk, plains)? {
-            return Ok(false);
+    /// The elements of a list.
+    fn get(&self, drawn: Drawn) -> &[T] {
+        match self.lists.get(drawn.index) {
+            Some(list) => list,
+            None => &[],
         }
     }
-    Ok(true)
 }
 
-/// Whether each object is as it should be.
-fn agree<T: Drawn, S: FarStore>(desk: &Desk<'_, T, S>, plains: &Plains<T>) -> bool {
-    (0..plains.count()).all(|o| desk.list(o) == plains.list(o)
-        && desk.record(o) == plains.record(o))
+/// A walk: its draws, the lists that were drawn, and the objects as they should be.
+#[derive(Drop)]
+struct Walk<T> {
+    draws: Draws,
+    lists: Lists<T>,
+    plains: Plains,
+}
+
+impl<T: Drawable> Walk<T> {
+    /// Makes as many calls as are made over one store. Answers whether all goes as it should.
+    fn take_steps<S: FarStore>(
+        &mut self,
+        alloc: Global,
+        desk: &mut Desk<'_, T, S>,
+    ) -> Result<bool, Refusal> {
+        let mut agrees = true;
+        for _ in 0..STEPS {
+            agrees &= self.step(alloc, desk)?;
+        }
+        Ok(agrees)
+    }
+
+    /// Makes one call that is drawn. Answers whether all goes as it should.
+    fn step<S: FarStore>(
+        &mut self,
+        alloc: Global,
+        desk: &mut Desk<'_, T, S>,
+    ) -> Result<bool, Refusal> {
+        let roll = Roll::draw(&mut self.draws, self.plains.count());
+        let lists = roll.lists();
+        let first = self.lists.draw(lists > 0, alloc, &mut self.draws)?;
+        let second = self.lists.draw(lists > 1, alloc, &mut self.draws)?;
+        Ok(self.makes(alloc, desk, &roll, first, second))
+    }
+
+    /// Makes a call on objects and on plain ones. Answers whether the replies agree, and then all objects.
+    fn makes<S: FarStore>(
+        &mut self,
+        alloc: Global,
+        desk: &mut Desk<'_, T, S>,
+        roll: &Roll,
+        first: Drawn,
+        second: Drawn,
+    ) -> bool {
+        let call = roll.call(self.lists.get(first), self.lists.get(second));
+        let reply = desk.make(alloc, &call);
+        reply == self.plains.make(&roll.call(first, second)) && self.agrees(desk)
+    }
+
+    /// Gives the objects over to another store. Answers whether the replies agree, and then all objects.
+    fn renews<'a, S: FarStore>(
+        &mut self,
+        alloc: Global,
+        desk: &mut Desk<'a, T, S>,
+        next: &'a Numbered<S>,
+    ) -> bool {
+        desk.renew(alloc, &next.store) == self.plains.renew(next.numbers) && self.agrees(desk)
+    }
+
+    /// Whether each object is as it should be.
+    fn agrees<S: FarStore>(&self, desk: &Desk<'_, T, S>) -> bool {
+        for o in 0..self.plains.count() {
+            if !self.agrees_at(desk, o) {
+                return false;
+            }
+        }
+        true
+    }
+
+    fn agrees_at<S: FarStore>(&self, desk: &Desk<'_, T, S>, o: u32) -> bool {
+        let is_same = match (desk.list(o), self.plains.list(o)) {
+            (Ok(list), Ok(drawn)) => list == self.lists.get(drawn),
+            (Err(refusal), Err(due)) => refusal == due,
+            _ => false,
+        };
+        is_same && desk.record(o) == self.plains.record(o)
+    }
 }
 
 /// A store, and the numbers that it should give out.
@@ -198,51 +283,74 @@ struct Numbered<S> {
     numbers: Numbers,
 }
 
-/// The stores of a walk, each of which holds so much and fails in its own put and its own get.
-fn stores_of(
-    rt: &HostRuntime,
-    seed: u64,
-) -> Result<Vec<Numbered<FaultyStore<AgentStore<&HostRuntime>>>>, Refusal> {
-    let mut stores = Vec::new(rt.alloc());
-    for turn in 0..STORES {
+/// What the stores of walks are made by.
+trait Making {
+    type Store: FarStore;
+
+    /// One of the stores of a seed's walk.
+    fn store(&self, alloc: Global, seed: u64, turn: u64) -> Result<Numbered<Self::Store>, Refusal>;
+}
+
+/// Stores each of which takes so much and fails in its own put and its own get.
+#[derive(Drop)]
+struct Agents<R>(R);
+
+impl<R: Wait + Sync + Drop + Copy> Making for Agents<R> {
+    type Store = FaultyStore<AgentStore<R>>;
+
+    fn store(&self, alloc: Global, seed: u64, turn: u64) -> Result<Numbered<Self::Store>, Refusal> {
         let put = seed.wrapping_add(turn) % 7;
-        let get = seed.wrapping_add(2 * turn) % 5;
-        let capacity = 2 + seed.wrapping_add(5 * turn) % 11;
-        let agent = AgentStore::new(rt, rt.alloc(), capacity)?;
-        stores.push(Numbered {
-            store: FaultyStore::new(agent, put, get),
+        let get = seed.wrapping_add(turn.wrapping_mul(2)) % 5;
+        let capacity = 2 + seed.wrapping_add(turn.wrapping_mul(5)) % 11;
+        Ok(Numbered {
+            store: faulty(self.0, alloc, [capacity, put, get])?,
             numbers: Numbers::new(capacity, put, get),
-        })?;
+        })
     }
-    Ok(stores)
 }
 
-/// A store over a log.
-type Logged<'a> = FaultyStore<EngineStore<ByteLog, &'a HostRuntime>>;
+/// Stores over logs, each of which takes so many bytes, with forms like this, and fails in its own get.
+#[derive(Drop)]
+struct Logs<R>(R, Log);
 
-/// The stores of a walk over logs, each of which holds so many bytes and fails in its own get.
-fn logs_of<'a>(
-    rt: &'a HostRuntime,
-    seed: u64,
-    form: Log,
-) -> Result<Vec<Numbered<Logged<'a>>>, Refusal> {
-    let mut stores = Vec::new(rt.alloc());
-    for turn in 0..STORES {
-        let get = seed.wrapping_add(2 * turn) % 5;
-        let left = 20 + seed.wrapping_add(37 * turn) % 101;
-        let log = ByteLog::new(rt.alloc(), left as usize)?;
-        stores.push(Numbered {
-            store: FaultyStore::new(EngineStore::new(rt, rt.alloc(), log, 8)?, 0, get),
-            numbers: Numbers::logged(8, 0, get, Log { left, ..form }),
-        })?;
+impl<R: Wait + Sync + Drop + Copy> Making for Logs<R> {
+    type Store = Logged<R>;
+
+    fn store(&self, alloc: Global, seed: u64, turn: u64) -> Result<Numbered<Self::Store>, Refusal> {
+        let get = seed.wrapping_add(turn.wrapping_mul(2)) % 5;
+        let left = 20 + seed.wrapping_add(turn.wrapping_mul(37)) % 101;
+        Ok(Numbered {
+            store: logged(self.0, alloc, left as usize, [8, get])?,
+            numbers: Numbers::logged(8, 0, get, Log { left, ..self.1 }),
+        })
     }
-    Ok(stores)
 }
 
-/// Whether a walk of random calls that begins with no object goes as it should, over stores in turn.
-fn walks_over<T: Drawn, S: FarStore>(
+/// The first seed whose walk, which begins with no object and goes over several stores, does not go as it should.
+fn first_wrong<T: Drawable, M: Making>(
     alloc: Global,
-    stores: Vec<Numbered<S>>,
+    making: &M,
+) -> Result<Option<usize>, Refusal> {
+    for seed in 0..WALKS {
+        if !walks::<T, M>(alloc, making, seed as u64)? {
+            return Ok(Some(seed));
+        }
+    }
+    Ok(None)
+}
+
+/// Whether a walk goes as it should.
+fn walks<T: Drawable, M: Making>(alloc: Global, making: &M, seed: u64) -> Result<bool, Refusal> {
+    let mut stores = Vec::new(alloc);
+    for turn in 0..STORES {
+        stores.push(making.store(alloc, seed, turn)?)?;
+    }
+    walks_over::<T, M::Store>(alloc, &stores, seed)
+}
+
+fn walks_over<T: Drawable, S: FarStore>(
+    alloc: Global,
+    stores: &[Numbered<S>],
     seed: u64,
 ) -> Result<bool, Refusal> {
     match stores.split_first() {
@@ -251,74 +359,44 @@ fn walks_over<T: Drawn, S: FarStore>(
     }
 }
 
-fn walks_from<'a, T: Drawn, S: FarStore>(
+fn walks_from<'a, T: Drawable, S: FarStore>(
     alloc: Global,
     first: &'a Numbered<S>,
     others: &'a [Numbered<S>],
     seed: u64,
 ) -> Result<bool, Refusal> {
-    let mut desk: Desk<'_, T, S> = Desk::new(alloc, &first.store, 0, LIMITS)?;
-    walks_on(alloc, &mut desk, first.numbers, others, seed)
+    let mut walk: Walk<T> = Walk {
+        draws: Draws::new(seed),
+        lists: Lists::new(alloc)?,
+        plains: Plains::new(alloc, 0, LIMITS, first.numbers),
+    };
+    walks_with(alloc, &first.store, others, &mut walk)
 }
 
-fn walks_on<'a, T: Drawn, S: FarStore>(
+fn walks_with<'a, T: Drawable, S: FarStore>(
     alloc: Global,
-    desk: &mut Desk<'a, T, S>,
-    numbers: Numbers,
+    store: &'a S,
     others: &'a [Numbered<S>],
-    seed: u64,
+    walk: &mut Walk<T>,
 ) -> Result<bool, Refusal> {
-    let mut plains = Plains::new(alloc, 0, LIMITS, numbers);
-    go_over(alloc, &mut Draws::new(seed), desk, &mut plains, others)
+    match Desk::new(alloc, store, 0, LIMITS) {
+        Ok(mut desk) => walks_on(alloc, &mut desk, others, walk),
+        Err(refusal) => Err(refusal),
+    }
 }
 
-fn go_over<'a, T: Drawn, S: FarStore>(
+fn walks_on<'a, T: Drawable, S: FarStore>(
     alloc: Global,
-    draws: &mut Draws,
     desk: &mut Desk<'a, T, S>,
-    plains: &mut Plains<T>,
     others: &'a [Numbered<S>],
+    walk: &mut Walk<T>,
 ) -> Result<bool, Refusal> {
-    let mut agrees = take_steps(alloc, draws, desk, plains)?;
+    let mut agrees = walk.take_steps(alloc, desk)?;
     for next in others {
-        agrees &= renews(alloc, desk, plains, next);
-        agrees &= take_steps(alloc, draws, desk, plains)?;
+        agrees &= walk.renews(alloc, desk, next);
+        agrees &= walk.take_steps(alloc, desk)?;
     }
     Ok(agrees)
-}
-
-/// Gives the objects over to another store. Answers whether the replies agree, and then all objects.
-fn renews<'a, T: Drawn, S: FarStore>(
-    alloc: Global,
-    desk: &mut Desk<'a, T, S>,
-    plains: &mut Plains<T>,
-    next: &'a Numbered<S>,
-) -> bool {
-    desk.renew(alloc, &next.store) == plains.renew(alloc, next.numbers) && agree(desk, plains)
-}
-
-#[test]
-fn random_calls_on_numbers_agree_with_plain_objects(rt: HostRuntime) -> Result<(), Fail> {
-    for seed in 0..WALKS {
-        let stores = stores_of(&rt, seed)?;
-        assert!(rt;
-            walks_over::<Option<i64>, _>(rt.alloc(), stores, seed)?,
-            "seed {seed}"
-        );
-    }
-    Ok(())
-}
-
-#[test]
-fn random_calls_on_texts_agree_with_plain_objects(rt: HostRuntime) -> Result<(), Fail> {
-    for seed in 0..WALKS {
-        let stores = stores_of(&rt, seed)?;
-        assert!(rt;
-            walks_over::<u8, _>(rt.alloc(), stores, seed)?,
-            "seed {seed}"
-        );
-    }
-    Ok(())
 }
 
 // What the form of a list has: a text list is its own form, and numbers of which none is missing have 8 bytes each.
@@ -335,25 +413,21 @@ const NUMBERS: Log = Log {
 };
 
 #[test]
+fn random_calls_on_numbers_agree_with_plain_objects(rt: HostRuntime) -> Result<(), Fail> {
+    answered(first_wrong::<Option<i64>, _>(rt.alloc(), &Agents(&rt)))
+}
+
+#[test]
+fn random_calls_on_texts_agree_with_plain_objects(rt: HostRuntime) -> Result<(), Fail> {
+    answered(first_wrong::<u8, _>(rt.alloc(), &Agents(&rt)))
+}
+
+#[test]
 fn random_calls_on_texts_agree_over_logs_that_fill_up(rt: HostRuntime) -> Result<(), Fail> {
-    for seed in 0..WALKS {
-        let stores = logs_of(&rt, seed, TEXTS)?;
-        assert!(rt;
-            walks_over::<u8, _>(rt.alloc(), stores, seed)?,
-            "seed {seed}"
-        );
-    }
-    Ok(())
+    answered(first_wrong::<u8, _>(rt.alloc(), &Logs(&rt, TEXTS)))
 }
 
 #[test]
 fn random_calls_on_numbers_agree_over_logs_that_fill_up(rt: HostRuntime) -> Result<(), Fail> {
-    for seed in 0..WALKS {
-        let stores = logs_of(&rt, seed, NUMBERS)?;
-        assert!(rt;
-            walks_over::<i64, _>(rt.alloc(), stores, seed)?,
-            "seed {seed}"
-        );
-    }
-    Ok(())
+    answered(first_wrong::<i64, _>(rt.alloc(), &Logs(&rt, NUMBERS)))
 }

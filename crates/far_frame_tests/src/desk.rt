@@ -1,5 +1,5 @@
 //! A table with its store.
-ghost use Rattle.std.specs.Prelude.{ℕ, List, IfOk};
+ghost use Rattle.std.specs.Prelude.{◌+◌, ◌<◌, ◌≤◌, ◌^◌, ℕ, List, IfOk};
 ghost use Rattle.far_rows.specs.Jobs.{AreAt};
 ghost use Rattle.far_frame.specs.Jobs.{IsJobAt};
 
@@ -10,6 +10,7 @@ use far_store::{FarStore, FarTickets, Meter};
 use far_types::{Cell, Fold, Limits, Name, Refusal, Spec};
 use std::alloc::Global;
 use std::marker::Model;
+use std::thread::Threads;
 
 /// How many places a row group has, and the table at most.
 pub const SIZE: u32 = 3;
@@ -139,6 +140,26 @@ impl<'a, S: FarStore> Desk<'a, S> {
     /// Whether an aggregate answers these lines, or is refused so. Nothing can be said where memory is wanting.
     pub fn has_answer(&self, a: u32, due: Result<&[Line], Refusal>) -> Result<bool, Refusal> {
         match (self.frame.ask(a), due) {
+            (Err(Refusal::NoMemory), _) => Err(Refusal::NoMemory),
+            (Ok(answer), Ok(lines)) => Ok(is_answer(&answer, lines)),
+            (Err(given), Err(due)) => Ok(given == due),
+            _ => Ok(false),
+        }
+    }
+
+    /// Whether a recount by so many workers gives these lines, or is refused so. Nothing can be said where memory is wanting.
+    pub fn has_recount<R: Threads + Sync>(
+        &self,
+        rt: &R,
+        meter: &mut Meter,
+        a: u32,
+        workers: u32,
+        due: Result<&[Line], Refusal>,
+    ) -> Result<bool, Refusal>
+        requires { meter.old < 2 ^ 63 }
+        ensures { meter.new ≤ meter.old + workers }
+    {
+        match (self.frame.recount(rt, self.store, meter, a, workers), due) {
             (Err(Refusal::NoMemory), _) => Err(Refusal::NoMemory),
             (Ok(answer), Ok(lines)) => Ok(is_answer(&answer, lines)),
             (Err(given), Err(due)) => Ok(given == due),

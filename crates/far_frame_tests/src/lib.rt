@@ -11,6 +11,10 @@ mod moving;
 #[cfg(test)]
 mod random_run;
 #[cfg(test)]
+mod random_steps;
+#[cfg(test)]
+mod recounting;
+#[cfg(test)]
 mod repeating;
 #[cfg(test)]
 mod script;

@@ -68,8 +68,8 @@ fn play_over<S: FarStore>(
     first_wrong(&mut desk, script)
 }
 
-// The index of the first step that does not come out as it should.
-fn first_wrong<S: FarStore>(
+/// The index of the first step that does not come out as it should.
+pub fn first_wrong<S: FarStore>(
     desk: &mut Desk<'_, S>,
     script: &[Step],
 ) -> Result<Option<usize>, Refusal> {

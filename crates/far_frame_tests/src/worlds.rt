@@ -1,12 +1,13 @@
-//! Lendings and jobs as steps of a world, over stores that fail or are full, and worlds that go on with another store.
+//! Lendings, jobs and offloaded builds as steps of a world, over stores that fail or are full, and worlds that go on with another store.
 use crate::answers::is_answer;
 use crate::script::answered;
 use crate::values::spec;
 use far_fixtures::agent;
 use far_frame::{Frame, IntPiece, Reply, Step, World};
-use far_store::{FarStore, FaultyStore};
+use far_store::{AgentStore, FarStore, FaultyStore};
 use far_types::{Answer, Cell, Edit, Fold, Kind, Limits, Refusal, Row, Schema};
 use std::alloc::Global;
+use std::sync::Wait;
 use std::test::Fail;
 
 /// A step on a table of a column of numbers in row groups of two, with an aggregate of them.
@@ -14,12 +15,17 @@ use std::test::Fail;
 enum Call {
     Watch,
     Insert(i64),
-    Ask,
+    Ask(u32),
+    /// Forgets aggregate 1, or builds a row group into it.
+    Unwatch,
+    Scan(u32),
+    Offload(u32),
     Evac(u32),
     Fetch(u32),
     Carry(u64),
     Commit(u64),
     Install(u64),
+    Merge(u64),
     /// The places of column 0 from the first number up to the second.
     Lend(u32, u32),
     /// What to fetch next of column 0.
@@ -55,10 +61,10 @@ static SECOND_PUT: [(Call, Due); 9] = [
     (Call::Carry(0), Due::Done),
     (Call::Carry(1), Due::Refused(Refusal::FarFault)),
     (Call::Commit(0), Due::Done),
-    (Call::Ask, Due::Total(3, 18)),
+    (Call::Ask(0), Due::Total(3, 18)),
     (Call::Carry(1), Due::Done),
     (Call::Commit(1), Due::Done),
-    (Call::Ask, Due::Total(3, 18)),
+    (Call::Ask(0), Due::Total(3, 18)),
 ];
 
 /// The first fetch meets a fault; its job stays.
@@ -68,7 +74,7 @@ static FIRST_GET: [(Call, Due); 9] = [
     (Call::Commit(0), Due::Done),
     (Call::Fetch(1), Due::Job(1)),
     (Call::Carry(1), Due::Refused(Refusal::FarFault)),
-    (Call::Ask, Due::Total(3, 18)),
+    (Call::Ask(0), Due::Total(3, 18)),
     (Call::Carry(1), Due::Done),
     (Call::Install(1), Due::Done),
     (Call::Insert(8), Due::Place(3)),
@@ -115,19 +121,87 @@ static AWAY: [(Call, Due); 3] = [
 
 /// Nothing of it is lent, and the table answers.
 static STAYED: [(Call, Due); 2] = [
-    (Call::Ask, Due::Total(3, 18)),
+    (Call::Ask(0), Due::Total(3, 18)),
     (Call::Lend(1, 3), Due::Refused(ABSENT)),
 ];
 
 /// It comes back from the store that the world went on with; the numbers of jobs go on.
 static WENT_ON: [(Call, Due); 7] = [
-    (Call::Ask, Due::Total(3, 18)),
+    (Call::Ask(0), Due::Total(3, 18)),
     (Call::Commit(0), Due::Refused(Refusal::StaleJob)),
     (Call::Evac(1), Due::Job(1)),
     (Call::Fetch(0), Due::Job(2)),
     (Call::Carry(2), Due::Done),
     (Call::Install(2), Due::Done),
     (Call::Lend(0, 3), Due::Lent(&[5, 6, 7])),
+];
+
+/// A row group that is away is built in from the store, whose first read fails, as a scan builds in the other.
+static BUILT: [(Call, Due); 15] = [
+    (Call::Watch, Due::Aggregate(1)),
+    (Call::Offload(0), Due::Refused(Refusal::StaleJob)),
+    (Call::Evac(0), Due::Job(0)),
+    (Call::Carry(0), Due::Done),
+    (Call::Commit(0), Due::Done),
+    (Call::Scan(0), Due::Refused(ABSENT)),
+    (Call::Offload(0), Due::Job(1)),
+    (Call::Carry(1), Due::Refused(Refusal::FarFault)),
+    (Call::Carry(1), Due::Done),
+    (Call::Merge(1), Due::Done),
+    (Call::Merge(1), Due::Refused(Refusal::StaleJob)),
+    (Call::Offload(0), Due::Refused(Refusal::StaleJob)),
+    (Call::Ask(1), Due::Refused(Refusal::Building(1))),
+    (Call::Scan(1), Due::Done),
+    (Call::Ask(1), Due::Total(3, 18)),
+];
+
+/// The object is local again and clean when the build begins; a row is inserted before its end.
+static OUTDATED: [(Call, Due); 15] = [
+    (Call::Watch, Due::Aggregate(1)),
+    (Call::Evac(1), Due::Job(0)),
+    (Call::Carry(0), Due::Done),
+    (Call::Commit(0), Due::Done),
+    (Call::Fetch(1), Due::Job(1)),
+    (Call::Carry(1), Due::Done),
+    (Call::Install(1), Due::Done),
+    (Call::Offload(1), Due::Job(2)),
+    (Call::Carry(2), Due::Done),
+    (Call::Insert(8), Due::Place(3)),
+    (Call::Merge(2), Due::Refused(Refusal::StaleJob)),
+    (Call::Carry(2), Due::Refused(Refusal::StaleJob)),
+    (Call::Scan(1), Due::Done),
+    (Call::Scan(0), Due::Done),
+    (Call::Ask(1), Due::Total(4, 26)),
+];
+
+/// A build keeps its number while its aggregate is forgotten, and is not that of another.
+static FORGOTTEN: [(Call, Due); 12] = [
+    (Call::Watch, Due::Aggregate(1)),
+    (Call::Evac(0), Due::Job(0)),
+    (Call::Carry(0), Due::Done),
+    (Call::Commit(0), Due::Done),
+    (Call::Offload(0), Due::Job(1)),
+    (Call::Carry(1), Due::Done),
+    (Call::Unwatch, Due::Done),
+    (Call::Merge(1), Due::Refused(Refusal::NoAggregate)),
+    (Call::Watch, Due::Aggregate(1)),
+    (Call::Merge(1), Due::Refused(Refusal::StaleJob)),
+    (Call::Unwatch, Due::Done),
+    (Call::Merge(1), Due::Refused(Refusal::StaleJob)),
+];
+
+/// A build that was not carried is stale at its end, and so is one at the end of another job.
+static UNCARRIED: [(Call, Due); 10] = [
+    (Call::Watch, Due::Aggregate(1)),
+    (Call::Evac(0), Due::Job(0)),
+    (Call::Carry(0), Due::Done),
+    (Call::Commit(0), Due::Done),
+    (Call::Offload(0), Due::Job(1)),
+    (Call::Merge(1), Due::Refused(Refusal::StaleJob)),
+    (Call::Carry(1), Due::Refused(Refusal::StaleJob)),
+    (Call::Offload(0), Due::Job(2)),
+    (Call::Install(2), Due::Refused(Refusal::StaleJob)),
+    (Call::Offload(2), Due::Refused(Refusal::OutOfRange)),
 ];
 
 /// The object of the first row group is away.
@@ -145,12 +219,19 @@ fn step(alloc: Global, call: Call) -> Result<Step, Refusal> {
     Ok(match call {
         Call::Watch => Step::Watch(spec(alloc, Fold::Totals, None)),
         Call::Insert(number) => return insert(alloc, number),
-        Call::Ask => Step::Ask(0),
+        Call::Ask(a) => Step::Ask(a),
+        Call::Unwatch => Step::Unwatch(1),
+        Call::Scan(group) => Step::ScanGroup(1, group),
+        Call::Offload(group) => Step::BeginOffload {
+            aggregate: 1,
+            group,
+        },
         Call::Evac(group) => Step::BeginEvac { column: 0, group },
         Call::Fetch(group) => Step::BeginFetch { column: 0, group },
         Call::Carry(job) => Step::Carry(job),
         Call::Commit(job) => Step::Commit(job),
         Call::Install(job) => Step::Install(job),
+        Call::Merge(job) => Step::Merge(job),
         Call::Lend(from, to) => Step::Lend {
             column: 0,
             from,
@@ -271,6 +352,37 @@ fn a_carry_that_met_a_fault_is_repeated(rt: HostRuntime) -> Result<(), Fail> {
 fn a_fetch_that_met_a_fault_is_repeated(rt: HostRuntime) -> Result<(), Fail> {
     let store = FaultyStore::new(agent(&rt, 16)?, 0, 1);
     answered(first_other_over(rt.alloc(), store, &FIRST_GET))
+}
+
+/// The first step that has another reply than is due, over a store that fails this get.
+fn first_other_on<R: Wait + Sync + Drop>(
+    rt: R,
+    alloc: Global,
+    failing_get: u64,
+    calls: &[(Call, Due)],
+) -> Result<Option<usize>, Refusal> {
+    let far = AgentStore::new(rt, alloc, 16)?;
+    first_other_over(alloc, FaultyStore::new(far, 0, failing_get), calls)
+}
+
+#[test]
+fn a_row_group_that_is_away_is_built_in(rt: HostRuntime) -> Result<(), Fail> {
+    answered(first_other_on(&rt, rt.alloc(), 1, &BUILT))
+}
+
+#[test]
+fn a_build_is_stale_once_a_row_was_inserted(rt: HostRuntime) -> Result<(), Fail> {
+    answered(first_other_on(&rt, rt.alloc(), 0, &OUTDATED))
+}
+
+#[test]
+fn a_build_waits_while_its_aggregate_is_forgotten(rt: HostRuntime) -> Result<(), Fail> {
+    answered(first_other_on(&rt, rt.alloc(), 0, &FORGOTTEN))
+}
+
+#[test]
+fn a_build_that_was_not_carried_is_stale(rt: HostRuntime) -> Result<(), Fail> {
+    answered(first_other_on(&rt, rt.alloc(), 0, &UNCARRIED))
 }
 
 #[test]

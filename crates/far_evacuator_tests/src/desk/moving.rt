@@ -1,37 +1,39 @@
 // Jobs that are begun, carried and accepted.
-ghost use Rattle.std.specs.Prelude.{◌≡◌, IfOk, IfErr};
+ghost use Rattle.std.specs.Prelude.{IfOk};
 ghost use Rattle.far_scopes.specs.Movement.{AreHere};
 ghost use Rattle.far_evacuator.specs.Jobs.{IsFormOf};
 
 use super::Desk;
-use crate::call::Call;
-use far_evacuator::{
-    Carried, EvacJob, FetchJob, Fetched, Want, begin_evac, begin_fetch, commit, install,
-};
-use far_fixtures::{Element, digest_of};
+use crate::call::Phase;
+use far_evacuator::{EvacJob, Want, begin_evac, begin_fetch, commit, install};
+use far_fixtures::Element;
 use far_scopes::Objects;
 use far_store::{FarStore, Meter};
 use far_types::Refusal;
 use std::alloc::Global;
 
 impl<'a, T: Element, S: FarStore> Desk<'a, T, S> {
-    // Makes a call of a job.
-    pub(super) fn move_object(&mut self, alloc: Global, call: &Call<'_, T>) -> Result<(), Refusal> {
-        match *call {
-            Call::Begin(want) => self.begin(alloc, want),
-            Call::Carry => self.carry(alloc),
-            Call::Commit => self.commit(),
-            Call::BeginFetch(o) => self.begin_fetch(o),
-            Call::CarryFetch => self.carry_fetch(alloc),
-            Call::Install => self.install(alloc),
-            _ => Ok(()),
+    // A phase of a job.
+    pub(super) fn move_object(&mut self, alloc: Global, phase: Phase) -> Result<(), Refusal> {
+        match phase {
+            Phase::Begin(want) => self.begin(alloc, want),
+            Phase::Carry => self.carry(alloc),
+            Phase::Commit => self.commit(),
+            Phase::BeginFetch(o) => self.begin_fetch(o),
+            Phase::CarryFetch => self.carry_fetch(alloc),
+            Phase::Install => self.install(alloc),
         }
     }
 
     /// Begins an evacuation of an object, or of the coldest where none is named.
     fn begin(&mut self, alloc: Global, want: Want) -> Result<(), Refusal> {
-        self.evac = Some(begin_spelled(alloc, &self.objects, self.store, want)?);
-        Ok(())
+        match begin_spelled(alloc, &self.objects, self.store, want) {
+            Ok(job) => {
+                self.evac = Some(job);
+                Ok(())
+            }
+            Err(refusal) => Err(refusal),
+        }
     }
 
     /// Carries the evacuation that was begun last.
@@ -39,7 +41,7 @@ impl<'a, T: Element, S: FarStore> Desk<'a, T, S> {
         let Some(job) = self.evac.take() else {
             return Err(Refusal::StaleJob);
         };
-        match carried(job, alloc, self.store) {
+        match job.carry(alloc, self.store, &mut Meter::new()) {
             Ok(carried) => {
                 self.carried = Some(carried);
                 Ok(())
@@ -61,9 +63,16 @@ impl<'a, T: Element, S: FarStore> Desk<'a, T, S> {
 
     /// Begins a fetch.
     fn begin_fetch(&mut self, o: u32) -> Result<(), Refusal> {
-        self.in_use(o)?;
-        self.fetch = Some(begin_fetch(&self.objects, self.store, o)?);
-        Ok(())
+        if o >= self.objects.count() {
+            return Err(Refusal::NoRow);
+        }
+        match begin_fetch(&self.objects, self.store, o) {
+            Ok(job) => {
+                self.fetch = Some(job);
+                Ok(())
+            }
+            Err(refusal) => Err(refusal),
+        }
     }
 
     /// Carries the fetch that was begun last.
@@ -71,7 +80,7 @@ impl<'a, T: Element, S: FarStore> Desk<'a, T, S> {
         let Some(job) = self.fetch.take() else {
             return Err(Refusal::StaleJob);
         };
-        match fetched(job, alloc, self.store) {
+        match job.carry(alloc, self.store, &mut Meter::new()) {
             Ok(fetched) => {
                 self.fetched = Some(fetched);
                 Ok(())
@@ -85,30 +94,10 @@ impl<'a, T: Element, S: FarStore> Desk<'a, T, S> {
 
     /// Installs the fetch that was carried last, and keeps it.
     fn install(&mut self, alloc: Global) -> Result<(), Refusal> {
-        let Some(fetched) = &self.fetched else {
-            return Err(Refusal::StaleJob);
-        };
-        let before = digest_of(&self.objects);
-        match install(alloc, &mut self.objects, self.store, fetched) {
-            Err(Refusal::NoMemory) if digest_of(&self.objects) == before => {
-                install(alloc, &mut self.objects, self.store, fetched)
-            }
-            reply => reply,
+        match &self.fetched {
+            Some(fetched) => install(alloc, &mut self.objects, self.store, fetched),
+            None => Err(Refusal::StaleJob),
         }
-    }
-
-    /// Sends an object away.
-    pub fn evacuate(&mut self, alloc: Global, o: u32) -> Result<(), Refusal> {
-        self.begin(alloc, Want::Object(o))?;
-        self.carry(alloc)?;
-        self.commit()
-    }
-
-    /// Brings an object back.
-    pub fn fetch_back(&mut self, alloc: Global, o: u32) -> Result<(), Refusal> {
-        self.begin_fetch(o)?;
-        self.carry_fetch(alloc)?;
-        self.install(alloc)
     }
 }
 
@@ -122,50 +111,19 @@ fn begin_spelled<T: Element, S: FarStore>(
     requires { AreHere S.is_of (S.name store.now) objects.now }
     ensures { IfOk result (λ job. IsFormOf S.is_of (S.name store.now) job.form) }
 {
-    let taken = match want {
+    let wanted = match want {
         Want::Object(o) => Some(o),
         Want::Coldest => objects.coldest(),
     };
-    if let Some(o) = taken {
+    if let Some(o) = wanted {
         if o >= objects.count() {
             return Err(Refusal::NoRow);
         }
-        if !T::is_spelled(objects.lend(o)?) {
-            return Err(Refusal::WrongKind);
+        match objects.lend(o) {
+            Ok(list) if T::is_spelled(list) => {}
+            Ok(_) => return Err(Refusal::WrongKind),
+            Err(refusal) => return Err(refusal),
         }
     }
-    match begin_evac(alloc, objects, store, want) {
-        Err(Refusal::NoMemory) => begin_evac(alloc, objects, store, want),
-        reply => reply,
-    }
-}
-
-fn carried<T: Element, S: FarStore>(
-    job: EvacJob<T, S>,
-    alloc: Global,
-    store: &S,
-) -> Result<Carried<T, S>, (Refusal, EvacJob<T, S>)>
-    requires { IsFormOf S.is_of (S.name store.now) job.form }
-    ensures here { IfOk result (λ carried. S.is_of carried.ticket (S.name store.now)) }
-    ensures back { IfErr result (λ refused. refused.1 ≡ job) }
-{
-    match job.carry(alloc, store, &mut Meter::new()) {
-        Err((Refusal::NoMemory, job)) => job.carry(alloc, store, &mut Meter::new()),
-        reply => reply,
-    }
-}
-
-fn fetched<S: FarStore>(
-    job: FetchJob<S>,
-    alloc: Global,
-    store: &S,
-) -> Result<Fetched<S>, (Refusal, FetchJob<S>)>
-    requires { S.is_of job.ticket (S.name store.now) }
-    ensures here { IfOk result (λ fetched. S.is_of fetched.job.ticket (S.name store.now)) }
-    ensures back { IfErr result (λ refused. refused.1 ≡ job) }
-{
-    match job.carry(alloc, store, &mut Meter::new()) {
-        Err((Refusal::NoMemory, job)) => job.carry(alloc, store, &mut Meter::new()),
-        reply => reply,
-    }
+    begin_evac(alloc, objects, store, want)
 }

@@ -1,6 +1,4 @@
 // Objects that are given over to another store.
-ghost use Rattle.std.specs.Prelude.{IfOk};
-ghost use Rattle.far_scopes.specs.Movement.{AreHere};
 ghost use Rattle.far_scopes.specs.Renewal.{Renews, AreTicketsHere};
 
 use super::{Desk, Limits, no_objects};
@@ -19,9 +17,19 @@ const NO_ROOM: Limits = Limits {
 };
 
 impl<'a, T: Element, S: FarStore> Desk<'a, T, S> {
-    /// Gives the objects over to another store, where there is no job then. Refused, all is as it was.
+    /// Gives the objects over to another store, where there is no job then. Refused, all is as it was; it is asked for once
+    /// more where memory was refused.
     pub fn renew(&mut self, alloc: Global, store: &'a S) -> Result<(), Refusal> {
-        let renewal = renewal(alloc, &self.objects, self.store, store)?;
+        match self.renew_once(alloc, store) {
+            Err(Refusal::NoMemory) => self.renew_once(alloc, store),
+            reply => reply,
+        }
+    }
+
+    fn renew_once(&mut self, alloc: Global, store: &'a S) -> Result<(), Refusal> {
+        let renewal = self
+            .objects
+            .renewal(alloc, self.store, store, &mut Meter::new())?;
         // Renewing takes the objects, so others stand for them meanwhile.
         let none = no_objects(alloc, 0, NO_ROOM)?;
         self.go_over(store, renewal, none);
@@ -35,21 +43,5 @@ impl<'a, T: Element, S: FarStore> Desk<'a, T, S> {
     {
         let objects = mem::replace(&mut self.objects, none);
         *self = Desk::over(store, objects.renew(renewal));
-    }
-}
-
-fn renewal<T: Element, S: FarStore>(
-    alloc: Global,
-    objects: &Objects<T, S>,
-    store: &S,
-    new_store: &S,
-) -> Result<Renewal<S>, Refusal>
-    requires here { AreHere S.is_of (S.name store.now) objects.now }
-    ensures renews { IfOk result (λ tickets. Renews S.content S.content objects.now tickets) }
-    ensures there { IfOk result (λ tickets. AreTicketsHere S.is_of (S.name new_store.now) tickets) }
-{
-    match objects.renewal(alloc, store, new_store, &mut Meter::new()) {
-        Err(Refusal::NoMemory) => objects.renewal(alloc, store, new_store, &mut Meter::new()),
-        reply => reply,
     }
 }

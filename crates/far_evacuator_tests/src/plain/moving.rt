@@ -1,91 +1,92 @@
 // Plain objects: jobs that are begun, carried and accepted.
-use super::{Job, Plains};
-use crate::call::Call;
-use crate::desk::Record;
+use super::{Job, Plain, Plains, lower, ranked};
+use crate::call::{Phase, away};
 use far_evacuator::Want;
 use far_types::Refusal;
-use std::alloc::Global;
 
-impl<T: Copy + Drop + PartialEq> Plains<T> {
-    // Makes a call of a job.
-    pub(super) fn move_object(&mut self, alloc: Global, call: &Call<'_, T>) -> Result<(), Refusal> {
-        match *call {
-            Call::Begin(want) => self.begin(alloc, want),
-            Call::Carry => self.carry(),
-            Call::Commit => self.commit(),
-            Call::BeginFetch(o) => self.begin_fetch(o),
-            Call::CarryFetch => self.carry_fetch(),
-            Call::Install => self.install(),
-            _ => Ok(()),
+impl Plains {
+    /// A phase of a job.
+    pub(super) fn move_object(&mut self, phase: Phase) -> Result<(), Refusal> {
+        match phase {
+            Phase::Begin(want) => self.begin(want),
+            Phase::Carry => self.carry(),
+            Phase::Commit => self.commit(),
+            Phase::BeginFetch(o) => self.begin_fetch(o),
+            Phase::CarryFetch => self.carry_fetch(),
+            Phase::Install => self.install(),
         }
     }
 
-    fn begin(&mut self, alloc: Global, want: Want) -> Result<(), Refusal> {
-        let o = match want {
-            Want::Object(o) => o,
-            Want::Coldest => self.coldest().ok_or(Refusal::StaleJob)?,
+    // A job on an object.
+    fn job_on(&self, o: u32) -> Option<Job> {
+        match self.object(o) {
+            Some(object) => Some(Job {
+                number: self.number,
+                object: o,
+                record: object.record,
+                list: object.list,
+                ticket: object.record.ticket,
+            }),
+            None => None,
+        }
+    }
+
+    fn begin(&mut self, want: Want) -> Result<(), Refusal> {
+        let wanted = match want {
+            Want::Object(o) => Some(o),
+            Want::Coldest => self.coldest(),
         };
-        let object = self.local(o)?;
-        let list = if object.record.dirty {
-            Some(object.list.to_vec(alloc)?)
-        } else {
-            None
+        let Some(o) = wanted else {
+            return Err(Refusal::StaleJob);
         };
-        self.evac = Some(Job {
-            number: self.number,
-            object: o,
-            record: object.record,
-            list,
-            ticket: object.record.ticket,
-        });
-        Ok(())
+        match self.job_on(o) {
+            Some(job) if job.record.local => {
+                self.evac = Some(job);
+                Ok(())
+            }
+            Some(_) => Err(away(o)),
+            None => Err(Refusal::NoRow),
+        }
     }
 
     fn carry(&mut self) -> Result<(), Refusal> {
-        let Some(job) = &mut self.evac else {
+        let Some(mut job) = self.evac else {
             return Err(Refusal::StaleJob);
         };
-        if let Some(list) = &job.list {
-            job.ticket = Some(self.store.put(list.len())?);
+        if job.record.dirty {
+            job.ticket = Some(self.store.put(job.list.len)?);
         }
-        self.carried = self.evac.take();
+        self.carried = Some(job);
+        self.evac = None;
         Ok(())
     }
 
     fn commit(&mut self) -> Result<(), Refusal> {
-        let Some(job) = &self.carried else {
+        let Some(job) = self.carried else {
             return Err(Refusal::StaleJob);
         };
-        let (o, ticket) = (job.object, job.ticket);
-        if !self.is_committable(job) {
-            return Err(Refusal::StaleJob);
+        match self.object(job.object) {
+            Some(object) if self.is_committable(&job, object) => {
+                if object.record.pins > 0 {
+                    return Err(Refusal::Pinned);
+                }
+                let gone = object.gone(job.ticket);
+                self.put(job.object, gone);
+                Ok(())
+            }
+            _ => Err(Refusal::StaleJob),
         }
-        let object = self.object_mut(o)?;
-        if object.record.pins > 0 {
-            return Err(Refusal::Pinned);
-        }
-        object.place = None;
-        object.record = Record {
-            local: false,
-            dirty: false,
-            hot: false,
-            leavings: object.record.leavings.saturating_add(1),
-            ticket,
-            ..object.record
-        };
-        self.order.retain(|other| *other != o);
-        Ok(())
     }
 
-    fn is_committable(&self, job: &Job<T>) -> bool {
-        let Ok(object) = self.local(job.object) else {
-            return false;
+    // A dirty object has to have the list that was carried, and another one its ticket.
+    fn is_committable(&self, job: &Job, object: &Plain) -> bool {
+        let is_still = if job.record.dirty {
+            object.list.index == job.list.index
+        } else {
+            !object.record.dirty && object.record.ticket == job.ticket
         };
-        let is_still = match &job.list {
-            Some(list) => list.as_slice() == object.list.as_slice(),
-            None => !object.record.dirty && object.record.ticket == job.ticket,
-        };
-        job.number == self.number
+        object.record.local
+            && job.number == self.number
             && object.record.version == job.record.version
             && object.record.leavings == job.record.leavings
             && object.record.leavings < self.limits.leavings
@@ -93,66 +94,73 @@ impl<T: Copy + Drop + PartialEq> Plains<T> {
     }
 
     fn begin_fetch(&mut self, o: u32) -> Result<(), Refusal> {
-        let object = self.object(o)?;
-        if object.record.local {
-            return Err(Refusal::StaleJob);
+        match self.job_on(o) {
+            Some(job) if !job.record.local => {
+                self.fetch = Some(job);
+                Ok(())
+            }
+            Some(_) => Err(Refusal::StaleJob),
+            None => Err(Refusal::NoRow),
         }
-        self.fetch = Some(Job {
-            number: self.number,
-            object: o,
-            record: object.record,
-            list: None,
-            ticket: object.record.ticket,
-        });
-        Ok(())
     }
 
     fn carry_fetch(&mut self) -> Result<(), Refusal> {
-        if self.fetch.is_none() {
+        let Some(job) = self.fetch else {
             return Err(Refusal::StaleJob);
-        }
+        };
         self.store.get()?;
-        self.fetched = self.fetch.take();
+        self.fetched = Some(job);
+        self.fetch = None;
         Ok(())
     }
 
     fn install(&mut self) -> Result<(), Refusal> {
-        let Some(job) = &self.fetched else {
+        let Some(job) = self.fetched else {
             return Err(Refusal::StaleJob);
         };
-        let Ok(object) = self.object(job.object) else {
-            return Err(Refusal::StaleJob);
-        };
-        let is_same = job.number == self.number
-            && !object.record.local
-            && object.record.leavings == job.record.leavings
-            && object.record.ticket == job.ticket;
-        if !is_same {
-            return Err(Refusal::StaleJob);
+        match self.object(job.object) {
+            Some(object) if self.is_installable(&job, object) => {
+                let Some(place) = self.room_beside(None, object.list.len) else {
+                    return Err(Refusal::RegionFull);
+                };
+                let mut back = object.touched(self.now);
+                back.place = place;
+                back.record.local = true;
+                self.put(job.object, back);
+                Ok(())
+            }
+            _ => Err(Refusal::StaleJob),
         }
-        let o = job.object;
-        let place = self.room_for(object.list.len())?;
-        let object = self.object_mut(o)?;
-        object.place = Some(place);
-        object.record.local = true;
-        object.record.hot = true;
-        self.order.push(o)?;
-        Ok(())
+    }
+
+    fn is_installable(&self, job: &Job, object: &Plain) -> bool {
+        !object.record.local
+            && job.number == self.number
+            && object.record.leavings == job.record.leavings
+            && object.record.ticket == job.ticket
     }
 
     // The object that goes away first.
     fn coldest(&self) -> Option<u32> {
-        let mut hot = None;
-        for o in &self.order {
-            if let Ok(object) = self.object(*o) {
-                if object.record.pins == 0 && !object.record.hot {
-                    return Some(*o);
-                }
-                if object.record.pins == 0 && hot.is_none() {
-                    hot = Some(*o);
-                }
+        let mut coldest = None;
+        for (o, object) in self.objects.iter().enumerate() {
+            if object.record.local && object.record.pins == 0 {
+                coldest = lower(coldest, (object.record.hot, object.used, o));
             }
         }
-        hot
+        ranked(coldest)
+    }
+}
+
+impl Plain {
+    // The object once it went away under this ticket.
+    fn gone(&self, ticket: Option<u64>) -> Plain {
+        let mut gone = *self;
+        gone.record.local = false;
+        gone.record.dirty = false;
+        gone.record.hot = false;
+        gone.record.leavings = self.record.leavings.saturating_add(1);
+        gone.record.ticket = ticket;
+        gone
     }
 }

@@ -1,14 +1,14 @@
 // Plain objects that are given over to another store.
 use super::{Numbers, Plains};
 use far_types::Refusal;
-use std::alloc::Global;
 
-impl<T: Copy + Drop + PartialEq> Plains<T> {
+impl Plains {
     /// Gives the objects over to another store, where there is no job then; refused, they are as they were.
-    pub fn renew(&mut self, alloc: Global, mut store: Numbers) -> Result<(), Refusal> {
-        let tickets = self.tickets_in(alloc, &mut store)?;
-        self.take_tickets(&tickets);
-        self.store = store;
+    pub fn renew(&mut self, store: Numbers) -> Result<(), Refusal> {
+        let mut filled = store;
+        self.put_all(&mut filled)?;
+        self.take_tickets(store);
+        self.store = filled;
         self.evac = None;
         self.carried = None;
         self.fetch = None;
@@ -16,29 +16,26 @@ impl<T: Copy + Drop + PartialEq> Plains<T> {
         Ok(())
     }
 
-    fn take_tickets(&mut self, tickets: &[Option<u64>]) {
-        for (object, ticket) in self.objects.iter_mut().zip(tickets) {
-            object.record.ticket = *ticket;
-            object.record.dirty = object.record.local;
+    // What is away is put into another store, by rising object number.
+    fn put_all(&mut self, store: &mut Numbers) -> Result<(), Refusal> {
+        for object in &self.objects {
+            if !object.record.local {
+                self.store.get()?;
+                store.put(object.list.len)?;
+            }
         }
+        Ok(())
     }
 
-    // The numbers in another store of the objects that are away, which are put there by rising object number.
-    fn tickets_in(
-        &mut self,
-        alloc: Global,
-        store: &mut Numbers,
-    ) -> Result<Vec<Option<u64>>, Refusal> {
-        let mut tickets = Vec::new(alloc);
-        for object in &self.objects {
-            let ticket = if object.record.local {
+    // Each object that is away has the ticket that the other store gave for it.
+    fn take_tickets(&mut self, mut store: Numbers) {
+        for object in &mut self.objects {
+            object.record.ticket = if object.record.local {
                 None
             } else {
-                self.store.get()?;
-                Some(store.put(object.list.len())?)
+                store.put(object.list.len).ok()
             };
-            tickets.push(ticket)?;
+            object.record.dirty = object.record.local;
         }
-        Ok(tickets)
     }
 }

@@ -1,4 +1,4 @@
-use Rattle.far_evacuator_tests.proofs.desk.several.pin_together.Goals as goal
+use Rattle.far_evacuator_tests.proofs.desk.changing.pin_together.Goals as goal
 
 pub returns-clause-clean : goal.returns-clause-clean
 returns-clause-clean g c = λ clean. c.close.ensures.clean (c.unpin_one.ensures.clean (c.in_ok-scope.ensures.clean clean))

@@ -1,0 +1,270 @@
+//! Objects of a plain table: where each lies, and what is known of it.
+use super::call::{COLUMNS, KINDS, SIZE};
+use super::plain::Plain;
+use far_types::{Kind, Limits, Refusal};
+
+/// A part of a segment.
+#[derive(Clone, Copy)]
+pub struct Part {
+    pub segment: u32,
+    pub offset: u32,
+    pub len: u32,
+}
+
+/// What is known of an object.
+#[derive(Clone, Copy)]
+pub struct Object {
+    /// Where its list lies, if it is local.
+    pub part: Option<Part>,
+    /// Where the list lies that it gets next, while the other is still there.
+    pub next: Option<Part>,
+    pub dirty: bool,
+    pub hot: bool,
+    pub pins: u32,
+    pub version: u64,
+    pub leavings: u64,
+    /// The number of its newest far copy.
+    pub ticket: Option<u64>,
+}
+
+/// An object that has no list yet.
+pub const NEW: Object = Object {
+    part: None,
+    next: None,
+    dirty: true,
+    hot: true,
+    pins: 0,
+    version: 0,
+    leavings: 0,
+    ticket: None,
+};
+
+impl Object {
+    /// It is clean under this number.
+    pub fn is_under(&self, ticket: Option<u64>) -> bool {
+        !self.dirty && self.ticket == ticket
+    }
+}
+
+// Where the objects of a kind lie, and how many.
+fn segments(limits: &Limits, kind: Kind) -> (u32, u32) {
+    match kind {
+        Kind::Int => (limits.int_segments, limits.int_size),
+        Kind::Text => (limits.text_segments, limits.text_size),
+    }
+}
+
+// Where a part of this segment ends, else 0.
+fn end_in(part: Option<Part>, segment: u32) -> u32 {
+    match part {
+        Some(part) if part.segment == segment => part.offset.saturating_add(part.len),
+        _ => 0,
+    }
+}
+
+/// The kind of an object by its index.
+fn is_of(o: usize, kind: Kind) -> bool {
+    KINDS.get(o % 4).copied() == Some(kind)
+}
+
+/// The index of the object of a row group of a column.
+pub fn index(column: u32, group: u32) -> usize {
+    group.saturating_mul(COLUMNS).saturating_add(column) as usize
+}
+
+impl Plain {
+    /// The object of a row group of a column.
+    pub fn find(&self, column: u32, group: u32) -> Result<Object, Refusal> {
+        if column >= COLUMNS {
+            return Err(Refusal::NoColumn);
+        }
+        match self.objects.get(index(column, group)) {
+            Some(object) => Ok(*object),
+            None => Err(Refusal::OutOfRange),
+        }
+    }
+
+    /// It, where it is local.
+    pub fn local(&self, column: u32, group: u32) -> Result<Object, Refusal> {
+        let object = self.find(column, group)?;
+        match object.part {
+            Some(_) => Ok(object),
+            None => Err(Refusal::Absent { column, group }),
+        }
+    }
+
+    /// Whether all objects of a row group are local; one that has no place yet is.
+    pub fn here(&self, group: u32) -> Result<(), Refusal> {
+        if index(0, group) >= self.objects.len() {
+            return Ok(());
+        }
+        for column in 0..COLUMNS {
+            self.local(column, group)?;
+        }
+        Ok(())
+    }
+
+    /// Other things are known of an object.
+    pub fn keep(&mut self, o: usize, object: Object) {
+        if let Some(old) = self.objects.get_mut(o) {
+            *old = object;
+        }
+    }
+
+    // Where the last part of a segment ends.
+    fn fill(&self, kind: Kind, segment: u32) -> u32 {
+        let mut fill = 0;
+        for (o, object) in self.objects.iter().enumerate() {
+            if is_of(o, kind) {
+                fill = end_in(object.part, segment).max(fill);
+                fill = end_in(object.next, segment).max(fill);
+            }
+        }
+        fill
+    }
+
+    /// The lowest segment that takes a list behind all that it has.
+    pub fn spot(&self, kind: Kind, len: u32) -> Option<Part> {
+        let (count, size) = segments(&self.limits, kind);
+        for segment in 0..count {
+            let offset = self.fill(kind, segment);
+            if size.saturating_sub(offset) >= len {
+                return Some(Part {
+                    segment,
+                    offset,
+                    len,
+                });
+            }
+        }
+        None
+    }
+
+    /// Whether the next list of an object finds room, and if it does its room.
+    pub fn reserve(&mut self, o: usize, kind: Kind, len: u32) -> bool {
+        let part = self.spot(kind, len);
+        if let Some(object) = self.objects.get_mut(o) {
+            object.next = part;
+        }
+        part.is_some()
+    }
+
+    /// No object gets another list.
+    pub fn give_up(&mut self) {
+        for object in self.objects.iter_mut() {
+            object.next = None;
+        }
+    }
+
+    /// An object is written: in its place, or where its next list lies.
+    pub fn write(&mut self, o: usize) {
+        if let Some(object) = self.objects.get_mut(o) {
+            object.part = object.next.or(object.part);
+            object.next = None;
+            object.dirty = true;
+            object.hot = true;
+            object.version = object.version.wrapping_add(1);
+        }
+    }
+
+    /// A new object gets its list.
+    pub fn make(&mut self, o: usize) {
+        if let Some(object) = self.objects.get_mut(o) {
+            object.part = object.next;
+            object.next = None;
+        }
+    }
+
+    /// One pin more.
+    pub fn pin(&mut self, column: u32, group: u32) -> Result<(), Refusal> {
+        let mut object = self.local(column, group)?;
+        object.pins = object.pins.wrapping_add(1);
+        self.keep(index(column, group), object);
+        Ok(())
+    }
+
+    /// One pin less.
+    pub fn unpin(&mut self, column: u32, group: u32) -> Result<(), Refusal> {
+        let mut object = self.find(column, group)?;
+        if object.pins == 0 {
+            return Err(Refusal::NotPinned);
+        }
+        object.pins = object.pins.wrapping_sub(1);
+        self.keep(index(column, group), object);
+        Ok(())
+    }
+
+    // The lowest segment without parts but this one.
+    fn empty_other(&self, kind: Kind, segment: u32) -> Option<u32> {
+        let (count, _) = segments(&self.limits, kind);
+        for other in 0..count {
+            if other != segment && self.fill(kind, other) == 0 {
+                return Some(other);
+            }
+        }
+        None
+    }
+
+    // The object of the lowest part of a segment, of those that are hot or of the others.
+    fn lowest(&self, kind: Kind, segment: u32, hot: bool) -> Option<usize> {
+        let mut found = None;
+        let mut least = u32::MAX;
+        for (o, object) in self.objects.iter().enumerate() {
+            if is_of(o, kind) && object.hot == hot && is_below(object.part, segment, least) {
+                found = Some(o);
+                least = offset_of(object.part);
+            }
+        }
+        found
+    }
+
+    // An object is moved to the end of a segment, and is not hot.
+    fn move_to(&mut self, kind: Kind, o: usize, segment: u32) {
+        let offset = self.fill(kind, segment);
+        if let Some(object) = self.objects.get_mut(o) {
+            object.hot = false;
+            if let Some(part) = object.part.as_mut() {
+                part.segment = segment;
+                part.offset = offset;
+            }
+        }
+    }
+
+    /// A segment is compacted into the lowest other one without parts.
+    pub fn compact(&mut self, kind: Kind, segment: u32) -> Result<(), Refusal> {
+        let (count, _) = segments(&self.limits, kind);
+        if segment >= count {
+            return Err(Refusal::OutOfRange);
+        }
+        let Some(to) = self.empty_other(kind, segment) else {
+            return Err(Refusal::RegionFull);
+        };
+        self.move_all(kind, segment, to, true);
+        self.move_all(kind, segment, to, false);
+        Ok(())
+    }
+
+    // The objects of a segment are moved, the lowest first.
+    fn move_all(&mut self, kind: Kind, segment: u32, to: u32, hot: bool) {
+        for _ in 0..self.objects.len() {
+            let Some(o) = self.lowest(kind, segment, hot) else {
+                return;
+            };
+            self.move_to(kind, o, to);
+        }
+    }
+}
+
+fn offset_of(part: Option<Part>) -> u32 {
+    match part {
+        Some(part) => part.offset,
+        None => 0,
+    }
+}
+
+// Whether a part is of this segment and below an offset.
+fn is_below(part: Option<Part>, segment: u32, offset: u32) -> bool {
+    match part {
+        Some(part) => part.segment == segment && part.offset < offset,
+        None => false,
+    }
+}
