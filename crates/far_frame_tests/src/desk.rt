@@ -7,7 +7,7 @@ use crate::answers::{Line, is_answer};
 use crate::values::{Values, is_number, is_text, number_cell, row, schema, spec, text_cell};
 use far_frame::{Frame, Job};
 use far_store::{FarStore, FarTickets, Meter};
-use far_types::{Cell, Fold, Limits, Name, Refusal, Spec};
+use far_types::{Answer, Fold, Limits, Name, Refusal, Spec};
 use std::alloc::Global;
 use std::marker::Model;
 use std::thread::Threads;
@@ -98,20 +98,17 @@ impl<'a, S: FarStore> Desk<'a, S> {
 
     /// Sends the object of a row group of a column away.
     pub fn evacuate(&mut self, column: u32, group: u32) -> Result<(), Refusal> {
-        let job = carried(self.alloc, &self.frame, self.store, column, group)?;
-        self.frame.commit(self.store, &job)
+        evacuate(self.alloc, &mut self.frame, self.store, column, group)
     }
 
     /// Begins to send the object of a place's number away, sets the number, and goes on.
     pub fn evacuate_written(&mut self, place: u32, number: Option<i64>) -> Result<(), Refusal> {
-        let job = carried(self.alloc, &self.frame, self.store, 0, place / SIZE)?;
-        commit_written(&mut self.frame, self.store, &job, place, number)
+        evacuate_written(self.alloc, &mut self.frame, self.store, place, number)
     }
 
     /// Brings the object of a row group of a column back.
     pub fn fetch_back(&mut self, column: u32, group: u32) -> Result<(), Refusal> {
-        let job = fetched(self.alloc, &self.frame, self.store, column, group)?;
-        self.frame.install(self.store, &job)
+        fetch_back(self.alloc, &mut self.frame, self.store, column, group)
     }
 
     /// The object that goes away first.
@@ -139,11 +136,9 @@ impl<'a, S: FarStore> Desk<'a, S> {
 
     /// Whether an aggregate answers these lines, or is refused so. Nothing can be said where memory is wanting.
     pub fn has_answer(&self, a: u32, due: Result<&[Line], Refusal>) -> Result<bool, Refusal> {
-        match (self.frame.ask(a), due) {
-            (Err(Refusal::NoMemory), _) => Err(Refusal::NoMemory),
-            (Ok(answer), Ok(lines)) => Ok(is_answer(&answer, lines)),
-            (Err(given), Err(due)) => Ok(given == due),
-            _ => Ok(false),
+        match self.frame.ask(a) {
+            Ok(answer) => Ok(is_answer_due(&answer, due)),
+            Err(refusal) => is_refusal_due(refusal, due),
         }
     }
 
@@ -159,11 +154,9 @@ impl<'a, S: FarStore> Desk<'a, S> {
         requires { meter.old < 2 ^ 63 }
         ensures { meter.new ≤ meter.old + workers }
     {
-        match (self.frame.recount(rt, self.store, meter, a, workers), due) {
-            (Err(Refusal::NoMemory), _) => Err(Refusal::NoMemory),
-            (Ok(answer), Ok(lines)) => Ok(is_answer(&answer, lines)),
-            (Err(given), Err(due)) => Ok(given == due),
-            _ => Ok(false),
+        match self.frame.recount(rt, self.store, meter, a, workers) {
+            Ok(answer) => Ok(is_answer_due(&answer, due)),
+            Err(refusal) => is_refusal_due(refusal, due),
         }
     }
 }
@@ -187,6 +180,74 @@ fn scan_group<S: FarTickets>(frame: &mut Frame<S>, a: u32, group: u32) -> Result
     ensures { (name : List ℕ) → AreAt S.is_of name frame.old.rows → AreAt S.is_of name frame.new.rows }
 {
     frame.scan_group(a, group)
+}
+
+// Whether an answer is the one that is due.
+fn is_answer_due(answer: &Answer, due: Result<&[Line], Refusal>) -> bool {
+    match due {
+        Ok(lines) => is_answer(answer, lines),
+        Err(_) => false,
+    }
+}
+
+// Whether this refusal is due. Nothing can be said where memory is wanting.
+fn is_refusal_due(given: Refusal, due: Result<&[Line], Refusal>) -> Result<bool, Refusal> {
+    match due {
+        _ if given == Refusal::NoMemory => Err(given),
+        Ok(_) => Ok(false),
+        Err(due) => Ok(given == due),
+    }
+}
+
+// Sends the object of a row group of a column away.
+fn evacuate<S: FarStore>(
+    alloc: Global,
+    frame: &mut Frame<S>,
+    store: &S,
+    column: u32,
+    group: u32,
+) -> Result<(), Refusal>
+    requires { AreAt S.is_of (S.name store.now) frame.old.rows }
+    ensures { AreAt S.is_of (S.name store.now) frame.new.rows }
+{
+    match carried(alloc, frame, store, column, group) {
+        Ok(job) => frame.commit(store, &job),
+        Err(refusal) => Err(refusal),
+    }
+}
+
+// Brings the object of a row group of a column back.
+fn fetch_back<S: FarStore>(
+    alloc: Global,
+    frame: &mut Frame<S>,
+    store: &S,
+    column: u32,
+    group: u32,
+) -> Result<(), Refusal>
+    requires { AreAt S.is_of (S.name store.now) frame.old.rows }
+    ensures { AreAt S.is_of (S.name store.now) frame.new.rows }
+{
+    match fetched(alloc, frame, store, column, group) {
+        Ok(job) => frame.install(store, &job),
+        Err(refusal) => Err(refusal),
+    }
+}
+
+// Begins to send the object of a place's number away, sets the number, and goes on.
+fn evacuate_written<S: FarStore>(
+    alloc: Global,
+    frame: &mut Frame<S>,
+    store: &S,
+    place: u32,
+    number: Option<i64>,
+) -> Result<(), Refusal>
+    requires { AreAt S.is_of (S.name store.now) frame.old.rows }
+    ensures { AreAt S.is_of (S.name store.now) frame.new.rows }
+{
+    match carried(alloc, frame, store, 0, place / SIZE) {
+        Ok(job) => commit_written(frame, store, &job, place, number),
+        Err(refusal) => Err(refusal),
+    }
 }
 
 // Sets a number, and goes on with a job that was carried before.

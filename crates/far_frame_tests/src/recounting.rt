@@ -115,9 +115,11 @@ fn meets_one_fault<R: Threads + Sync, S: FarStore>(
 ) -> Result<bool, Refusal> {
     let mut meter = Meter::new();
     let first = desk.has_recount(rt, &mut meter, 0, 3, Err(Refusal::FarFault))?;
-    let counted = meter.faults();
+    if !first || meter.faults() != 1 {
+        return Ok(false);
+    }
     let second = desk.has_recount(rt, &mut meter, 0, 3, Ok(&[(None, 8, 36)]))?;
-    Ok(first && counted == 1 && second && meter.faults() == 1)
+    Ok(second && meter.faults() == 1)
 }
 
 /// The first step that does not come out as it should, or that there was another fault.
