@@ -1,4 +1,5 @@
-//! Lendings, jobs and offloaded builds as steps of a world, over stores that fail or are full, and worlds that go on with another store.
+//! Lendings, jobs and offloaded builds as steps of a world, over stores that fail or are full. Scripts of the shell show how a world goes
+//! on with another store.
 use crate::answers::is_answer;
 use crate::script::answered;
 use crate::values::spec;
@@ -91,8 +92,8 @@ static FULL: [(Call, Due); 7] = [
     (Call::Insert(8), Due::Place(3)),
 ];
 
-/// The rows are lent in turn, so the row group behind them is proposed once it is there.
-static STRIDE: [(Call, Due); 11] = [
+/// The rows are lent in turn, so the row group behind them is proposed once it is there: of those behind the last that was lent one is.
+static STRIDE: [(Call, Due); 13] = [
     (Call::Insert(8), Due::Place(3)),
     (Call::Insert(9), Due::Place(4)),
     (Call::Insert(10), Due::Place(5)),
@@ -104,36 +105,8 @@ static STRIDE: [(Call, Due); 11] = [
     (Call::Lend(7, 7), Due::Lent(&[])),
     (Call::Insert(12), Due::Place(7)),
     (Call::Insert(13), Due::Place(8)),
-];
-
-/// Of the row groups behind the last that was lent one is there.
-static PROPOSED: [(Call, Due); 2] = [
     (Call::Prefetch, Due::Next(&[4])),
     (Call::Lend(8, 10), Due::Refused(Refusal::OutOfRange)),
-];
-
-/// The first row group is away.
-static AWAY: [(Call, Due); 3] = [
-    (Call::Evac(0), Due::Job(0)),
-    (Call::Carry(0), Due::Done),
-    (Call::Commit(0), Due::Done),
-];
-
-/// Nothing of it is lent, and the table answers.
-static STAYED: [(Call, Due); 2] = [
-    (Call::Ask(0), Due::Total(3, 18)),
-    (Call::Lend(1, 3), Due::Refused(ABSENT)),
-];
-
-/// It comes back from the store that the world went on with; the numbers of jobs go on.
-static WENT_ON: [(Call, Due); 7] = [
-    (Call::Ask(0), Due::Total(3, 18)),
-    (Call::Commit(0), Due::Refused(Refusal::StaleJob)),
-    (Call::Evac(1), Due::Job(1)),
-    (Call::Fetch(0), Due::Job(2)),
-    (Call::Carry(2), Due::Done),
-    (Call::Install(2), Due::Done),
-    (Call::Lend(0, 3), Due::Lent(&[5, 6, 7])),
 ];
 
 /// A row group that is away is built in from the store, whose first read fails, as a scan builds in the other.
@@ -391,87 +364,8 @@ fn an_object_stays_where_the_store_is_full(rt: HostRuntime) -> Result<(), Fail> 
     answered(first_other_over(rt.alloc(), store, &FULL))
 }
 
-/// A world in which these calls had the replies that are due.
-fn served<S: FarStore>(
-    alloc: Global,
-    world: World<S>,
-    calls: &[(Call, Due)],
-) -> Result<World<S>, Refusal> {
-    let mut world = world;
-    match first_other(alloc, &mut world, calls)? {
-        None => Ok(world),
-        Some(_) => Err(Refusal::StaleJob),
-    }
-}
-
-/// A world that was handed back because the store that it should go on with is full.
-fn handed_back<S: FarStore, F: FarStore>(world: World<S>, full: F) -> Result<World<S>, Refusal> {
-    if world.faults() > 9 {
-        return Err(Refusal::FarFault);
-    }
-    match world.migrate(full) {
-        Err((Refusal::FarFull, world)) => Ok(world),
-        Err((refusal, _)) => Err(refusal),
-        Ok(_) => Err(Refusal::StaleJob),
-    }
-}
-
-/// A world that went on with another store.
-fn gone_on<S: FarStore, N: FarStore>(world: World<S>, store: N) -> Result<World<N>, Refusal> {
-    if world.faults() > 9 {
-        return Err(Refusal::FarFault);
-    }
-    match world.migrate(store) {
-        Ok(world) => Ok(world),
-        Err((refusal, _)) => Err(refusal),
-    }
-}
-
-/// The table with a row group away, which was handed back once.
-fn stayed<S: FarStore, F: FarStore>(alloc: Global, store: S, full: F) -> Result<World<S>, Refusal> {
-    let rows = served(alloc, world(alloc, store)?, &ROWS)?;
-    let away = served(alloc, rows, &AWAY)?;
-    served(alloc, handed_back(away, full)?, &STAYED)
-}
-
-/// The first step that has another reply than is due, once the table went on with another store.
-fn first_other_moved<S: FarStore, N: FarStore>(
-    alloc: Global,
-    world: World<S>,
-    store: N,
-) -> Result<Option<usize>, Refusal> {
-    let mut world = gone_on(world, store)?;
-    first_other(alloc, &mut world, &WENT_ON)
-}
-
-/// The first step that has another reply than is due, on a table that went away from its store. A test that owned a world would cost
-/// each of its ways out.
-fn first_other_anew<S: FarStore, F: FarStore, N: FarStore>(
-    alloc: Global,
-    store: S,
-    full: F,
-    other: N,
-) -> Result<Option<usize>, Refusal> {
-    let world = stayed(alloc, store, full)?;
-    first_other_moved(alloc, world, other)
-}
-
-#[test]
-fn a_world_goes_on_with_another_store(rt: HostRuntime) -> Result<(), Fail> {
-    let store = agent(&rt, 4)?;
-    let full = agent(&rt, 0)?;
-    let other = agent(&rt, 4)?;
-    answered(first_other_anew(rt.alloc(), store, full, other))
-}
-
-/// The first step that has another reply than is due, after the table was lent in turn.
-fn first_other_proposed<S: FarStore>(alloc: Global, store: S) -> Result<Option<usize>, Refusal> {
-    let rows = served(alloc, world(alloc, store)?, &ROWS)?;
-    let mut world = served(alloc, rows, &STRIDE)?;
-    first_other(alloc, &mut world, &PROPOSED)
-}
-
 #[test]
 fn parts_are_lent_in_turn_and_the_next_is_proposed(rt: HostRuntime) -> Result<(), Fail> {
-    answered(first_other_proposed(rt.alloc(), agent(&rt, 4)?))
+    let store = agent(&rt, 4)?;
+    answered(first_other_over(rt.alloc(), store, &STRIDE))
 }
