@@ -46,6 +46,10 @@ pub fn settle<N: Naming, B: Rooms, R: Wait>(
     ensures two { IsSettled N.plan.sessions 2 keepers.old.two sessions.items }
     ensures three { IsSettled N.plan.sessions 3 keepers.old.three sessions.items }
 {
+    keepers.zero.known();
+    keepers.one.known();
+    keepers.two.known();
+    keepers.three.known();
     for session in sessions {
         let Session {
             number: _,

@@ -113,16 +113,6 @@ pub struct Made<N: Naming> {
     three: Fresh<N>,
 }
 
-impl<N: Naming> Model for Made<N> {
-    ghost use Rattle.std.specs.Prelude.{ℕ};
-    ghost use Rattle.atomic_table.specs.Seated.{TableId};
-    ghost use Rattle.far_sessions.specs.Rooms.{four};
-
-    ghost Value = { ℕ → TableId };
-
-    ghost view = { λ s. four s.zero s.one s.two s.three };
-}
-
 /// What four histories begin with.
 #[derive(Drop)]
 pub struct Opened<N: Naming, B: Rooms> {
@@ -147,7 +137,7 @@ impl<N: Naming> Made<N> {
 
     /// The keepers of the four empty histories, the cells, and as many sessions as the plan has. Refused where memory is out.
     pub fn open<B: Rooms>(self, alloc: Global, count: u64) -> Result<Opened<N, B>, AllocError>
-        requires names { self ≡ B.cells }
+        requires names { (self.zero ≡ B.cells 0) × (self.one ≡ B.cells 1) × (self.two ≡ B.cells 2) × (self.three ≡ B.cells 3) }
         requires count { count ≡ N.plan.sessions }
         ensures sessions { IfOk result (λ o. o.sessions.items ≡ newcomers N.plan.sessions) }
         ensures histories { IfOk result (λ o. (o.keepers.zero ≡ []) × (o.keepers.one ≡ []) × (o.keepers.two ≡ []) × (o.keepers.three ≡ [])) }
