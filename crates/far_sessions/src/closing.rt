@@ -33,7 +33,8 @@ pub fn are_whole<B: Rooms>(sessions: &[Session<B>], count: u64) -> bool
     true
 }
 
-/// Ends these sessions. Each history is as it was, and its entries of each of them are just the session's own.
+/// Ends these sessions. Each history is as it was, and its entries of each of them are just the session's own. With `are_whole` before
+/// it, they are all the entries that a history has.
 pub fn settle<N: Naming, B: Rooms, R: Wait>(
     rt: &R,
     cells: &Cells<N, B>,

@@ -18,7 +18,7 @@ use std::marker::{Model, PhantomData};
 use std::snapshot::Snapshot;
 use std::sync::Wait;
 
-/// Keeps the history of stripe I. It lies beside the table, under its lock, and takes no part of the table's memory.
+/// Keeps the history of stripe I. It lies beside the table, under its lock. No list of edits is stored.
 ///
 /// Contracts see the history. It is legal, and each entry is of a session of the plan.
 #[derive(Drop)]
@@ -42,9 +42,13 @@ impl<N: Naming, B: Rooms, const I: usize> Model for Keeper<N, B, I> {
 /// The keepers of the four histories.
 #[derive(Drop)]
 pub struct Keepers<N: Naming, B: Rooms> {
+    /// The keeper of stripe 0.
     pub zero: Keeper<N, B, 0>,
+    /// The keeper of stripe 1.
     pub one: Keeper<N, B, 1>,
+    /// The keeper of stripe 2.
     pub two: Keeper<N, B, 2>,
+    /// The keeper of stripe 3.
     pub three: Keeper<N, B, 3>,
 }
 
@@ -73,7 +77,7 @@ impl<N: Naming, B: Rooms, const I: usize> Keeper<N, B, I> {
         reading_of(words)
     }
 
-    /// Adds an edit to the history, as this session, which has then seen the whole history. `after` is what the longer history leaves.
+    /// Adds an edit to the history, as this session, which has then seen all of it. `after` is what the longer history leaves.
     pub fn add<R: Wait>(
         &mut self,
         rt: &R,
