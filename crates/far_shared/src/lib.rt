@@ -1,5 +1,6 @@
 #![tactic(auto)]
-//! Tables that threads share: four stripes, each a table under a lock, and a gauge of each that is read without it.
+//! Tables that threads share. What stands is the plan of one, and the answers over its four tables; their locks and sessions are to
+//! come.
 
 pub mod four;
 mod merging;
