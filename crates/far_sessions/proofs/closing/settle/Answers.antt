@@ -1,0 +1,23 @@
+use Rattle.std.proofs.Common.{◌≡◌, List, ◌∙◌, refl}
+use Rattle.far_sessions.specs.Known.{Known}
+use Rattle.far_sessions.proofs.Sessions.{own_all-taken}
+use Rattle.far_sessions.proofs.closing.settle.Goals as goal
+
+pub loop-session-preserved : goal.loop-session-preserved
+loop-session-preserved g c =
+    let i = c.loop-session.invariant in
+    let numbers = c.session.invariant in
+    let s = c.session.inside in
+    let y : Known = record { zeroth = s.zero; first = s.one; second = s.two; third = s.three } in
+    let xs : List Known = c.loop-session.yielded in
+    let x : Known = c.in-Some.session in
+    let is : y ≡ x = c.session.view_is in record {
+      zero = c.take_in.ensures.history ∙ i.zero;
+      one = c.take_in-in-loop-session.ensures.history ∙ i.one;
+      two = c.take_in-in-loop-session-2.ensures.history ∙ i.two;
+      three = c.take_in-in-loop-session-3.ensures.history ∙ i.three;
+      own_zero = own_all-taken 0 _ _ _ xs y x i.zero is refl i.own_zero c.take_in.ensures.own;
+      own_one = own_all-taken 1 _ _ _ xs y x i.one is numbers.1 i.own_one c.take_in-in-loop-session.ensures.own;
+      own_two = own_all-taken 2 _ _ _ xs y x i.two is numbers.2 i.own_two c.take_in-in-loop-session-2.ensures.own;
+      own_three = own_all-taken 3 _ _ _ xs y x i.three is numbers.3 i.own_three c.take_in-in-loop-session-3.ensures.own;
+    }

@@ -1,0 +1,4 @@
+pub mod Closing
+pub mod Known
+pub mod Passes
+pub mod Rooms

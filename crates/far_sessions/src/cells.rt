@@ -1,0 +1,66 @@
+// The four cells.
+ghost use Rattle.std.specs.Prelude.{◌≡◌, ◌≢◌, ◌<◌, ◌≤◌, ℕ, OnOk, IfOk, IfErr};
+ghost use Rattle.far_history.specs.Histories.{gauge_of};
+ghost use Rattle.far_sessions.specs.Known.{at, SeesMore};
+
+use crate::place::Session;
+use crate::rooms::{Counter, Rooms};
+use crossbeam_utils::CachePadded;
+use far_history::{Naming, Reading};
+use far_types::Refusal;
+use std::sync::Wait;
+
+/// The four cells, and no lock. No two are on one cache line.
+#[derive(Drop)]
+pub struct Cells<N: Naming, B: Rooms> {
+    pub(crate) zero: CachePadded<Counter<N, B, 0>>,
+    pub(crate) one: CachePadded<Counter<N, B, 1>>,
+    pub(crate) two: CachePadded<Counter<N, B, 2>>,
+    pub(crate) three: CachePadded<Counter<N, B, 3>>,
+}
+
+impl<N: Naming, B: Rooms> Cells<N, B> {
+    /// The cell of stripe 0.
+    pub fn zero(&self) -> &Counter<N, B, 0> {
+        &self.zero
+    }
+
+    /// The cell of stripe 1.
+    pub fn one(&self) -> &Counter<N, B, 1> {
+        &self.one
+    }
+
+    /// The cell of stripe 2.
+    pub fn two(&self) -> &Counter<N, B, 2> {
+        &self.two
+    }
+
+    /// The cell of stripe 3.
+    pub fn three(&self) -> &Counter<N, B, 3> {
+        &self.three
+    }
+
+    /// What the history of a stripe so far leaves. Takes no lock, and reads one cell once.
+    ///
+    /// Refused with `OutOfRange` (14) where there is no such stripe; the session is then as it was.
+    pub fn gauge<R: Wait>(
+        &self,
+        rt: &R,
+        me: &mut Session<B>,
+        stripe: u32,
+    ) -> Result<Reading, Refusal>
+        ensures ok { OnOk result (stripe < 4) }
+        ensures reading { IfOk result (λ r. r ≡ gauge_of N.plan (at me.new stripe).seen) }
+        ensures seen { OnOk result (SeesMore N.plan (at me.old stripe) (at me.new stripe)) }
+        ensures others { (k : ℕ) → k < 4 → k ≢ stripe → at me.new k ≡ at me.old k }
+        ensures refused { IfErr result (λ e. (e ≡ Refusal.OutOfRange) × (4 ≤ stripe) × (me.new ≡ me.old)) }
+    {
+        match stripe {
+            0 => Ok(self.zero().gauge(rt, &mut me.zero)),
+            1 => Ok(self.one().gauge(rt, &mut me.one)),
+            2 => Ok(self.two().gauge(rt, &mut me.two)),
+            3 => Ok(self.three().gauge(rt, &mut me.three)),
+            _ => Err(Refusal::OutOfRange),
+        }
+    }
+}

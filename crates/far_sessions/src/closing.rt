@@ -1,0 +1,67 @@
+// How four histories end.
+ghost use Rattle.std.specs.Prelude.{◌≡◌, ◌↔◌, IsTrue};
+ghost use Rattle.far_sessions.specs.Closing.{Has, IsWhole, IsSettled};
+
+use crate::cells::Cells;
+use crate::keeper::Keepers;
+use crate::place::Session;
+use crate::rooms::Rooms;
+use far_history::Naming;
+use std::sync::Wait;
+
+// Whether a session of this number is there.
+fn has<B: Rooms>(sessions: &[Session<B>], number: u64) -> bool
+    ensures { IsTrue result ↔ Has number sessions.now }
+{
+    for session in sessions {
+        if session.number == number {
+            return true;
+        }
+    }
+    false
+}
+
+/// Whether the sessions below a number are all there.
+pub fn are_whole<B: Rooms>(sessions: &[Session<B>], count: u64) -> bool
+    ensures { IsTrue result ↔ IsWhole count sessions.now }
+{
+    for number in 0..count {
+        if !has(sessions, number) {
+            return false;
+        }
+    }
+    true
+}
+
+/// Ends these sessions. Each history is as it was, and its entries of each of them are just the session's own. With `are_whole` before
+/// it, they are all the entries that a history has.
+pub fn settle<N: Naming, B: Rooms, R: Wait>(
+    rt: &R,
+    cells: &Cells<N, B>,
+    keepers: &mut Keepers<N, B>,
+    sessions: Vec<Session<B>>,
+)
+    ensures same { keepers.new ≡ keepers.old }
+    ensures zero { IsSettled N.plan.sessions 0 keepers.old.zero sessions.items }
+    ensures one { IsSettled N.plan.sessions 1 keepers.old.one sessions.items }
+    ensures two { IsSettled N.plan.sessions 2 keepers.old.two sessions.items }
+    ensures three { IsSettled N.plan.sessions 3 keepers.old.three sessions.items }
+{
+    keepers.zero.known();
+    keepers.one.known();
+    keepers.two.known();
+    keepers.three.known();
+    for session in sessions {
+        let Session {
+            number: _,
+            zero,
+            one,
+            two,
+            three,
+        } = session;
+        keepers.zero.take_in(rt, cells.zero(), zero);
+        keepers.one.take_in(rt, cells.one(), one);
+        keepers.two.take_in(rt, cells.two(), two);
+        keepers.three.take_in(rt, cells.three(), three);
+    }
+}

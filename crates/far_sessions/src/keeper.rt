@@ -1,0 +1,128 @@
+// What lies beside a table, under its lock.
+ghost use Rattle.std.specs.Prelude.{◌≡◌, ◌++◌, ◌∷◌, [], None};
+ghost use mathlib.Core.List.{IsPrefix};
+ghost use Rattle.far_types.specs.Edits.{edit_refusal};
+ghost use Rattle.far_history.specs.Histories.{replay, gauge_of, by_session, IsLegal, AllBelow};
+ghost use Rattle.far_history.specs.Rule.{entry};
+ghost use Rattle.far_sessions.specs.Known.{SeesMore};
+
+use crate::place::Place;
+use crate::rooms::{Counter, Rooms};
+use crossbeam_utils::atomic::seq_cell::Doing;
+use far_history::reading::{reading_of, words_of};
+use far_history::steps::{add, look, rise, sit};
+use far_history::{Naming, Reading, View};
+use far_kept::Kept;
+use far_types::Edit;
+use std::marker::{Model, PhantomData};
+use std::snapshot::Snapshot;
+use std::sync::Wait;
+
+/// Keeps the history of stripe I. It lies beside the table, under its lock. No list of edits is stored.
+///
+/// Contracts see the history. It is legal, and each entry is of a session of the plan.
+#[derive(Drop)]
+pub struct Keeper<N: Naming, B: Rooms, const I: usize> {
+    pub(crate) pass: Option<Kept<[u64; 4], Doing<[u64; 4], View>>>,
+    pub(crate) of: PhantomData<(N, B)>,
+}
+
+impl<N: Naming, B: Rooms, const I: usize> Model for Keeper<N, B, I> {
+    ghost use Rattle.std.specs.Prelude.{List};
+    ghost use Rattle.far_history.specs.declared.view.Entry.{Entry};
+    ghost use Rattle.far_sessions.specs.Passes.{history_in, IsHeld};
+
+    ghost Value = { List Entry };
+
+    ghost view = { λ s. history_in s.pass };
+
+    ghost invariant = { λ s. IsHeld (B.cells I) N.plan s.pass };
+}
+
+/// The keepers of the four histories.
+#[derive(Drop)]
+pub struct Keepers<N: Naming, B: Rooms> {
+    /// The keeper of stripe 0.
+    pub zero: Keeper<N, B, 0>,
+    /// The keeper of stripe 1.
+    pub one: Keeper<N, B, 1>,
+    /// The keeper of stripe 2.
+    pub two: Keeper<N, B, 2>,
+    /// The keeper of stripe 3.
+    pub three: Keeper<N, B, 3>,
+}
+
+impl<N: Naming, B: Rooms, const I: usize> Keeper<N, B, I> {
+    /// Shows a session the history, and what it leaves.
+    pub fn look<R: Wait>(
+        &mut self,
+        rt: &R,
+        counter: &Counter<N, B, I>,
+        me: &mut Place<B, I>,
+    ) -> Reading
+        ensures reading { result ≡ gauge_of N.plan self.old }
+        ensures history { self.new ≡ self.old }
+        ensures whole { me.new.seen ≡ self.old }
+        ensures seen { SeesMore N.plan me.old me.new }
+    {
+        let Some(kept) = self.pass.take() else {
+            unreachable!()
+        };
+        let mut pass = kept.into_pass();
+        let session = rise(&counter.cell, &mut me.pass);
+        sit(&counter.cell, &mut pass, session);
+        let words = look(rt, &counter.cell, &mut pass);
+        me.pass = rise(&counter.cell, &mut pass);
+        self.pass = Some(Kept::new(pass));
+        reading_of(words)
+    }
+
+    /// Adds an edit to the history, as this session, which has then seen all of it. `after` is what the longer history leaves.
+    pub fn add<R: Wait>(
+        &mut self,
+        rt: &R,
+        counter: &Counter<N, B, I>,
+        me: &mut Place<B, I>,
+        after: Reading,
+        told: Snapshot<Edit>,
+    )
+        requires may { edit_refusal (replay N.plan self.old) told.value ≡ None }
+        requires reading { after ≡ gauge_of N.plan (self.old ++ entry me.old.by told.value ∷ []) }
+        ensures history { self.new ≡ self.old ++ entry me.old.by told.value ∷ [] }
+        ensures whole { me.new.seen ≡ self.new }
+        ensures mine { me.new.mine ≡ me.old.mine ++ entry me.old.by told.value ∷ [] }
+        ensures by { me.new.by ≡ me.old.by }
+        ensures own { by_session me.new.by me.new.seen ≡ me.new.mine }
+        ensures legal { IsLegal N.plan self.new }
+    {
+        let Some(kept) = self.pass.take() else {
+            unreachable!()
+        };
+        let mut pass = kept.into_pass();
+        let session = rise(&counter.cell, &mut me.pass);
+        sit(&counter.cell, &mut pass, session);
+        add(rt, &counter.cell, &mut pass, words_of(after), told);
+        look(rt, &counter.cell, &mut pass);
+        me.pass = rise(&counter.cell, &mut pass);
+        self.pass = Some(Kept::new(pass));
+    }
+
+    /// Ends a session at this stripe. Its own entries are all that the history has of it.
+    pub fn take_in<R: Wait>(&mut self, rt: &R, counter: &Counter<N, B, I>, place: Place<B, I>)
+        ensures history { self.new ≡ self.old }
+        ensures seen { IsPrefix place.seen self.old }
+        ensures own { by_session place.by self.old ≡ place.mine }
+    {
+        let mut place = place;
+        self.look(rt, counter, &mut place);
+    }
+
+    /// For the proof: the history is legal, and each entry is of a session of the plan.
+    #[inline(always)]
+    pub fn known(&self)
+        ensures legal { IsLegal N.plan self.now }
+        ensures below { AllBelow N.plan.sessions self.now }
+    {
+        let _pass = &self.pass;
+    }
+}

@@ -1,0 +1,19 @@
+#![tactic(auto)]
+//! Sessions of four histories that threads share: what each session knows of each, what keeps a history beside its table, and the
+//! gauges that are read without a lock.
+//!
+//! The crate knows no table. Who has a table under a lock puts the [`Keeper`] of its history beside it.
+
+pub mod cells;
+pub mod closing;
+pub mod keeper;
+pub mod opening;
+pub mod place;
+pub mod rooms;
+
+pub use cells::Cells;
+pub use closing::{are_whole, settle};
+pub use keeper::{Keeper, Keepers};
+pub use opening::{Made, Opened};
+pub use place::{Place, Session};
+pub use rooms::{Counter, Rooms};

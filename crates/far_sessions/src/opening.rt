@@ -1,0 +1,182 @@
+// How four histories begin.
+ghost use Rattle.std.specs.Prelude.{◌≡◌, ◌+◌, [], IfOk};
+ghost use Rattle.far_history.specs.Sessions.{newcomer};
+ghost use Rattle.far_sessions.specs.Known.{newcomers};
+
+use crate::cells::Cells;
+use crate::keeper::{Keeper, Keepers};
+use crate::place::{Place, Session};
+use crate::rooms::{Counter, Rooms};
+use crossbeam_utils::CachePadded;
+use far_history::steps::{begin, give};
+use far_history::{Cell, Naming, Pass};
+use far_kept::Kept;
+use std::alloc::{AllocError, Global};
+use std::marker::{Model, PhantomData};
+
+/// A cell that was just made, with the pass that keeps its empty history. Contracts see which cell it is.
+#[derive(Drop)]
+struct Fresh<N: Naming> {
+    cell: Cell<N>,
+    pass: Pass,
+}
+
+impl<N: Naming> Model for Fresh<N> {
+    ghost use Rattle.std.specs.Prelude.{◌≡◌, []};
+    ghost use Rattle.crossbeam_utils.specs.Seq.{cell_view};
+    ghost use Rattle.atomic_table.specs.Seated.{TableId};
+    ghost use Rattle.far_history.specs.Views.{keeper};
+
+    ghost Value = { TableId };
+
+    ghost view = { λ s. s.cell.table.shared.table_id };
+
+    ghost invariant = { λ s. (s.pass.table_id ≡ s.cell.table.shared.table_id) × (cell_view s.pass ≡ keeper [] 0) };
+}
+
+/// Gives the sessions of a stripe out. Contracts see how many it gave.
+#[derive(Drop)]
+struct Giver<B: Rooms, const I: usize> {
+    pass: Pass,
+    of: PhantomData<B>,
+}
+
+impl<B: Rooms, const I: usize> Model for Giver<B, I> {
+    ghost use Rattle.std.specs.Prelude.{◌≡◌, ℕ};
+    ghost use Rattle.crossbeam_utils.specs.Seq.{cell_view};
+    ghost use Rattle.far_history.specs.Sessions.{IsGiver};
+
+    ghost Value = { ℕ };
+
+    ghost view = { λ s. (cell_view s.pass).given };
+
+    ghost invariant = { λ s. (s.pass.table_id ≡ B.cells I) × IsGiver (cell_view s.pass) };
+}
+
+impl<N: Naming> Fresh<N> {
+    fn make(alloc: Global) -> Result<Fresh<N>, AllocError> {
+        let (cell, pass) = begin(alloc)?;
+        Ok(Fresh { cell, pass })
+    }
+
+    // The cell under its name, and what gives its sessions out.
+    fn named<B: Rooms, const I: usize>(self) -> (Counter<N, B, I>, Giver<B, I>)
+        requires { self ≡ B.cells I }
+        ensures { result.1 ≡ 0 }
+    {
+        let Fresh { cell, pass } = self;
+        (
+            Counter {
+                cell,
+                of: PhantomData,
+            },
+            Giver {
+                pass,
+                of: PhantomData,
+            },
+        )
+    }
+}
+
+impl<B: Rooms, const I: usize> Giver<B, I> {
+    // The next session.
+    fn give<N: Naming>(&mut self, counter: &Counter<N, B, I>) -> Place<B, I>
+        ensures count { self.new ≡ self.old + 1 }
+        ensures session { result ≡ newcomer self.old }
+    {
+        let pass = give(&counter.cell, &mut self.pass);
+        Place {
+            pass,
+            of: PhantomData,
+        }
+    }
+
+    // Keeps the history, once all sessions are out.
+    fn into_keeper<N: Naming>(self) -> Keeper<N, B, I>
+        requires { self ≡ N.plan.sessions }
+        ensures { result ≡ [] }
+    {
+        let Giver { pass, of: _ } = self;
+        Keeper {
+            pass: Some(Kept::new(pass)),
+            of: PhantomData,
+        }
+    }
+}
+
+/// Four cells that were just made, of empty histories. Contracts see which cell each stripe has.
+#[derive(Drop)]
+pub struct Made<N: Naming> {
+    zero: Fresh<N>,
+    one: Fresh<N>,
+    two: Fresh<N>,
+    three: Fresh<N>,
+}
+
+/// What four histories begin with.
+#[derive(Drop)]
+pub struct Opened<N: Naming, B: Rooms> {
+    /// What goes beside each table, under its lock.
+    pub keepers: Keepers<N, B>,
+    /// What stands outside the locks.
+    pub cells: Cells<N, B>,
+    /// The sessions, in the order of their numbers.
+    pub sessions: Vec<Session<B>>,
+}
+
+impl<N: Naming> Made<N> {
+    /// Makes the four cells. Refused where memory is out.
+    pub fn make(alloc: Global) -> Result<Made<N>, AllocError> {
+        Ok(Made {
+            zero: Fresh::make(alloc)?,
+            one: Fresh::make(alloc)?,
+            two: Fresh::make(alloc)?,
+            three: Fresh::make(alloc)?,
+        })
+    }
+
+    /// The keepers of the four empty histories, the cells, and as many sessions as the plan has. Refused where memory is out.
+    pub fn open<B: Rooms>(self, alloc: Global, count: u64) -> Result<Opened<N, B>, AllocError>
+        requires names { (self.zero ≡ B.cells 0) × (self.one ≡ B.cells 1) × (self.two ≡ B.cells 2) × (self.three ≡ B.cells 3) }
+        requires count { count ≡ N.plan.sessions }
+        ensures sessions { IfOk result (λ o. o.sessions.items ≡ newcomers N.plan.sessions) }
+        ensures histories { IfOk result (λ o. (o.keepers.zero ≡ []) × (o.keepers.one ≡ []) × (o.keepers.two ≡ []) × (o.keepers.three ≡ [])) }
+    {
+        let Made {
+            zero,
+            one,
+            two,
+            three,
+        } = self;
+        let (zero, mut zero_giver) = zero.named::<B, 0>();
+        let (one, mut one_giver) = one.named::<B, 1>();
+        let (two, mut two_giver) = two.named::<B, 2>();
+        let (three, mut three_giver) = three.named::<B, 3>();
+        let mut sessions = Vec::new(alloc);
+        for number in 0..count {
+            let session = Session {
+                number,
+                zero: zero_giver.give(&zero),
+                one: one_giver.give(&one),
+                two: two_giver.give(&two),
+                three: three_giver.give(&three),
+            };
+            sessions.push(session)?;
+        }
+        Ok(Opened {
+            keepers: Keepers {
+                zero: zero_giver.into_keeper(),
+                one: one_giver.into_keeper(),
+                two: two_giver.into_keeper(),
+                three: three_giver.into_keeper(),
+            },
+            cells: Cells {
+                zero: CachePadded::new(zero),
+                one: CachePadded::new(one),
+                two: CachePadded::new(two),
+                three: CachePadded::new(three),
+            },
+            sessions,
+        })
+    }
+}

@@ -1,0 +1,27 @@
+// The names of the four cells, and the cell of one stripe.
+ghost use Rattle.std.specs.Prelude.{◌≡◌};
+
+use far_history::{Cell, Naming};
+use std::marker::{Brand, PhantomData};
+
+/// Names the four cells.
+pub trait Rooms {
+    ghost use Rattle.std.specs.Prelude.{ℕ};
+    ghost use Rattle.atomic_table.specs.Seated.{TableId};
+
+    ghost cells: { ℕ → TableId };
+}
+
+impl Rooms for Brand {
+    ghost use Rattle.far_sessions.specs.Rooms.{no_cell};
+
+    ghost cells = { λ _. no_cell };
+}
+
+/// The cell of stripe I, which stands outside any lock.
+#[derive(Drop)]
+pub struct Counter<N: Naming, B: Rooms, const I: usize> {
+    pub(crate) cell: Cell<N>,
+    pub(crate) of: PhantomData<B>,
+    ghost is: { cell.table.shared.table_id ≡ B.cells I },
+}

@@ -1,0 +1,55 @@
+-- What four tables are asked together.
+use Rattle.std.specs.Prelude.{◌≡◌, ◌≢◌, ◌⊎◌, ℕ, ◌+◌, ◌-◌, ◌^◌, min, List, ◌++◌, Option, Some, option_map}
+use Rattle.std.specs.Option.{option_map_or}
+use Rattle.far_types.specs.declared.answer.Answer.{Answer}
+use Rattle.far_types.specs.declared.answer.Answer.TheVariants as answer
+use Rattle.far_types.specs.declared.cell.Cell.{Cell}
+use Rattle.far_types.specs.declared.spec.Fold.{Fold}
+use Rattle.far_types.specs.declared.spec.Fold.TheVariants as fold
+use Rattle.far_types.specs.declared.spec.Spec.{Spec}
+use Rattle.far_types.specs.declared.refusal.Refusal.{Refusal}
+use Rattle.far_types.specs.declared.refusal.Refusal.TheVariants as refusal
+use Rattle.far_types.specs.Table.{Table, Registered, rows_of, left}
+use Rattle.far_table.specs.Watching.{aggregate_at}
+
+-- the specification of the aggregate of a number
+abbrev pub spec_at : Table → ℕ → Option Spec
+spec_at table a = option_map (λ aggregate. aggregate.spec) (aggregate_at table a)
+
+-- two tables have one schema, and the same aggregate under a number
+abbrev pub AreLike : ℕ → Table → Table → Type 0
+AreLike a one other = (spec : Spec) × (spec_at one a ≡ Some spec) × (spec_at other a ≡ Some spec) × (one.schema ≡ other.schema)
+
+-- so have four
+pub record AreAlike (a : ℕ) (one two three four : Table) : Type 0 where
+  pub second : AreLike a one two
+  pub third : AreLike a one three
+  pub fourth : AreLike a one four
+
+-- how many row groups are still to be built into an aggregate
+abbrev pub left_in : Option Registered → ℕ
+left_in aggregate = option_map_or (λ there. left there.unbuilt) aggregate 0
+
+-- how many are in four tables
+abbrev pub left_in_all : ℕ → Table → Table → Table → Table → ℕ
+left_in_all a one two three four = left_in (aggregate_at one a) + left_in (aggregate_at two a) + left_in (aggregate_at three a) + left_in (aggregate_at four a)
+
+-- the rows of four tables, one table after the other
+abbrev pub all_rows : Table → Table → Table → Table → List (List Cell)
+all_rows one two three four = rows_of one.places ++ (rows_of two.places ++ (rows_of three.places ++ rows_of four.places))
+
+-- an answer is of this kind
+abbrev pub IsOf : Fold → Answer → Type 0
+IsOf fold.Totals (answer.Totals lines) = Unit {0}
+IsOf fold.Totals (answer.Extrema lines) = ⊥
+IsOf fold.Extrema (answer.Totals lines) = ⊥
+IsOf fold.Extrema (answer.Extrema lines) = Unit {0}
+
+-- why tables with so many row groups left do not answer: some are to be built in, or memory is wanted
+abbrev pub LeftRefusal : ℕ → Refusal → Type 0
+LeftRefusal some given = ((some ≢ 0) × (given ≡ refusal.Building (min some (2 ^ 32 - 1)))) ⊎ ((some ≡ 0) × (given ≡ refusal.NoMemory))
+
+-- why four tables do not answer: their schemas or their aggregates differ, or they are alike and row groups or memory are wanted
+abbrev pub FourRefusal : ℕ → Table → Table → Table → Table → Refusal → Type 0
+FourRefusal a one two three four given = ((given ≡ refusal.NoAggregate) × ¬ (AreAlike a one two three four))
+    ⊎ (AreAlike a one two three four × LeftRefusal (left_in_all a one two three four) given)

@@ -1,0 +1,199 @@
+// What an aggregate of four tables answers.
+ghost use Rattle.std.specs.Prelude.{◌≡◌, ◌+◌, ◌-◌, ◌^◌, ◌++◌, ◌↔◌, min, List, Some, IsTrue, IfOk, IfErr, IfSome, OnOk};
+ghost use Rattle.far_types.specs.declared.cell.Cell.{Cell};
+ghost use Rattle.far_types.specs.declared.spec.Fold.TheVariants as fold;
+ghost use Rattle.far_types.specs.Answers.{answer_over};
+ghost use Rattle.far_types.specs.Table.{rows_of};
+ghost use Rattle.far_table.specs.Watching.{aggregate_at};
+ghost use Rattle.far_shared.specs.Fours.{AreLike, AreAlike, left_in, left_in_all, all_rows, spec_at, IsOf, LeftRefusal, FourRefusal};
+
+use crate::merging::{merge_extrema, merge_totals};
+use far_frame::Frame;
+use far_store::FarTickets;
+use far_types::{Answer, ExtremaLines, Fold, Refusal, Schema, Spec, TotalLines};
+use std::alloc::Global;
+
+/// Whether two schemas are the same.
+fn have_same_kinds(one: &Schema, other: &Schema) -> bool
+    ensures { IsTrue result ↔ (one.now ≡ other.now) }
+{
+    let kinds = one.as_slice();
+    let others = other.as_slice();
+    if kinds.len() != others.len() {
+        return false;
+    }
+    for column in 0..kinds.len() {
+        if kinds[column] != others[column] {
+            return false;
+        }
+    }
+    true
+}
+
+/// Whether two tables have one schema, and the same aggregate under a number.
+fn are_like<S: FarTickets>(one: &Frame<S>, other: &Frame<S>, a: u32) -> bool
+    ensures { IsTrue result ↔ AreLike a one.now.table other.now.table }
+{
+    let Some(spec) = one.spec(a) else {
+        return false;
+    };
+    let Some(same) = other.spec(a) else {
+        return false;
+    };
+    spec.is_same(same) && have_same_kinds(one.schema(), other.schema())
+}
+
+/// Whether four tables have.
+fn are_alike<S: FarTickets>(
+    one: &Frame<S>,
+    two: &Frame<S>,
+    three: &Frame<S>,
+    four: &Frame<S>,
+    a: u32,
+) -> bool
+    ensures { IsTrue result ↔ AreAlike a one.now.table two.now.table three.now.table four.now.table }
+{
+    are_like(one, two, a) && are_like(one, three, a) && are_like(one, four, a)
+}
+
+/// How many row groups are still to be built into an aggregate of a number, and what it answers; `None` where it cannot.
+fn asked<S: FarTickets>(frame: &Frame<S>, spec: &Spec, a: u32) -> (u32, Option<Answer>)
+    requires { spec_at frame.now.table a ≡ Some spec.now }
+    ensures left { result.0 ≡ left_in (aggregate_at frame.now.table a) }
+    ensures answer { IfSome result.1 (λ answer. answer ≡ answer_over spec.now (rows_of frame.now.table.places)) }
+    ensures kind { IfSome result.1 (IsOf spec.now.fold) }
+{
+    // For the proof: it says what the answer is of.
+    let _spec = spec;
+    match frame.ask(a) {
+        Ok(answer) => (0, Some(answer)),
+        Err(Refusal::Building(left)) => (left, None),
+        Err(_) => (0, None),
+    }
+}
+
+/// The sum of four numbers, as far as it fits. So many row groups no four tables have.
+fn sum_of(one: u32, two: u32, three: u32, four: u32) -> u32
+    ensures { result ≡ min (one + two + three + four) (2 ^ 32 - 1) }
+{
+    let sum = u64::from(one) + u64::from(two) + u64::from(three) + u64::from(four);
+    sum.min(u64::from(u32::MAX)) as u32
+}
+
+/// The lines of an answer of totals.
+fn total_lines(answer: Answer) -> TotalLines
+    requires { IsOf fold.Totals answer }
+    ensures { answer ≡ Answer.Totals result }
+{
+    match answer {
+        Answer::Totals(lines) => lines,
+        Answer::Extrema(_) => unreachable!(),
+    }
+}
+
+/// The lines of an answer of extrema.
+fn extrema_lines(answer: Answer) -> ExtremaLines
+    requires { IsOf fold.Extrema answer }
+    ensures { answer ≡ Answer.Extrema result }
+{
+    match answer {
+        Answer::Extrema(lines) => lines,
+        Answer::Totals(_) => unreachable!(),
+    }
+}
+
+/// The answer over all rows, from the answers over four parts of them. Refused with `NoMemory` (1) alone.
+fn merge(
+    alloc: Global,
+    spec: &Spec,
+    one: Answer,
+    two: Answer,
+    three: Answer,
+    four: Answer,
+) -> Result<Answer, Refusal>
+    requires one { IsOf spec.now.fold one }
+    requires two { IsOf spec.now.fold two }
+    requires three { IsOf spec.now.fold three }
+    requires four { IsOf spec.now.fold four }
+    ensures ok { IfOk result (λ answer. (a : List (List Cell)) → (b : List (List Cell)) → (c : List (List Cell)) → (d : List (List Cell)) → one ≡ answer_over spec.now a → two ≡ answer_over spec.now b → three ≡ answer_over spec.now c → four ≡ answer_over spec.now d → answer ≡ answer_over spec.now (a ++ (b ++ (c ++ d)))) }
+    ensures memory { IfErr result (λ e. e ≡ Refusal.NoMemory) }
+{
+    match spec.fold {
+        Fold::Totals => merge_totals(
+            alloc,
+            spec.key,
+            total_lines(one),
+            total_lines(two),
+            total_lines(three),
+            total_lines(four),
+        ),
+        Fold::Extrema => merge_extrema(
+            alloc,
+            extrema_lines(one),
+            extrema_lines(two),
+            extrema_lines(three),
+            extrema_lines(four),
+        ),
+    }
+}
+
+/// What an aggregate that four tables have under one number answers over the rows of the four. Refused with `Building` (15) exactly
+/// where row groups are left, else with `NoMemory` (1) alone.
+fn answer_alike<S: FarTickets>(
+    alloc: Global,
+    spec: &Spec,
+    one: &Frame<S>,
+    two: &Frame<S>,
+    three: &Frame<S>,
+    four: &Frame<S>,
+    a: u32,
+) -> Result<Answer, Refusal>
+    requires one { spec_at one.now.table a ≡ Some spec.now }
+    requires two { spec_at two.now.table a ≡ Some spec.now }
+    requires three { spec_at three.now.table a ≡ Some spec.now }
+    requires four { spec_at four.now.table a ≡ Some spec.now }
+    ensures answer { IfOk result (λ answer. answer ≡ answer_over spec.now (all_rows one.now.table two.now.table three.now.table four.now.table)) }
+    ensures built { OnOk result (left_in_all a one.now.table two.now.table three.now.table four.now.table ≡ 0) }
+    ensures refused { IfErr result (LeftRefusal (left_in_all a one.now.table two.now.table three.now.table four.now.table)) }
+{
+    let (left_one, answer_one) = asked(one, spec, a);
+    let (left_two, answer_two) = asked(two, spec, a);
+    let (left_three, answer_three) = asked(three, spec, a);
+    let (left_four, answer_four) = asked(four, spec, a);
+    let left = sum_of(left_one, left_two, left_three, left_four);
+    if left != 0 {
+        return Err(Refusal::Building(left));
+    }
+    match (answer_one, answer_two, answer_three, answer_four) {
+        (Some(one), Some(two), Some(three), Some(four)) => {
+            merge(alloc, spec, one, two, three, four)
+        }
+        _ => Err(Refusal::NoMemory),
+    }
+}
+
+/// What an aggregate that four tables have under one number answers over the rows of the four, one table after the other.
+///
+/// Refused with `NoAggregate` (12) exactly where one of them lacks the aggregate, or the four schemas or the four aggregates differ;
+/// else with `Building` (15) and how many row groups are left in all four exactly where that is not 0; else with `NoMemory` (1) alone.
+pub fn answer_four<S: FarTickets>(
+    alloc: Global,
+    one: &Frame<S>,
+    two: &Frame<S>,
+    three: &Frame<S>,
+    four: &Frame<S>,
+    a: u32,
+) -> Result<Answer, Refusal>
+    ensures answer { IfOk result (λ answer. IfSome (spec_at one.now.table a) (λ spec. answer ≡ answer_over spec (all_rows one.now.table two.now.table three.now.table four.now.table))) }
+    ensures alike { OnOk result (AreAlike a one.now.table two.now.table three.now.table four.now.table) }
+    ensures built { OnOk result (left_in_all a one.now.table two.now.table three.now.table four.now.table ≡ 0) }
+    ensures refused { IfErr result (FourRefusal a one.now.table two.now.table three.now.table four.now.table) }
+{
+    if !are_alike(one, two, three, four, a) {
+        return Err(Refusal::NoAggregate);
+    }
+    let Some(spec) = one.spec(a) else {
+        unreachable!()
+    };
+    answer_alike(alloc, spec, one, two, three, four, a)
+}

@@ -1,0 +1,10 @@
+#![tactic(auto)]
+//! Tables that threads share. What stands is the plan of one, and the answers over its four tables; their locks and sessions are to
+//! come.
+
+pub mod four;
+mod merging;
+pub mod plan;
+
+pub use four::answer_four;
+pub use plan::Plan;

@@ -1,0 +1,76 @@
+// What a shared table is made for.
+ghost use Rattle.std.specs.Prelude.{◌≡◌, ◌⊎◌, Some, None, IfOk, IfErr, OnOk};
+ghost use Rattle.far_types.specs.Bounds.{AreLimits};
+ghost use Rattle.far_shared.specs.Plans.{is_plain, gauge_refusal, plan_refusal};
+
+use far_types::{Fold, Limits, Refusal, Schema, Spec};
+use std::marker::Model;
+
+/// What a shared table is made for: the schema and the limits of each stripe, the aggregate that is its gauge, and how many sessions
+/// use it. Contracts see these four.
+#[derive(Drop)]
+pub struct Plan {
+    schema: Schema,
+    limits: Limits,
+    gauge: Spec,
+    sessions: u64,
+}
+
+impl Model for Plan {
+    ghost use Rattle.far_history.specs.Histories.{Planned};
+    ghost use Rattle.far_shared.specs.Plans.{IsPlan};
+
+    ghost Value = { Planned };
+
+    ghost view = { λ plan. record { schema = plan.schema; limits = plan.limits; gauge = plan.gauge; sessions = plan.sessions } };
+
+    ghost invariant = { λ plan. IsPlan record { schema = plan.schema; limits = plan.limits; gauge = plan.gauge; sessions = plan.sessions } };
+}
+
+/// Whether the aggregate has one count and one sum.
+fn is_plain(gauge: &Spec) -> bool
+    ensures { result ≡ is_plain gauge.now }
+{
+    match gauge.fold {
+        Fold::Totals => gauge.key.is_none(),
+        Fold::Extrema => false,
+    }
+}
+
+/// Whether the aggregate may be the gauge of tables with this schema. Refused with `BadSpec` (3) where it is not totals without key
+/// column, else as `Spec::check` says.
+fn check_gauge(schema: &Schema, gauge: &Spec) -> Result<(), Refusal>
+    ensures ok { OnOk result (gauge_refusal schema.now gauge.now ≡ None) }
+    ensures refused { IfErr result (λ e. gauge_refusal schema.now gauge.now ≡ Some e) }
+{
+    if !is_plain(gauge) {
+        return Err(Refusal::BadSpec);
+    }
+    gauge.check(schema)
+}
+
+impl Plan {
+    /// The plan of a shared table. Takes no memory.
+    ///
+    /// Refused with `BadSchema` (2) where a table may not have the limits; `BadSpec` (3) where the gauge is not totals without key
+    /// column, has more than 4 tests or too long a constant; `NoColumn` (4) or `WrongKind` (5) where the gauge cannot be had over
+    /// the schema; `OutOfRange` (14) unless there are 1 to 64 sessions: the first that applies.
+    pub fn new(schema: Schema, limits: Limits, gauge: Spec, sessions: u64) -> Result<Plan, Refusal>
+        ensures plan { IfOk result (λ plan. plan ≡ record { schema = schema; limits = limits; gauge = gauge; sessions = sessions }) }
+        ensures limits { OnOk result (AreLimits limits) }
+        ensures ok { OnOk result (plan_refusal schema gauge sessions ≡ None) }
+        ensures refused { IfErr result (λ e. ((e ≡ Refusal.BadSchema) × ¬ (AreLimits limits)) ⊎ (AreLimits limits × (plan_refusal schema gauge sessions ≡ Some e))) }
+    {
+        limits.check()?;
+        check_gauge(&schema, &gauge)?;
+        if sessions < 1 || sessions > 64 {
+            return Err(Refusal::OutOfRange);
+        }
+        Ok(Plan {
+            schema,
+            limits,
+            gauge,
+            sessions,
+        })
+    }
+}
