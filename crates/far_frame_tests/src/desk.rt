@@ -10,7 +10,6 @@ use far_store::{FarStore, FarTickets, Meter};
 use far_types::{Answer, Fold, Limits, Name, Refusal, Spec};
 use std::alloc::Global;
 use std::marker::Model;
-use std::thread::Threads;
 
 /// How many places a row group has, and the table at most.
 pub const SIZE: u32 = 3;
@@ -137,24 +136,6 @@ impl<'a, S: FarStore> Desk<'a, S> {
     /// Whether an aggregate answers these lines, or is refused so. Nothing can be said where memory is wanting.
     pub fn has_answer(&self, a: u32, due: Result<&[Line], Refusal>) -> Result<bool, Refusal> {
         match self.frame.ask(a) {
-            Ok(answer) => Ok(is_answer_due(&answer, due)),
-            Err(refusal) => is_refusal_due(refusal, due),
-        }
-    }
-
-    /// Whether a recount by so many workers gives these lines, or is refused so. Nothing can be said where memory is wanting.
-    pub fn has_recount<R: Threads + Sync>(
-        &self,
-        rt: &R,
-        meter: &mut Meter,
-        a: u32,
-        workers: u32,
-        due: Result<&[Line], Refusal>,
-    ) -> Result<bool, Refusal>
-        requires { meter.old < 2 ^ 63 }
-        ensures { meter.new ≤ meter.old + workers }
-    {
-        match self.frame.recount(rt, self.store, meter, a, workers) {
             Ok(answer) => Ok(is_answer_due(&answer, due)),
             Err(refusal) => is_refusal_due(refusal, due),
         }

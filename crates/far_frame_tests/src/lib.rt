@@ -13,8 +13,6 @@ mod random_run;
 #[cfg(test)]
 mod random_steps;
 #[cfg(test)]
-mod recounting;
-#[cfg(test)]
 mod repeating;
 #[cfg(test)]
 mod script;
