@@ -16,7 +16,6 @@ use far_frame::{Frame, View};
 use far_rows::RowRef;
 use far_store::FarTickets;
 use far_types::{CellRef, Refusal};
-use itoa::Buffer;
 use std::io::Write;
 
 /// A field of a record of one field, or of several.
@@ -31,18 +30,16 @@ fn field(page: &mut Page, is_lone: bool, text: &[u8]) -> Result<(), Refusal>
     }
 }
 
-/// A cell as a field.
+/// A cell as a field. What `number` and `text` make of it is known where it is lent, so it is built into its callers.
+#[inline(always)]
 pub fn cell(page: &mut Page, is_lone: bool, cell: CellRef) -> Result<(), Refusal>
     ensures ok { OnOk result (page.new ≡ page.old ++ field_in_record is_lone (cell_text (lent_cell cell.entry))) }
     ensures memory { IfErr result (λ e. e ≡ Refusal.NoMemory) }
 {
     match cell {
-        CellRef::Int(number) => {
-            let mut digits = Buffer::new();
-            field(page, is_lone, digits.format(number).as_bytes())
-        }
+        CellRef::Int(number) => page.signed(number),
         CellRef::Text(text) => field(page, is_lone, text.as_bytes()),
-        CellRef::Missing => field(page, is_lone, b"\\N"),
+        CellRef::Missing => page.text("\\N"),
     }
 }
 
@@ -55,7 +52,7 @@ fn more_fields<S: FarTickets>(page: &mut Page, row: &RowRef<'_, S>) -> Result<()
         let Some(lent) = row.get(column) else {
             return Ok(());
         };
-        page.text(",")?;
+        page.byte(b',')?;
         cell(page, false, lent)?;
     }
     Ok(())
@@ -69,12 +66,11 @@ fn print_row<S: FarTickets>(page: &mut Page, row: &RowRef<'_, S>) -> Result<(), 
     match row.get(0) {
         None => page.text("\"\"")?,
         Some(first) => {
-            let is_lone = row.get(1).is_none();
-            cell(page, is_lone, first)?;
+            cell(page, row.len() == 1, first)?;
             more_fields(page, row)?;
         }
     }
-    page.text("\n")?;
+    page.byte(b'\n')?;
     Ok(())
 }
 
@@ -129,6 +125,7 @@ fn dump_rows<S: FarTickets, W: Write>(
 }
 
 /// The live rows, or the refusal where an object of them is away: it comes before any row.
+#[inline(never)]
 pub fn dump<S: FarTickets, W: Write>(
     frame: &Frame<S>,
     output: &mut Output,

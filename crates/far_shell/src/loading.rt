@@ -30,6 +30,9 @@ fn insert_record<S: FarStore>(
 
 /// Inserts the records of a text in order, up to the first that is refused, and prints `loaded COUNT` and the refusal, if
 /// there is one. Refused with `NoMemory` (1) alone, where the shell itself was refused memory.
+///
+/// It stands apart, since the reader has a large frame, which each command would pay for.
+#[inline(never)]
 pub fn load<S: FarStore>(
     alloc: Global,
     world: &mut World<S>,

@@ -1,5 +1,5 @@
 // Lent parts of columns, and row groups to fetch next, as lines.
-ghost use Rattle.std.specs.Prelude.{◌≡◌, ◌++◌, map, OnOk, IfErr};
+ghost use Rattle.std.specs.Prelude.{◌≡◌, ◌++◌, ◌∷◌, [], map, OnOk, IfErr};
 ghost use Rattle.csv.specs.Writing.{default_writer, fields_text};
 ghost use Rattle.far_types.specs.declared.cell.Cell.{Cell};
 ghost use Rattle.far_types.specs.Lent.{int_cell, lent_cell, text_cell};
@@ -43,10 +43,10 @@ impl Value for Option<Text> {
 }
 
 /// What stands for a place that is alive, and for one that is not.
-fn mark(alive: bool) -> &'static str
-    ensures { result.now ≡ flag_text alive }
+fn mark(alive: bool) -> u8
+    ensures { result ∷ [] ≡ flag_text alive }
 {
-    if alive { "+" } else { "-" }
+    if alive { b'+' } else { b'-' }
 }
 
 /// The marks of places.
@@ -55,7 +55,7 @@ fn marks(page: &mut Page, flags: &[bool]) -> Result<(), Refusal>
     ensures memory { IfErr result (λ e. e ≡ Refusal.NoMemory) }
 {
     for alive in flags {
-        page.text(mark(*alive))?;
+        page.byte(mark(*alive))?;
     }
     Ok(())
 }
@@ -66,7 +66,7 @@ fn more_values<V: Value>(page: &mut Page, values: &[V]) -> Result<(), Refusal>
     ensures memory { IfErr result (λ e. e ≡ Refusal.NoMemory) }
 {
     for value in values {
-        page.text(",")?;
+        page.byte(b',')?;
         cell(page, false, value.lend())?;
     }
     Ok(())

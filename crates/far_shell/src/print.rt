@@ -7,6 +7,7 @@ use far_types::{Answer, ExtremaLines, Key, Refusal, TotalLines};
 use itoa::Buffer;
 
 /// A word and a number, on a line.
+#[inline(always)]
 pub fn numbered(page: &mut Page, word: &str, number: u64) -> Result<(), Refusal>
     ensures ok { OnOk result (page.new ≡ page.old ++ numbered_text word.now number) }
     ensures memory { IfErr result (λ e. e ≡ Refusal.NoMemory) }

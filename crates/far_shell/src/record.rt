@@ -10,6 +10,7 @@ use std::alloc::Global;
 
 /// The fields of a text that is exactly one record, by the csv reader: no header row, no trimming. Refused with
 /// `NoMemory` (1) alone: a text in memory has no other way to fail.
+#[inline(never)]
 pub fn read_record(alloc: Global, text: &str) -> Result<Option<StringRecord>, Refusal>
     ensures record { IfOk result (λ found. option_map fields_of found ≡ one_record text.now) }
     ensures memory { IfErr result (λ e. e ≡ Refusal.NoMemory) }

@@ -75,7 +75,9 @@ fn go_on<S: FarStore, A: Resources<S>>(
     migrate(world, empty, store)
 }
 
-/// Goes on with a new store of this capacity, and prints `renewed`, or the refusal.
+/// Goes on with a new store of this capacity, and prints `renewed`, or the refusal. It stands apart, since the tables that move
+/// have a large frame, which each command would pay for.
+#[inline(never)]
 pub fn renew<S: FarStore, A: Resources<S>>(
     resources: &A,
     world: &mut World<S>,
