@@ -10,6 +10,7 @@ use std::env;
 use std::io::{self, Write};
 use std::rt::Clock;
 use std::sync::Wait;
+use std::thread::Threads;
 use std::time::Instant;
 
 /// What a workload repeats.
@@ -79,7 +80,7 @@ fn script(alloc: Global, workload: Workload, lines: u32) -> Result<String, Alloc
 }
 
 /// Runs a workload, and says how long a line took, in nanoseconds.
-fn run<R: Clock + Print + AllocGlobal + Sync + Wait>(
+fn run<R: Clock + Print + AllocGlobal + Sync + Threads + Wait>(
     rt: &R,
     workload: Workload,
     lines: u32,
