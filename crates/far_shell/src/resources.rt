@@ -14,10 +14,8 @@ pub trait Resources<S: FarTickets> {
     /// The allocator.
     fn alloc(&self) -> Global;
 
-    /// What threads are made by that read the table.
-    ///
-    /// It is lent, and no method here makes the threads. Only a function that names its bounds knows that threads may share it: of
-    /// the bounds of an `impl` its methods are not told.
+    /// What threads are made by that read the table. It is lent, so that functions over all resources make them: a method in an
+    /// `impl` is not told that its type is `Sync`.
     fn runtime(&self) -> &Self::Runtime;
 
     /// An empty store that gives out the numbers below `capacity`. Refused with `NoMemory` (1) alone.
