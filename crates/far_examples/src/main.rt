@@ -5,10 +5,11 @@
 use far_shell::{ShellFault, run_script};
 use std::rt::Files;
 use std::sync::Wait;
+use std::thread::Threads;
 use std::{fs, io};
 
 /// Scripts that are run to their end.
-const WHOLE: [&str; 59] = [
+const WHOLE: [&str; 62] = [
     "first_run",
     "bakery",
     "a_key_gets_the_extremes_of_the_rows_left",
@@ -21,6 +22,7 @@ const WHOLE: [&str; 59] = [
     "a_part_of_a_column_is_lent",
     "a_piece_is_written_as_a_record",
     "a_pinned_object_stays",
+    "a_recount_between_the_phases_of_jobs",
     "a_renewal_of_pinned_objects",
     "a_renewal_spends_offloads",
     "a_renewal_spends_the_jobs_begun_before",
@@ -48,6 +50,7 @@ const WHOLE: [&str; 59] = [
     "filters_of_both_kinds",
     "how_a_renewal_is_asked_for",
     "how_offloads_are_asked_for",
+    "how_recounts_are_asked_for",
     "jobs_are_numbered_and_spent",
     "jobs_that_are_left_keep_nothing_from_moving",
     "keys_are_printed_as_records",
@@ -57,6 +60,7 @@ const WHOLE: [&str; 59] = [
     "offloads_build_what_is_away",
     "offloads_that_cannot_be_begun",
     "quotes",
+    "recounts_of_all_kinds_read_what_is_away",
     "refusals_of_edits",
     "row_groups_are_proposed",
     "segments_are_compacted",
@@ -91,7 +95,7 @@ const FAULTY_INPUTS: [&str; 3] = [
 ];
 
 /// Whether the script of this name prints its replies and ends with this fault, or with none.
-fn agrees<R: Files + AllocGlobal + Sync + Wait>(
+fn agrees<R: Files + AllocGlobal + Sync + Threads + Wait>(
     rt: &R,
     name: &str,
     due: Option<ShellFault>,
@@ -104,7 +108,7 @@ fn agrees<R: Files + AllocGlobal + Sync + Wait>(
 }
 
 /// Runs scripts that end with one fault, or with none.
-fn run_all<R: Files + Print + AllocGlobal + Sync + Wait>(
+fn run_all<R: Files + Print + AllocGlobal + Sync + Threads + Wait>(
     rt: &R,
     names: &[&str],
     due: Option<ShellFault>,

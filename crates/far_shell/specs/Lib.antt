@@ -6,6 +6,7 @@ pub mod Commands
 pub mod Watches
 pub mod Openings
 pub mod Printing
+pub mod Recounts
 pub mod Renewals
 pub mod Replies
 pub mod Scripts

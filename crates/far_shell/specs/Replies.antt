@@ -19,6 +19,7 @@ use Rattle.far_shell.specs.Fields.{cells_from}
 use Rattle.far_shell.specs.Listings.{listing_of}
 use Rattle.far_shell.specs.Pieces.{pieces_text, next_text}
 use Rattle.far_shell.specs.Printing.{numbered_text, answer_text, refusal_text}
+use Rattle.far_shell.specs.Recounts.{Recounts}
 use Rattle.far_shell.specs.Renewals.{Renews}
 
 -- what a step is answered that is done and has nothing to say
@@ -69,6 +70,7 @@ module _ {S K : Type 0} (tickets : Tickets S K) where
   Serves old (command.Load count) rows text new = (length rows ≡ count) × IsUtf8 rows × Loads 0 old (records_of rows) text new
   Serves old command.Dump rows text new = (rows ≡ []) × (text ≡ listing_of (live old.state)) × (new ≡ old)
   Serves old (command.Renew capacity) rows text new = (rows ≡ []) × Renews tickets capacity old text new
+  Serves old (command.Recount a) rows text new = (rows ≡ []) × Recounts old.state.table a text × (new ≡ old)
 
   -- a line is answered; one that spells no command changes nothing
   abbrev pub ServesLine : ℕ → World K → Option Command → List ℕ → List ℕ → World K → Type 0

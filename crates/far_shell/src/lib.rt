@@ -17,6 +17,7 @@ mod pieces;
 mod print;
 mod progress;
 mod record;
+mod recounting;
 mod renewing;
 mod resources;
 mod script;

@@ -20,6 +20,7 @@ use far_types::Refusal;
 use std::alloc::Global;
 use std::io::{Read, Write};
 use std::sync::Wait;
+use std::thread::Threads;
 
 /// More lines than a script can have: each takes a byte.
 const MAX_LINES: u32 = MAX_BYTES + 1;
@@ -166,7 +167,7 @@ fn run_over<S: FarStore, A: Resources<S>, R: Read + Drop, W: Write>(
 ///
 /// The faults are those of `run_script`. What is left of the reads and bytes afterwards says how many were made: also of a
 /// reader whose bytes nobody knows, as standard input. At the fault `Input` all whole lines that came are answered.
-pub fn run_input<T: AllocGlobal + Sync + Wait, R: Read + Drop, W: Write>(
+pub fn run_input<T: AllocGlobal + Sync + Threads + Wait, R: Read + Drop, W: Write>(
     rt: &T,
     input: &mut Input<R>,
     writer: &mut W,
@@ -187,7 +188,7 @@ pub fn run_input<T: AllocGlobal + Sync + Wait, R: Read + Drop, W: Write>(
 /// where a read fails, the script is no UTF-8, or it ends inside a load. What lies wholly before a fault is answered.
 /// Where a write fails, the fault is `Output`; where the shell itself is refused memory, `Memory`; where the first command
 /// opens no table, `BadStart`.
-pub fn run_script<T: AllocGlobal + Sync + Wait, R: Read + Drop, W: Write>(
+pub fn run_script<T: AllocGlobal + Sync + Threads + Wait, R: Read + Drop, W: Write>(
     rt: &T,
     reader: R,
     writer: &mut W,

@@ -22,6 +22,7 @@ use super::page::Page;
 use super::pieces::{ints, next, texts};
 use super::print::{answer, numbered, refused};
 use super::progress::Progress;
+use super::recounting::recount;
 use super::renewing::renew;
 use super::resources::Resources;
 use far_frame::{Reply, Step, World};
@@ -110,6 +111,11 @@ fn answer_command<S: FarStore, A: Resources<S>, R: Read + Drop, W: Write>(
         }
         Command::Renew(capacity) => {
             renew(resources, world, capacity, &mut output.reply)?;
+            output.add()?;
+            Ok(())
+        }
+        Command::Recount(aggregate) => {
+            recount(resources, world, aggregate, &mut output.reply)?;
             output.add()?;
             Ok(())
         }

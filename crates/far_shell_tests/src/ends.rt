@@ -4,6 +4,7 @@ use std::cell::RefCell;
 use std::io::{self, Read, Write};
 use std::sync::Wait;
 use std::test::Fail;
+use std::thread::Threads;
 
 /// Two lines, and their replies.
 const FIRST: &[u8] = b"schema 4 int\ninsert 1\n";
@@ -62,7 +63,10 @@ fn with_more(more: usize, at_a_time: usize, fails_in: u32) -> Source {
 }
 
 /// How a script of this source ends, if its first two lines are answered.
-fn end_of<R: AllocGlobal + Sync + Wait>(rt: &R, source: Source) -> Option<Result<(), ShellFault>> {
+fn end_of<R: AllocGlobal + Sync + Threads + Wait>(
+    rt: &R,
+    source: Source,
+) -> Option<Result<(), ShellFault>> {
     let mut given = Vec::new(rt.alloc());
     let outcome = run_script(rt, source, &mut given);
     given.as_slice().starts_with(REPLIES).then_some(outcome)

@@ -2,6 +2,7 @@
 use far_random::Draws;
 use far_shell::{ShellFault, run_script};
 use std::sync::Wait;
+use std::thread::Threads;
 
 /// How many scripts are drawn.
 const SCRIPTS: u32 = 20_000;
@@ -69,7 +70,7 @@ fn draw_script(draws: &mut Draws, script: &mut Vec<u8>) -> Result<(), ShellFault
 }
 
 /// Whether a script ends as one can whose replies are all written while memory is left.
-fn ends<R: AllocGlobal + Sync + Wait>(rt: &R, script: &[u8]) -> bool {
+fn ends<R: AllocGlobal + Sync + Threads + Wait>(rt: &R, script: &[u8]) -> bool {
     let mut given = Vec::new(rt.alloc());
     match run_script(rt, script, &mut given) {
         Ok(()) | Err(ShellFault::BadStart | ShellFault::Input) => true,
@@ -78,7 +79,7 @@ fn ends<R: AllocGlobal + Sync + Wait>(rt: &R, script: &[u8]) -> bool {
 }
 
 /// Whether all scripts that are drawn end so.
-fn all_end<R: AllocGlobal + Sync + Wait>(rt: &R) -> Result<bool, ShellFault> {
+fn all_end<R: AllocGlobal + Sync + Threads + Wait>(rt: &R) -> Result<bool, ShellFault> {
     let mut draws = Draws::new(20_000);
     let mut script = Vec::new(rt.alloc());
     for _ in 0..SCRIPTS {

@@ -1,0 +1,16 @@
+-- What a recount is answered.
+use Rattle.std.specs.Prelude.{◌≡◌, ◌⊎◌, ℕ, List}
+use Rattle.far_types.specs.declared.answer.Answer.{Answer}
+use Rattle.far_types.specs.declared.refusal.Refusal.{Refusal}
+use Rattle.far_types.specs.Table.{Table}
+use Rattle.far_table.specs.Recounting.{recount_refusal, IsAnswerNow, RecountRefusal}
+use Rattle.far_shell.specs.Printing.{answer_text, refusal_text}
+
+-- no recount by 4 workers: there is no such aggregate; or the store fails, which a meter of its own counts; or memory is wanted
+abbrev pub IsNotRecounted : Table → ℕ → Refusal → Type 0
+IsNotRecounted table a why = (faults : ℕ) × RecountRefusal (recount_refusal table a 4) 0 faults why
+
+-- an aggregate is computed from scratch, and the text is the reply
+abbrev pub Recounts : Table → ℕ → List ℕ → Type 0
+Recounts table a text = ((answer : Answer) × IsAnswerNow table a answer × (text ≡ answer_text answer))
+    ⊎ ((why : Refusal) × IsNotRecounted table a why × (text ≡ refusal_text why))
