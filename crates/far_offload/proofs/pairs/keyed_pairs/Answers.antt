@@ -10,7 +10,7 @@ use Rattle.far_types.specs.Pairs.{Pair, PairsFit}
 use Rattle.far_offload.specs.Columns.{cell_of, cells_at}
 use Rattle.far_offload.proofs.FoldLaws.{pairs-with, pairs-keyless, pairs-valueless, fits-more}
 use Rattle.far_offload.proofs.pairs.keyed_pairs.Goals as goal
-use Rattle.far_offload.proofs.pairs.keyed_pairs.Goals.{in-Some+in_ok-key+then-is_some+in_ok-push, in-Some+in_ok-key+else-is_some, in_default}
+use Rattle.far_offload.proofs.pairs.keyed_pairs.Goals.{in-Some+in_ok-key+then-is_some+in_ok-push, in-Some+in_ok-key+else-is_some+in-None-1, in-Some+in_ok-key+else-is_some+in-Some+in-Int-1, in-Some+in_ok-key+else-is_some+in-Some+in-Text-1, in_default}
 
 pub loop-place-preserved : goal.loop-place-preserved
 loop-place-preserved c =
@@ -24,7 +24,7 @@ loop-place-preserved c =
       | in-Some+in_ok-key+then-is_some+in_ok-push w ↦
           let value = w.in-Some.value in
           let key = w.in_ok-key.key in
-          let pushed : w.pairs.items ≡ c.loop-place.pairs.items ++ (key, value) ∷ [] = ap (λ v. v.items) w.pairs-is ∙ w.in_ok-push.ensures.ok ∙ ap (λ (v : ℤ). c.loop-place.pairs.items ++ (key, v) ∷ []) (to_z-of_z w64 value w.in-Some.ensures.fits) in
+          let pushed = ap (λ v. v.items) w.pairs-is ∙ w.in_ok-push.ensures.items ∙ ap (λ (v : ℤ). c.loop-place.pairs.items ++ (key, v) ∷ []) (to_z-of_z w64 value w.in-Some.ensures.fits) in
           record {
             pairs =
                 pushed
@@ -32,7 +32,23 @@ loop-place-preserved c =
                 ∙ sym (pairs-with spec columns alive place c.args.column flag value key c.requires (omega arith) refl w.in-Some.ensures.value (key_is key w.in_ok-key.ensures.key) (sym w.is_some.ensures ∙ w.if-is_some.true));
             fits = subst PairsFit (sym pushed) (fits-more c.loop-place.pairs.items (key, value) c.loop-place.invariant.fits w.in-Some.ensures.fits);
           }
-      | in-Some+in_ok-key+else-is_some w ↦
+      | in-Some+in_ok-key+else-is_some+in-None-1 w ↦
+          record {
+            pairs =
+                ap (λ v. v.items) w.pairs-is
+                ∙ c.loop-place.invariant.pairs
+                ∙ sym (pairs-keyless spec columns alive place c.args.column flag w.in-Some.value w.in_ok-key.key c.requires (omega arith) refl w.in-Some.ensures.value (key_is w.in_ok-key.key w.in_ok-key.ensures.key) (sym w.is_some.ensures ∙ w.if-is_some.false));
+            fits = subst PairsFit (sym (ap (λ v. v.items) w.pairs-is)) c.loop-place.invariant.fits;
+          }
+      | in-Some+in_ok-key+else-is_some+in-Some+in-Int-1 w ↦
+          record {
+            pairs =
+                ap (λ v. v.items) w.pairs-is
+                ∙ c.loop-place.invariant.pairs
+                ∙ sym (pairs-keyless spec columns alive place c.args.column flag w.in-Some.value w.in_ok-key.key c.requires (omega arith) refl w.in-Some.ensures.value (key_is w.in_ok-key.key w.in_ok-key.ensures.key) (sym w.is_some.ensures ∙ w.if-is_some.false));
+            fits = subst PairsFit (sym (ap (λ v. v.items) w.pairs-is)) c.loop-place.invariant.fits;
+          }
+      | in-Some+in_ok-key+else-is_some+in-Some+in-Text-1 w ↦
           record {
             pairs =
                 ap (λ v. v.items) w.pairs-is
