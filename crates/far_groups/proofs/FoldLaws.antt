@@ -1,11 +1,10 @@
 -- Totals into which pairs are folded one after another, and from which they are taken again.
-use Rattle.std.proofs.Common.{◌≡◌, ℕ, zero, suc, ◌+◌, ◌^◌, ◌<◌, ◌≤◌, Bool, true, false, cond, List, [], ◌∷◌, ◌++◌, take, slice_get, refl, sym, ap, ◌∙◌, subst, Option, None, Some, arith}
-use Rattle.std.specs.Prelude.{ℤ, ◌+ℤ◌, IfSome, FitsSigned}
+use Rattle.std.proofs.Common.{◌≡◌, ℕ, zero, suc, ◌+◌, ◌^◌, ◌<◌, ◌≤◌, true, false, cond, List, [], ◌∷◌, take, slice_get, refl, sym, ap, ◌∙◌, subst, Option, None, Some, arith}
+use Rattle.std.specs.Prelude.{ℤ, ◌+ℤ◌, FitsSigned}
 use Rattle.std.specs.Int.{w64}
 use Rattle.std.specs.Ordering.{eq_by_cmp}
 use Rattle.std.proofs.lemmas.Int.{ints}
 use Rattle.std.specs.FinMap as fin
-use Rattle.far_types.specs.declared.key.Key.{Key}
 use Rattle.far_types.specs.Keys.{line_cmp}
 use Rattle.far_types.specs.KeyOrder.{line_total}
 use Rattle.far_types.specs.Pairs.{Pair, PairsFit}
@@ -15,7 +14,7 @@ use Rattle.far_types.proofs.Grouping.{same, same_key, get-joined}
 use Rattle.far_types.proofs.ByKeyMaps.{joined-empty, get_inserted}
 use Rattle.far_types.proofs.TotalLaws.{totals-cons}
 use Rattle.far_groups.specs.Live.{CanJoin}
-use Rattle.far_groups.specs.Tallies.{IsTally, AreTallies, with_tally, LeavesTally, without_tally}
+use Rattle.far_groups.specs.Tallies.{IsTally, AreTallies, LeavesTally, without_tally}
 use Rattle.far_groups.specs.Folds.{with_pairs, CanFoldAll}
 use Rattle.far_groups.proofs.TallyLaws.{with_tally-one, AreTallies-with}
 use Rattle.far_groups.proofs.JoinLaws.{leaves, with_back}
