@@ -1,7 +1,7 @@
 // Pairs that come into what is kept, and how they are taken back where a later growth is refused.
 ghost use Rattle.std.specs.Prelude.{◌≡◌, ◌/◌, ◌^◌, ◌<◌, ◌≤◌, Some, OnOk, OnErr, IfErr, IfOk, length, map};
 ghost use Rattle.far_aggregates.specs.Changes.{EachFolds, row_gives};
-ghost use Rattle.far_aggregates.specs.Coming.{stood_in, come_of, added, back, MayAdd, MayBack, EachFits, EachMayBack};
+ghost use Rattle.far_aggregates.specs.Coming.{stood_in, come_of, added, back, MayAdd, MayBack, Fits, EachFits, EachMayBack};
 ghost use Rattle.far_aggregates.specs.Rooms.{HaveRoom};
 ghost use Rattle.far_aggregates.specs.Until.{zip_until, zip_all};
 
@@ -76,9 +76,10 @@ fn comings<R: LendCells>(
     Ok(comes)
 }
 
-/// One pair more, where there is one.
+/// One pair more, where there is one. What stood under its key is known, so it is not looked up again.
 fn add_one(slot: &mut Option<Aggregate>, group: u32, come: &Option<Coming>) -> Result<(), Refusal>
-    requires { MayAdd group slot.old come.now }
+    requires may { MayAdd group slot.old come.now }
+    requires fits { Fits group slot.old come.now }
     ensures ok { OnOk result (slot.new ≡ added group slot.old come.now) }
     ensures err { OnErr result (slot.new ≡ slot.old) }
     ensures memory { IfErr result (λ e. e ≡ Refusal.NoMemory) }
@@ -87,7 +88,7 @@ fn add_one(slot: &mut Option<Aggregate>, group: u32, come: &Option<Coming>) -> R
         if let Some(come) = come {
             match &mut aggregate.kept {
                 Kept::Totals(live) => live.add_under(&come.pair.0, come.pair.1)?,
-                Kept::Extrema(live) => live.see_under(group, &come.pair.0, come.pair.1)?,
+                Kept::Extrema(live) => live.see_over(group, &come.pair.0, come.pair.1, come.stood)?,
             }
         }
     }

@@ -1,6 +1,10 @@
 // A row group that is built into an aggregate.
-ghost use Rattle.std.specs.Prelude.{◌≡◌, ◌<◌, ◌≤◌, ◌^◌, ℕ, List, true, length, slice_get, slice_set, IfOk, OnOk, OnErr, IfErr};
+ghost use Rattle.std.specs.Prelude.{◌≡◌, ◌≢◌, ◌-◌, ◌<◌, ◌≤◌, ◌^◌, ℕ, List, true, length, slice_get, slice_set, IfOk, OnOk, OnErr, IfErr};
+ghost use Rattle.far_types.specs.declared.spec.Fold.TheVariants as folds;
+ghost use Rattle.far_types.specs.Answers.{totals};
+ghost use Rattle.far_types.specs.Changes.{joined_totals};
 ghost use Rattle.far_types.specs.Table.{Place, in_group};
+ghost use Rattle.far_groups.specs.Live.{CanJoin};
 ghost use Rattle.far_offload.specs.Partials.{partial_of};
 ghost use Rattle.far_aggregates.specs.Kept.{KeepsSlot, Keeps, fold_of, pairs_here, registered_in, registered_of};
 ghost use Rattle.far_aggregates.specs.Lending.{IsServed, SlotIsServed};
@@ -11,7 +15,8 @@ ghost use Rattle.far_aggregates.specs.Recounting.{KeptMayMerge, IsMerged};
 use super::aggregate::{Aggregate, Kept};
 use super::lend_group::LendGroup;
 use super::needed::needed_columns;
-use far_offload::{PartialDone, fold};
+use far_groups::LiveTotals;
+use far_offload::{PartialDone, fold, fold_into};
 use far_types::{Refusal, Spec};
 use std::alloc::Global;
 
@@ -53,6 +58,26 @@ pub fn merge_in(kept: &mut Kept, number: u32, partial: PartialDone) -> Result<()
     }
 }
 
+/// The rows of a row group come into totals. Refused with `NoMemory` (1) alone, and then these stay the same.
+fn scan_totals<G: LendGroup>(
+    alloc: Global,
+    live: &mut LiveTotals,
+    spec: &Spec,
+    group: &G,
+) -> Result<(), Refusal>
+    requires few { length (G.places group.now) ≤ 2 ^ 24 }
+    requires served { IsServed (G.has group.now) spec.now }
+    requires fold { spec.now.fold ≡ folds.Totals }
+    requires left { live.old.left ≢ 0 }
+    requires can_join { CanJoin live.old.totals (totals (pairs_here spec.now (G.places group.now))) }
+    ensures ok { OnOk result (live.new ≡ record { left = live.old.left - 1; totals = joined_totals live.old.totals (totals (pairs_here spec.now (G.places group.now))) }) }
+    ensures err { OnErr result (live.new ≡ live.old) }
+    ensures memory { IfErr result (λ e. e ≡ Refusal.NoMemory) }
+{
+    let columns = needed_columns(spec, group);
+    fold_into(alloc, live, spec, &columns, group.alive())
+}
+
 /// The rows of a row group are in too. Refused with `NoMemory` (1) alone, and then what is in stays the same.
 fn scan<G: LendGroup>(
     alloc: Global,
@@ -69,6 +94,9 @@ fn scan<G: LendGroup>(
     ensures err { OnErr result (IsSame kept.old kept.new) }
     ensures memory { IfErr result (λ e. e ≡ Refusal.NoMemory) }
 {
+    if let Kept::Totals(live) = kept {
+        return scan_totals(alloc, live, spec, group);
+    }
     let partial = fold_group(alloc, spec, group)?;
     merge_in(kept, number, partial)
 }

@@ -140,7 +140,8 @@ fn follows_rows(live: &mut LiveExtrema, key: &Option<Key>) -> Result<bool, Refus
     live.make_room(1);
     let before = live.span(1, key);
     live.see_under(1, key, 4)?;
-    live.see_under(1, key, 9)?;
+    let stood = live.span(1, key);
+    live.see_over(1, key, 9, stood)?;
     if live.span(1, key) != Some((4, 9)) {
         return Ok(false);
     }

@@ -99,7 +99,27 @@ impl LiveExtrema {
         ensures only_new { OnErr result (fin.get (group_at self.old.groups group) key.now ≡ None) }
         ensures memory { IfErr result (λ e. e ≡ Refusal.NoMemory) }
     {
-        match span_in(&self.holders, group, key) {
+        let stood = self.span(group, key);
+        self.see_over(group, key, value, stood)
+    }
+
+    /// What `see_under` does, for a caller that has looked up what stands under the key in the row group: a value within
+    /// that costs no look-up more. Refused as `see_under`, and then nothing is changed.
+    pub fn see_over(
+        &mut self,
+        group: u32,
+        key: &Option<Key>,
+        value: i64,
+        stood: Option<Span>,
+    ) -> Result<(), Refusal>
+        requires room { group < length self.old.groups }
+        requires stood { stood ≡ fin.get (group_at self.old.groups group) key.now }
+        ensures ok { OnOk result (self.new ≡ record self.old { groups = slice_set self.old.groups group (with_seen (group_at self.old.groups group) (key.now, value)) }) }
+        ensures err { OnErr result (self.new ≡ self.old) }
+        ensures only_new { OnErr result (stood ≡ None) }
+        ensures memory { IfErr result (λ e. e ≡ Refusal.NoMemory) }
+    {
+        match stood {
             Some(span) => {
                 if !is_within(value, span) {
                     let wide = together((value, value), span);

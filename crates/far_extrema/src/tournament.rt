@@ -1,5 +1,6 @@
 // The spans of the row groups in which one key occurs.
 ghost use Rattle.std.specs.Prelude.{◌≡◌, ◌+◌, ◌∷◌, [], ◌≢◌, ◌<◌, ◌≤◌, ◌==◌, ℕ, cond, Some, None, true, false, IsTrue, IfErr};
+ghost use Rattle.std.specs.Option.{option_copied};
 ghost use Rattle.far_types.specs.Changes.{join_spans, together};
 ghost use Rattle.far_extrema.specs.Spreads.{at, IsTop, IsFrom, IsBelow, IsSet};
 
@@ -104,14 +105,21 @@ impl Tournament {
     pub fn span(&self, group: u32) -> Option<Span>
         ensures { result ≡ at self.now.spans group }
     {
+        self.find(group).copied()
+    }
+
+    /// The span of a row group where it stands. It comes back in registers, so that the way down is a loop.
+    fn find(&self, group: u32) -> Option<&Span>
+        ensures { option_copied result ≡ at self.now.spans group }
+    {
         match &self.node {
-            Node::One(holder, span) => { if *holder == group { Some(*span) } else { None } }
+            Node::One(holder, span) => { if *holder == group { Some(span) } else { None } }
             Node::Several(_, branch) => {
                 let branch = &**branch;
                 if group < branch.split {
-                    branch.before.span(group)
+                    branch.before.find(group)
                 } else {
-                    branch.after.span(group)
+                    branch.after.find(group)
                 }
             }
         }

@@ -49,10 +49,10 @@ back m k t (Some x) is h =
     ∙ (λ i. fin.insert (fin.insert m k (add_tallies x t)) k (count i, sum i))
     ∙ insert_again m k (add_tallies x t) x is
 
-with_back : (m : Totals) (k : Option Key) (t : ℕ × ℤ) → IfSome (fin.get m k) IsTally → without_tally (with_tally m k t) k t ≡ m
+pub with_back : (m : Totals) (k : Option Key) (t : ℕ × ℤ) → IfSome (fin.get m k) IsTally → without_tally (with_tally m k t) k t ≡ m
 with_back m k t h = ap (without_less (with_tally m k t) k t) (get_inserted m k (with_more add_tallies t (fin.get m k))) ∙ back m k t (fin.get m k) refl h
 
-leaves : (t : ℕ × ℤ) (o : Option (ℕ × ℤ)) → IfSome o IsTally → LeavesTally t (Some (with_more add_tallies t o))
+pub leaves : (t : ℕ × ℤ) (o : Option (ℕ × ℤ)) → IfSome o IsTally → LeavesTally t (Some (with_more add_tallies t o))
 leaves t None h = (omega arith, (omega (arith, ints), omega (arith, ints)))
 leaves t (Some x) h = (omega arith, (omega (arith, ints), omega (arith, ints)))
 

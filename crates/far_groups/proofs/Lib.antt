@@ -1,3 +1,4 @@
+pub mod FoldLaws
 pub mod JoinLaws
 pub mod NewLines
 pub mod PairLaws

@@ -1,3 +1,4 @@
+pub mod Folds
 pub mod Live
 pub mod Tallies
 pub mod Walks

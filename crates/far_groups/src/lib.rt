@@ -1,9 +1,11 @@
 #![tactic(auto)]
 //! Totals by key that are kept up to date: how many rows are folded under each key, and the sum of their values.
 
+mod folds;
 mod joins;
 pub mod laws;
 pub mod live_totals;
 mod tallies;
 
+pub use folds::Pair;
 pub use live_totals::LiveTotals;

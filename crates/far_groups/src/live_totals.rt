@@ -1,6 +1,7 @@
 // Totals that are kept up to date.
 ghost use Rattle.std.specs.Prelude.{◌≡◌, ◌≢◌, ◌+◌, ◌-◌, ◌^◌, ◌<◌, ◌≤◌, pos, None, Some, Err, unwrap_or, OnOk, OnErr, IfOk, IfErr};
 
+use super::folds::{Pair, fold_all};
 use super::joins::join_all;
 use super::tallies::{Tallies, add, add_under, lines, take, tally_of};
 use far_types::{Answer, Key, Refusal, TotalLines};
@@ -36,7 +37,8 @@ impl Model for LiveTotals {
 
 impl LiveTotals {
     ghost use Rattle.std.specs.FinMap as fin;
-    ghost use Rattle.far_types.specs.Answers.{total_lines};
+    ghost use Rattle.far_types.specs.Answers.{total_lines, totals};
+    ghost use Rattle.far_types.specs.Pairs.{PairsFit};
     ghost use Rattle.far_types.specs.Changes.{count_in, with_pair, without_pair, joined_totals};
     ghost use Rattle.far_groups.specs.Live.{CanTake, CanJoin};
     ghost use Rattle.far_groups.specs.Tallies.{IsTally};
@@ -116,6 +118,22 @@ impl LiveTotals {
         ensures memory { IfErr result (λ e. e ≡ Refusal.NoMemory) }
     {
         join_all(self.alloc, &mut self.tallies, &other.tallies)?;
+        self.left -= 1;
+        Ok(())
+    }
+
+    /// The folded rows of a row group more, and one row group less is left. Costs a look-up for each row, where `merge`
+    /// costs one for each key once these are folded by themselves. Refused with `NoMemory` (1) alone, and then nothing is
+    /// changed.
+    pub fn fold_in(&mut self, pairs: &[Pair]) -> Result<(), Refusal>
+        requires left { self.old.left ≢ 0 }
+        requires fits { PairsFit pairs.now }
+        requires can_join { CanJoin self.old.totals (totals pairs.now) }
+        ensures ok { OnOk result (self.new ≡ record { left = self.old.left - 1; totals = joined_totals self.old.totals (totals pairs.now) }) }
+        ensures err { OnErr result (self.new ≡ self.old) }
+        ensures memory { IfErr result (λ e. e ≡ Refusal.NoMemory) }
+    {
+        fold_all(&mut self.tallies, pairs)?;
         self.left -= 1;
         Ok(())
     }

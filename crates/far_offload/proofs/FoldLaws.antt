@@ -1,6 +1,7 @@
 -- How what the first places come to changes with one place more.
 use Rattle.std.proofs.Common.{◌≡◌, ℕ, zero, suc, ◌+◌, ◌<◌, ◌≤◌, ◌^◌, Bool, true, false, cond, List, [], ◌∷◌, ◌++◌, length, get_or, map, take, Option, None, Some, refl, sym, ap, ◌∙◌, arith}
-use Rattle.std.specs.Prelude.{ℤ, ◌+ℤ◌, option_map, is_some}
+use Rattle.std.specs.Prelude.{ℤ, ◌+ℤ◌, option_map, is_some, FitsSigned}
+use Rattle.std.specs.Int.{w64}
 use Rattle.std.specs.FinMap as fin
 use Rattle.std.specs.Option.{option_and_then}
 use Rattle.std.proofs.lemmas.Bool.{false≢true}
@@ -14,7 +15,7 @@ use Rattle.far_types.specs.declared.spec.Fold.{Fold}
 use Rattle.far_types.specs.declared.spec.Fold.TheVariants as fold
 use Rattle.far_types.specs.Cells.{number_in, key_in}
 use Rattle.far_types.specs.Filters.{keeps}
-use Rattle.far_types.specs.Pairs.{Pair, key_under, paired}
+use Rattle.far_types.specs.Pairs.{Pair, PairsFit, key_under, paired}
 use Rattle.far_types.specs.Answers.{tally, int_sum, span, totals, extrema}
 use Rattle.far_types.specs.Changes.{widened, joined_totals, joined_extrema}
 use Rattle.far_types.proofs.ByKeyMaps.{grouped-one}
@@ -108,6 +109,11 @@ pub pairs-valueless : (spec : Spec) (columns : Columns) (flags : List Bool) (i :
 pairs-valueless spec columns flags i flag within is none =
     pairs-next spec columns flags i flag None within is (pair-is spec columns (i, flag) ∙ ap (λ (o : Option ℤ). option_and_then (λ value. option_map (λ key. (key, value)) (key_under spec.key (cells_at columns i))) o) (sym none))
     ∙ append-nil (pairs_over spec columns (take i flags))
+
+-- pairs of numbers of 64 bits, with one more
+pub fits-more : (pairs : List Pair) (pair : Pair) → PairsFit pairs → FitsSigned w64 pair.1 → PairsFit (pairs ++ pair ∷ [])
+fits-more [] pair fits fit = (fit, tt)
+fits-more (p ∷ pairs) pair fits fit = (fits.0, fits-more pairs pair fits.1 fit)
 
 -- a place with a value, in an aggregate with a key column
 keyed-pair : (spec : Spec) (columns : Columns) (i column : ℕ) (flag : Bool) (value : ℤ) (key : Option Key) → spec.key ≡ Some column → Some value ≡ value_at spec columns (i, flag) → key ≡ key_in (cells_at columns i column) → pair_at spec columns (i, flag) ≡ option_map {U = Pair} (λ k. (Some k, value)) key

@@ -90,6 +90,14 @@ impl<'a> Column<'a> {
         self.number
     }
 
+    /// Whether the values are numbers. Only the time that a fold takes rests on it.
+    pub(crate) fn has_numbers(&self) -> bool {
+        matches!(
+            &self.values,
+            ColumnValues::Numbers(_) | ColumnValues::Ints(_)
+        )
+    }
+
     /// The cell of a place. Past the end there is no value.
     #[inline(always)]
     pub(crate) fn cell(&self, place: usize) -> CellRef<'_>

@@ -6,16 +6,19 @@
 mod column;
 mod content;
 mod folding;
+mod into;
 mod job;
 mod kept;
 mod keys;
 mod laws;
+mod pairs;
 mod partial;
 mod plain;
 mod under;
 
 pub use column::Column;
 pub use folding::fold;
+pub use into::fold_into;
 pub use job::OffloadJob;
 pub use laws::columns_at_hand_give_the_pairs_of_their_places;
 pub use partial::PartialDone;

@@ -1,19 +1,27 @@
 use Rattle.std.proofs.Common.{sym, ap, ◌∙◌, subst, arith, slice_get, slice_set, refl}
 use Rattle.std.proofs.lemmas.Option.{slice_get_read}
-use Rattle.far_aggregates.specs.Coming.{added, back, MayAdd, EachMayBack}
+use Rattle.far_aggregates.specs.Coming.{added, back, MayAdd, Fits, EachMayBack}
 use Rattle.far_aggregates.specs.Until.{zip_until}
 use Rattle.far_aggregates.proofs.ListLaws.{set_same}
 use Rattle.far_aggregates.proofs.UntilLaws.{zip_until-here, zip_until-next, zip_until-undo, zip_until-all}
 use Rattle.far_aggregates.proofs.ComingLaws.{fits-may_add, fits-undo, until-may_back}
 use Rattle.far_aggregates.proofs.coming.add_all.Goals as goal
 
-pub add_one-requires : goal.add_one-requires
-add_one-requires c =
+pub add_one-requires-clause-may : goal.add_one-requires-clause-may
+add_one-requires-clause-may c =
     let g = c.args.group in
     let here = slice_get_read c.loop-i.slots _ c.loop-i.i c.index-slots-i.result refl (omega arith) c.index-slots-i.is in
     let there = slice_get_read c.args.comes.now _ c.loop-i.i c.index-comes-i.result refl (omega arith) c.index-comes-i.is in
     let was = sym (zip_until-here (added g) c.loop-i.i c.args.slots.now c.args.comes.now) ∙ ap (λ l. slice_get l c.loop-i.i) (sym c.loop-i.invariant) ∙ here in
     subst (λ s. MayAdd g s c.index-comes-i.result) c.index-slots-i.is (fits-may_add g c.index-slots-i.result c.index-comes-i.result (c.requires.fits c.loop-i.i c.index-slots-i.result c.index-comes-i.result was there))
+
+pub add_one-requires-clause-fits : goal.add_one-requires-clause-fits
+add_one-requires-clause-fits c =
+    let g = c.args.group in
+    let here = slice_get_read c.loop-i.slots _ c.loop-i.i c.index-slots-i.result refl (omega arith) c.index-slots-i.is in
+    let there = slice_get_read c.args.comes.now _ c.loop-i.i c.index-comes-i.result refl (omega arith) c.index-comes-i.is in
+    let was = sym (zip_until-here (added g) c.loop-i.i c.args.slots.now c.args.comes.now) ∙ ap (λ l. slice_get l c.loop-i.i) (sym c.loop-i.invariant) ∙ here in
+    subst (λ s. Fits g s c.index-comes-i.result) c.index-slots-i.is (c.requires.fits c.loop-i.i c.index-slots-i.result c.index-comes-i.result was there)
 
 pub back_until-requires-clause-may : goal.back_until-requires-clause-may
 back_until-requires-clause-may c =

@@ -1,0 +1,22 @@
+-- Totals into which pairs are folded one after another.
+use Rattle.std.specs.Prelude.{◌≡◌, ◌^◌, ◌<◌, List, [], ◌∷◌, FitsSigned}
+use Rattle.std.specs.Int.{w64}
+use Rattle.std.specs.FinMap as fin
+use Rattle.far_types.specs.Pairs.{Pair}
+use Rattle.far_types.specs.Answers.{Totals}
+use Rattle.far_types.specs.Changes.{with_pair, count_in}
+use Rattle.far_groups.specs.Tallies.{AreTallies}
+
+-- totals with some pairs more
+abbrev pub with_pairs : Totals → List Pair → Totals
+with_pairs totals [] = totals
+with_pairs totals (pair ∷ pairs) = with_pairs (with_pair totals pair) pairs
+
+-- pairs can be folded one after another: each is a number of 64 bits, and few stand under its key when it comes
+abbrev pub CanFoldAll : Totals → List Pair → Type 0
+CanFoldAll totals [] = Unit {0}
+CanFoldAll totals (pair ∷ pairs) = FitsSigned w64 pair.1 × (count_in (fin.get totals pair.0) < 2 ^ 26) × CanFoldAll (with_pair totals pair) pairs
+
+-- totals are those of a start into which some pairs were folded
+abbrev pub HasFolded : Totals → List Pair → Totals → Type 0
+HasFolded start pairs totals = AreTallies start × CanFoldAll start pairs × (totals ≡ with_pairs start pairs)

@@ -1,0 +1,55 @@
+// A row group that is folded into totals.
+ghost use Rattle.std.specs.Prelude.{◌≡◌, ◌≢◌, ◌-◌, ◌≤◌, ◌^◌, length, OnOk, OnErr, IfErr};
+ghost use Rattle.far_types.specs.declared.spec.Fold.TheVariants as folds;
+ghost use Rattle.far_types.specs.Answers.{totals};
+ghost use Rattle.far_types.specs.Changes.{joined_totals};
+ghost use Rattle.far_groups.specs.Live.{CanJoin};
+ghost use Rattle.far_offload.specs.Partials.{pairs_over};
+
+use crate::column::{Column, find};
+use crate::folding::fold;
+use crate::pairs::keyed_pairs;
+use crate::partial::PartialDone;
+use far_groups::LiveTotals;
+use far_types::{Refusal, Spec};
+use std::alloc::Global;
+
+/// The live places of a row group come into totals in which a row group is left. There is a place for each flag, at most
+/// 2^26. What a place gives is as in `fold`; a partial of the row group is made only where the keys are texts or there
+/// are none, since a key that is a number costs no memory.
+///
+/// Refused with `NoMemory` (1) alone, and then the totals are not changed.
+pub fn fold_into(
+    alloc: Global,
+    live: &mut LiveTotals,
+    spec: &Spec,
+    columns: &[Column<'_>],
+    alive: &[bool],
+) -> Result<(), Refusal>
+    requires few { length alive.now ≤ 2 ^ 26 }
+    requires fold { spec.now.fold ≡ folds.Totals }
+    requires left { live.old.left ≢ 0 }
+    requires can_join { CanJoin live.old.totals (totals (pairs_over spec.now columns.now alive.now)) }
+    ensures ok { OnOk result (live.new ≡ record { left = live.old.left - 1; totals = joined_totals live.old.totals (totals (pairs_over spec.now columns.now alive.now)) }) }
+    ensures err { OnErr result (live.new ≡ live.old) }
+    ensures memory { IfErr result (λ e. e ≡ Refusal.NoMemory) }
+{
+    if let Some(column) = spec.key {
+        if have_numbers(columns, column) {
+            let pairs = keyed_pairs(alloc, spec, column, columns, alive)?;
+            return live.fold_in(pairs.as_slice());
+        }
+    }
+    match fold(alloc, spec, columns, alive)? {
+        PartialDone::Totals(partial) => live.merge(&partial),
+        PartialDone::Extrema(_) => unreachable!(),
+    }
+}
+
+/// Whether a column has numbers. Only the time that a fold takes rests on it.
+fn have_numbers(columns: &[Column<'_>], number: u32) -> bool {
+    match find(columns, number) {
+        Some(column) => column.has_numbers(),
+        None => false,
+    }
+}
