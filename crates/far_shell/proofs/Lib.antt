@@ -6,6 +6,7 @@ pub mod WordLaws
 pub mod TestLaws
 pub mod KindLaws
 pub mod PrintLaws
+pub mod PlainLaws
 pub mod FlowLaws
 pub mod DumpLaws
 pub mod RowLaws

@@ -1,12 +1,14 @@
 -- A row, field by field.
-use Rattle.std.proofs.Common.{◌≡◌, ◌+◌, ◌≤◌, ℕ, zero, suc, Bool, true, false, List, [], ◌∷◌, ◌++◌, length, Option, None, Some, map, drop, append_assoc, append-nil, ◌∙◌, refl, sym, ap, arith}
-use Rattle.std.specs.Prelude.{slice_get, option_map, is_some, not, is_none, if◌then◌else◌}
+use Rattle.std.proofs.Common.{◌≡◌, ◌==◌, ◌+◌, ◌≤◌, ℕ, zero, suc, Bool, true, false, List, [], ◌∷◌, ◌++◌, length, Option, None, Some, map, drop, append_assoc, append-nil, ◌∙◌, refl, sym, ap, arith}
+use Rattle.std.specs.Prelude.{slice_get, option_map, is_none, if◌then◌else◌}
+use Rattle.std.proofs.lemmas.Bool.{eqb-true}
 use Rattle.std.specs.Option.{option_map_or}
 use Rattle.csv.specs.Writing.{default_writer, field_text, fields_text, is_blank, row_body}
 use Rattle.far_types.specs.declared.cell.Cell.{Cell}
 use Rattle.far_types.specs.Table.{Place}
 use Rattle.far_shell.specs.Listings.{cell_text, cells_at, field_in_record, row_line}
 use Rattle.far_shell.specs.Printing.{record_text}
+use Rattle.far_shell.proofs.PrintLaws.{is-some}
 
 -- the cells of a place that is there
 pub cells-there : (places : List Place) (p : ℕ) (cells : List Cell) → option_map (λ place. place.cells) (slice_get places p) ≡ Some cells → cells_at p places ≡ cells
@@ -84,12 +86,8 @@ row-some page (cell ∷ next ∷ cells) first lone h k =
     let more = fields_text default_writer (map cell_text (next ∷ cells)) in
     rw (k, sym (same cell first h)) (ap (λ (t : List ℕ). t ++ 10 ∷ []) (append_assoc page field more) ∙ append_assoc page (field ++ more) (10 ∷ []))
 
-pub none-mapped : {A B : Type 0} (f : A → B) (found : Option A) → is_none found ≡ is_none (option_map f found)
-none-mapped f None = refl
-none-mapped f (Some x) = refl
-
-pub none-told : {A : Type 0} (b : Bool) (found : Option A) → is_some found ≡ not b → b ≡ is_none found
-none-told true None h = refl
-none-told false None h = cc h
-none-told true (Some x) h = cc h
-none-told false (Some x) h = refl
+-- a row of one cell has no other
+pub lone-by-length : (cells : List Cell) (first : Cell) (len : ℕ) → slice_get cells 0 ≡ Some first → len ≡ length cells → (len == 1) ≡ is_none (slice_get cells 1)
+lone-by-length [] first len h k = cc h
+lone-by-length (cell ∷ []) first len h k = rw k refl
+lone-by-length (cell ∷ next ∷ cells) first len h k = rw k (is-some (length (cell ∷ next ∷ cells) == 1) (λ e. let same = eqb-true (length (cell ∷ next ∷ cells)) 1 e in omega (arith, same)))

@@ -30,7 +30,7 @@ fn field(page: &mut Page, is_lone: bool, text: &[u8]) -> Result<(), Refusal>
     }
 }
 
-/// A cell as a field. What `number` and `text` make of it is known where it is lent, so it is built into its callers.
+/// A cell as a field. It is built into its callers, which know what kind of cell they lend.
 #[inline(always)]
 pub fn cell(page: &mut Page, is_lone: bool, cell: CellRef) -> Result<(), Refusal>
     ensures ok { OnOk result (page.new ≡ page.old ++ field_in_record is_lone (cell_text (lent_cell cell.entry))) }

@@ -13,9 +13,9 @@ pub fn numbered(page: &mut Page, word: &str, number: u64) -> Result<(), Refusal>
     ensures memory { IfErr result (λ e. e ≡ Refusal.NoMemory) }
 {
     page.text(word)?;
-    page.text(" ")?;
+    page.byte(b' ')?;
     page.number(number)?;
-    page.text("\n")
+    page.byte(b'\n')
 }
 
 /// What a refusal carries.

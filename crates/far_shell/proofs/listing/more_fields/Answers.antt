@@ -6,7 +6,7 @@ use Rattle.far_shell.proofs.listing.more_fields.Goals as goal
 pub loop-column-preserved : goal.loop-column-preserved
 loop-column-preserved g c =
     field-more c.args.row.now c.loop-column.column (lent_cell c.in-Some.lent) c.loop-column.page c.cell.new.page _
-    (sym c.get.ensures ∙ ap (option_map lent_cell) c.in-Some.is) (rw c.in_ok-text.ensures.ok at c.in_ok-cell.ensures.ok) c.loop-column.invariant
+    (sym c.get.ensures ∙ ap (option_map lent_cell) c.in-Some.is) (rw c.in_ok-byte.ensures.ok at c.in_ok-cell.ensures.ok) c.loop-column.invariant
 
 pub returns-in_default-clause-ok : goal.returns-in_default-clause-ok
 returns-in_default-clause-ok g c =

@@ -10,7 +10,7 @@ loop-value-preserved g c =
     let page = c.loop-value.page in
     let field = field_text default_writer (cell_text (g.V.Value.cell c.value-item.result)) in
     texts-more text c.args.values.now c.loop-value.value-index c.value-item.result page c.cell.new.page _ c.loop-value-test.true
-    (behind-comma page c.text.new.self c.cell.new.page field c.in_ok-text.ensures.ok (rw c.lend.ensures at c.in_ok-cell.ensures.ok)
+    (behind-comma page c.byte.new.self c.cell.new.page field c.in_ok-byte.ensures.ok (rw c.lend.ensures at c.in_ok-cell.ensures.ok)
     ∙ ap (λ value. page ++ text value) c.value-item.is) c.loop-value.invariant
 
 pub returns-clause-ok : goal.returns-clause-ok
