@@ -1,5 +1,6 @@
 // The rows of a table as text.
 ghost use Rattle.std.specs.Prelude.{◌≡◌, ◌≢◌, map, drop, length, ◌++◌, OnOk, IfErr};
+ghost use Rattle.std.specs.Fmt.{signed_decimal};
 ghost use Rattle.far_types.specs.Lent.{lent_cell};
 ghost use Rattle.csv.specs.Writing.{default_writer, fields_text};
 ghost use Rattle.far_types.specs.Table.{rows_of};
@@ -30,6 +31,15 @@ fn field(page: &mut Page, is_lone: bool, text: &[u8]) -> Result<(), Refusal>
     }
 }
 
+/// A number as a field: it needs no quotes, alone in its record or not.
+#[inline(always)]
+fn number(page: &mut Page, _is_lone: bool, value: i64) -> Result<(), Refusal>
+    ensures ok { OnOk result (page.new ≡ page.old ++ field_in_record _is_lone (signed_decimal value)) }
+    ensures memory { IfErr result (λ e. e ≡ Refusal.NoMemory) }
+{
+    page.signed(value)
+}
+
 /// A cell as a field. It is built into its callers, which know what kind of cell they lend.
 #[inline(always)]
 pub fn cell(page: &mut Page, is_lone: bool, cell: CellRef) -> Result<(), Refusal>
@@ -37,7 +47,7 @@ pub fn cell(page: &mut Page, is_lone: bool, cell: CellRef) -> Result<(), Refusal
     ensures memory { IfErr result (λ e. e ≡ Refusal.NoMemory) }
 {
     match cell {
-        CellRef::Int(number) => page.signed(number),
+        CellRef::Int(value) => number(page, is_lone, value),
         CellRef::Text(text) => field(page, is_lone, text.as_bytes()),
         CellRef::Missing => page.text("\\N"),
     }

@@ -12,5 +12,5 @@ returns-clause-ok g c = elim c.match-get.branch [
   | in-Some+in_ok-cell-in-Some+in_ok-more_fields-in-Some w ↦
       let first = sym c.get.ensures ∙ ap (option_map lent_cell) w.in-Some.is in
       (rw (w.page-is, w.in_ok-more_fields-in-Some.ensures.ok, w.in_ok-cell-in-Some.ensures.ok) at c.in_ok-byte.ensures.ok)
-      ∙ row-some c.args.page.now c.args.row.now (lent_cell w.in-Some.first) (w.len-in-Some.result == 1) first (lone-by-length c.args.row.now (lent_cell w.in-Some.first) w.len-in-Some.result first w.len-in-Some.ensures)
+      ∙ row-some c.args.page.now c.args.row.now (lent_cell w.in-Some.first) (w.len.result == 1) first (lone-by-length c.args.row.now (lent_cell w.in-Some.first) w.len.result first w.len.ensures)
 ]
