@@ -5,6 +5,8 @@
 pub mod four;
 mod merging;
 pub mod plan;
+pub mod stripe;
 
 pub use four::answer_four;
 pub use plan::Plan;
+pub use stripe::{Site, Stripe};
