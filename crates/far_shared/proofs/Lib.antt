@@ -1,1 +1,3 @@
 mod MergeLaws
+mod ReportLaws
+mod WorkLaws

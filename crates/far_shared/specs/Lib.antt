@@ -2,3 +2,4 @@ pub mod Fours
 pub mod Lines
 pub mod Plans
 pub mod Stripes
+pub mod Works
