@@ -1,3 +1,4 @@
 mod MergeLaws
+mod NumberLaws
 mod ReportLaws
 mod WorkLaws

@@ -9,14 +9,13 @@ use crate::work::{Report, Work};
 use far_history::Naming;
 use far_store::{FarStore, Meter};
 use far_types::Refusal;
-use std::alloc::{AllocError, Global};
+use std::alloc::AllocError;
 use std::sync::Wait;
 use std::thread::{self, Threads};
 
 // Does one work.
 fn serve<N: Naming, B: Site, S: FarStore, R: Wait>(
     rt: &R,
-    alloc: Global,
     shared: &Shared<N, B, S>,
     store: &S,
     work: &Work,
@@ -27,12 +26,11 @@ fn serve<N: Naming, B: Site, S: FarStore, R: Wait>(
     let mut meter = Meter::new();
     match work {
         Work::Evacuate(stripe) => {
-            shared.evacuate_once(rt, alloc, *stripe, store, &mut meter)?;
+            shared.evacuate_once(rt, *stripe, store, &mut meter)?;
             Ok(())
         }
         Work::Fetch(stripe, name) => shared.fetch(
             rt,
-            alloc,
             *stripe,
             name.column,
             name.group,
@@ -40,7 +38,7 @@ fn serve<N: Naming, B: Site, S: FarStore, R: Wait>(
             &mut meter,
         ),
         Work::Build(stripe) => {
-            shared.build_once(rt, alloc, *stripe, store, &mut meter)?;
+            shared.build_once(rt, *stripe, store, &mut meter)?;
             Ok(())
         }
     }
@@ -49,7 +47,6 @@ fn serve<N: Naming, B: Site, S: FarStore, R: Wait>(
 // Does some works, one after the other.
 fn serve_all<N: Naming, B: Site, S: FarStore, R: Wait>(
     rt: &R,
-    alloc: Global,
     shared: &Shared<N, B, S>,
     store: &S,
     works: &[Work],
@@ -62,7 +59,7 @@ fn serve_all<N: Naming, B: Site, S: FarStore, R: Wait>(
         refused: 0,
     };
     for work in works {
-        match serve(rt, alloc, shared, store, work) {
+        match serve(rt, shared, store, work) {
             Ok(()) => report.done += 1,
             Err(_) => report.refused += 1,
         }
@@ -103,7 +100,6 @@ fn serve_chunks<
     R: Threads + Wait + Sync,
 >(
     rt: &R,
-    alloc: Global,
     shared: &Shared<N, B, S>,
     store: &S,
     workers: u32,
@@ -117,8 +113,8 @@ fn serve_chunks<
     let serve_some = |_: usize, chunk: &[Work]| -> Report
         requires { S.name store.now ≡ B.store }
         ensures { works_in result ≡ length chunk.now }
-    { serve_all(rt, alloc, shared, store, chunk) };
-    let reports = thread::map_chunks(rt, alloc, works, size, &serve_some)?;
+    { serve_all(rt, shared, store, chunk) };
+    let reports = thread::map_chunks(rt, shared.alloc, works, size, &serve_some)?;
     Ok(sum_of(&reports))
 }
 
@@ -152,7 +148,7 @@ impl Background {
         if workers < 1 || workers > 8 {
             return Err(Refusal::OutOfRange);
         }
-        let report = serve_chunks(rt, *works.allocator(), shared, store, workers, &works)?;
+        let report = serve_chunks(rt, shared, store, workers, &works)?;
         Ok(report)
     }
 }

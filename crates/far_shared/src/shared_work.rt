@@ -1,18 +1,17 @@
 // Work in the background of a shared table.
 ghost use Rattle.std.specs.Prelude.{◌≡◌, ◌+◌, ◌<◌, ◌^◌, [], ◌∷◌, IfOk, IfSome};
-ghost use Rattle.far_store.specs.Faults.{RefusedBy, faults_in};
+ghost use Rattle.far_store.specs.Faults.{faults_in};
 ghost use Rattle.far_frame.specs.Jobs.{IsJobAt, kind_of};
-ghost use Rattle.far_shared.specs.Works.{IsJobOf, IsBuildOf, IsBuildingAt, RefusedAt, stripe_of, begin_refusals, end_refusals, job_refusals};
+ghost use Rattle.far_shared.specs.Works.{IsJobOf, RefusedAt, stripe_of, begin_refusals, end_refusals};
 
-use crate::locked::{begin_under, building_under, finish_under, scan_under};
+use crate::locked::{begin_under, build_under, evacuate_under, fetch_under, finish_under};
 use crate::shared::Shared;
 use crate::stripe::Site;
-use crate::work::{Building, Work};
+use crate::work::Work;
 use far_frame::Job;
 use far_history::Naming;
 use far_store::{FarStore, FarTickets, Meter};
 use far_types::{Name, Refusal};
-use std::alloc::Global;
 use std::sync::Wait;
 
 impl<N: Naming, B: Site, S: FarTickets> Shared<N, B, S> {
@@ -56,61 +55,9 @@ impl<N: Naming, B: Site, S: FarTickets> Shared<N, B, S> {
             _ => Err(Refusal::OutOfRange),
         }
     }
-
-    // Begins to build a row group of a stripe that is left, under the read lock.
-    fn building<R: Wait>(&self, rt: &R, stripe: u32, store: &S) -> Result<Building<Job<S>>, Refusal>
-        requires store { S.name store.now ≡ B.store }
-        ensures begun { IfOk result IsBuildOf }
-        ensures here { IfOk result (IsBuildingAt S.is_of B.store) }
-        ensures refused { RefusedAt stripe (14 ∷ 20 ∷ 1 ∷ []) result }
-    {
-        match stripe {
-            0 => building_under(rt, &self.zero, store),
-            1 => building_under(rt, &self.one, store),
-            2 => building_under(rt, &self.two, store),
-            3 => building_under(rt, &self.three, store),
-            _ => Err(Refusal::OutOfRange),
-        }
-    }
-
-    // Builds a row group of a stripe into an aggregate by a scan, under the write lock.
-    fn scan<R: Wait>(&self, rt: &R, stripe: u32, aggregate: u32, group: u32) -> Result<(), Refusal>
-        ensures refused { RefusedAt stripe (12 ∷ 14 ∷ 20 ∷ 16 ∷ 1 ∷ []) result }
-    {
-        match stripe {
-            0 => scan_under(rt, &self.zero, aggregate, group),
-            1 => scan_under(rt, &self.one, aggregate, group),
-            2 => scan_under(rt, &self.two, aggregate, group),
-            3 => scan_under(rt, &self.three, aggregate, group),
-            _ => Err(Refusal::OutOfRange),
-        }
-    }
 }
 
 impl<N: Naming, B: Site, S: FarStore> Shared<N, B, S> {
-    // Carries a job under no lock, and ends it.
-    fn complete<R: Wait>(
-        &self,
-        rt: &R,
-        alloc: Global,
-        stripe: u32,
-        store: &S,
-        meter: &mut Meter,
-        job: Job<S>,
-    ) -> Result<(), Refusal>
-        requires few { meter.old < 2 ^ 63 }
-        requires store { S.name store.now ≡ B.store }
-        requires here { IsJobAt S.is_of B.store job }
-        requires known { stripe < 4 }
-        ensures faults { meter.new ≡ meter.old + faults_in result }
-        ensures refused { RefusedBy (job_refusals (kind_of job)) result }
-    {
-        match job.carry(alloc, store, meter) {
-            Ok(carried) => self.finish(rt, stripe, store, &carried),
-            Err((refusal, _)) => Err(refusal),
-        }
-    }
-
     /// Sends the coldest object of a stripe away, and tells which; `None` where there was none that may go.
     ///
     /// Refused with `OutOfRange` (14) where there is no such stripe; else with `NoMemory` (1), `FarFault` (21) exactly where the meter
@@ -118,7 +65,6 @@ impl<N: Naming, B: Site, S: FarStore> Shared<N, B, S> {
     pub fn evacuate_once<R: Wait>(
         &self,
         rt: &R,
-        alloc: Global,
         stripe: u32,
         store: &S,
         meter: &mut Meter,
@@ -128,12 +74,14 @@ impl<N: Naming, B: Site, S: FarStore> Shared<N, B, S> {
         ensures faults { meter.new ≡ meter.old + faults_in result }
         ensures refused { RefusedAt stripe (21 ∷ 22 ∷ 20 ∷ 19 ∷ 1 ∷ []) result }
     {
-        let Some(job) = self.begin(rt, store, &Work::Evacuate(stripe))? else {
-            return Ok(None);
-        };
-        let name = job.object();
-        self.complete(rt, alloc, stripe, store, meter, job)?;
-        Ok(name)
+        let alloc = self.alloc;
+        match stripe {
+            0 => evacuate_under(rt, alloc, &self.zero, stripe, store, meter),
+            1 => evacuate_under(rt, alloc, &self.one, stripe, store, meter),
+            2 => evacuate_under(rt, alloc, &self.two, stripe, store, meter),
+            3 => evacuate_under(rt, alloc, &self.three, stripe, store, meter),
+            _ => Err(Refusal::OutOfRange),
+        }
     }
 
     /// Brings the object of a column and a row group of a stripe back.
@@ -144,7 +92,6 @@ impl<N: Naming, B: Site, S: FarStore> Shared<N, B, S> {
     pub fn fetch<R: Wait>(
         &self,
         rt: &R,
-        alloc: Global,
         stripe: u32,
         column: u32,
         group: u32,
@@ -156,11 +103,15 @@ impl<N: Naming, B: Site, S: FarStore> Shared<N, B, S> {
         ensures faults { meter.new ≡ meter.old + faults_in result }
         ensures refused { RefusedAt stripe (4 ∷ 14 ∷ 20 ∷ 21 ∷ 17 ∷ 1 ∷ []) result }
     {
+        let alloc = self.alloc;
         let name = Name { column, group };
-        let Some(job) = self.begin(rt, store, &Work::Fetch(stripe, name))? else {
-            unreachable!()
-        };
-        self.complete(rt, alloc, stripe, store, meter, job)
+        match stripe {
+            0 => fetch_under(rt, alloc, &self.zero, stripe, name, store, meter),
+            1 => fetch_under(rt, alloc, &self.one, stripe, name, store, meter),
+            2 => fetch_under(rt, alloc, &self.two, stripe, name, store, meter),
+            3 => fetch_under(rt, alloc, &self.three, stripe, name, store, meter),
+            _ => Err(Refusal::OutOfRange),
+        }
     }
 
     /// Builds a row group of a stripe that is left into its aggregate: by a scan where all that the aggregate needs was local at the
@@ -171,7 +122,6 @@ impl<N: Naming, B: Site, S: FarStore> Shared<N, B, S> {
     pub fn build_once<R: Wait>(
         &self,
         rt: &R,
-        alloc: Global,
         stripe: u32,
         store: &S,
         meter: &mut Meter,
@@ -181,16 +131,13 @@ impl<N: Naming, B: Site, S: FarStore> Shared<N, B, S> {
         ensures faults { meter.new ≡ meter.old + faults_in result }
         ensures refused { RefusedAt stripe (14 ∷ 12 ∷ 20 ∷ 16 ∷ 21 ∷ 1 ∷ []) result }
     {
-        match self.building(rt, stripe, store)? {
-            Building::Nothing => Ok(false),
-            Building::Scan { aggregate, group } => {
-                self.scan(rt, stripe, aggregate, group)?;
-                Ok(true)
-            }
-            Building::Offload(job) => {
-                self.complete(rt, alloc, stripe, store, meter, job)?;
-                Ok(true)
-            }
+        let alloc = self.alloc;
+        match stripe {
+            0 => build_under(rt, alloc, &self.zero, store, meter),
+            1 => build_under(rt, alloc, &self.one, store, meter),
+            2 => build_under(rt, alloc, &self.two, store, meter),
+            3 => build_under(rt, alloc, &self.three, store, meter),
+            _ => Err(Refusal::OutOfRange),
         }
     }
 }
