@@ -1,6 +1,5 @@
 -- Reports of chunks.
-use Rattle.std.proofs.Common.{◌≡◌, ℕ, suc, ◌+◌, ◌*◌, ◌/◌, ◌%◌, ◌<◌, ◌≤◌, min, max, List, [], ◌∷◌, length, get_or, map, sum_by, sum, ap, sym, ◌∙◌, refl, arith, IfOk, Result, mul-le-mul_right, mul_comm, lt_of_mul-lt-mul_right, subst}
-use Rattle.std.specs.declared.result.Result.TheVariants.{Ok, Err}
+use Rattle.std.proofs.Common.{◌≡◌, ℕ, ◌+◌, ◌*◌, ◌/◌, ◌%◌, ◌<◌, ◌≤◌, min, max, List, [], ◌∷◌, length, get_or, map, sum_by, sum, sym, ◌∙◌, refl, arith, mul-le-mul_right, mul_comm, lt_of_mul-lt-mul_right, subst}
 use Rattle.std.proofs.lemmas.List.Sums.{sum_by-cons}
 use Rattle.std.proofs.lemmas.List.{get_or-map, length-map}
 use Rattle.std.proofs.lemmas.Slice.Chunks.{sum_by_chunks}

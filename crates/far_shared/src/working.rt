@@ -1,9 +1,7 @@
 // Work in the background, over one table: how it begins and ends.
-ghost use Rattle.std.specs.Prelude.{◌≡◌, [], ◌∷◌, true, IfOk, IfErr, IfSome, OnOk, OnErr};
-ghost use Rattle.far_types.specs.MayRefuse.{MayRefuse};
+ghost use Rattle.std.specs.Prelude.{◌≡◌, [], ◌∷◌, IfOk, IfErr, IfSome, OnOk, OnErr};
 ghost use Rattle.far_store.specs.Faults.{RefusedBy};
 ghost use Rattle.far_rows.specs.Jobs.{AreAt};
-ghost use Rattle.far_table.specs.Watching.{aggregate_at, scan_refusal};
 ghost use Rattle.far_frame.specs.Changes.{Accepts, Refuses};
 ghost use Rattle.far_frame.specs.declared.step.Reply.TheVariants as reply;
 ghost use Rattle.far_frame.specs.declared.step.Step.TheVariants as step;
