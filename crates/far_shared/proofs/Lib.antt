@@ -1,4 +1,3 @@
 mod MergeLaws
 mod NumberLaws
-mod ReportLaws
 mod WorkLaws

@@ -2,7 +2,6 @@
 //! Tables that threads share. What stands is the plan of one, and the answers over its four tables; their locks and sessions are to
 //! come.
 
-pub mod background;
 pub mod four;
 mod locked;
 mod merging;
@@ -14,7 +13,6 @@ mod stripe_work;
 pub mod work;
 mod working;
 
-pub use background::Background;
 pub use four::answer_four;
 pub use plan::Plan;
 pub use shared::Shared;
