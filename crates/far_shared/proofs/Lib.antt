@@ -1,1 +1,3 @@
 mod MergeLaws
+mod NumberLaws
+mod WorkLaws

@@ -1,3 +1,5 @@
 pub mod Fours
 pub mod Lines
 pub mod Plans
+pub mod Stripes
+pub mod Works

@@ -3,8 +3,18 @@
 //! come.
 
 pub mod four;
+mod locked;
 mod merging;
 pub mod plan;
+pub mod shared;
+mod shared_work;
+pub mod stripe;
+mod stripe_work;
+pub mod work;
+mod working;
 
 pub use four::answer_four;
 pub use plan::Plan;
+pub use shared::Shared;
+pub use stripe::{Site, Stripe};
+pub use work::{Building, Report, Work};

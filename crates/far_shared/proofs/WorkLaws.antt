@@ -1,0 +1,115 @@
+-- Row groups that are built in change no row, and how that is refused.
+use Rattle.std.proofs.Common.{◌≡◌, ◌≢◌, ℕ, zero, suc, ◌+◌, Bool, true, false, not, List, [], ◌∷◌, ap, sym, ◌∙◌, subst, refl, Option, None, Some, IsSomeAnd, Result, IfOk, IfErr}
+use Rattle.std.specs.declared.result.Result.TheVariants.{Ok, Err}
+use Rattle.std.specs.Prelude.{slice_get, slice_set, nat_lt}
+use Rattle.std.specs.List.{AllByRecursion}
+use Rattle.far_types.specs.declared.refusal.Refusal.{Refusal}
+use Rattle.far_types.specs.declared.refusal.Refusal.TheVariants as refusal
+use Rattle.far_types.specs.declared.spec.Spec.{Spec}
+use Rattle.far_types.specs.FirstOf.{first_of}
+use Rattle.far_types.specs.MayRefuse.{MayRefuse}
+use Rattle.far_types.specs.Table.{Table, Registered, left, is_unbuilt}
+use Rattle.far_aggregates.specs.Aggregates.{is_left, joined}
+use Rattle.far_aggregates.proofs.BuiltLaws.{none_left}
+use Rattle.far_rows.specs.declared.slot.Slot.{Slot}
+use Rattle.far_table.specs.State.{State as LiveState}
+use Rattle.far_table.specs.Offloading.{offload_refusal, dirty_from}
+use Rattle.far_table.specs.Watching.{aggregate_at, scanned_at, scan_refusal, group_count, needed_from, IsScanned}
+use Rattle.far_frame.specs.declared.job.Work.TheVariants as work_of
+use Rattle.far_frame.specs.Jobs.{WorkOf, IsOneOf, Merges}
+use Rattle.far_frame.specs.State.{State}
+use Rattle.far_shared.specs.Fours.{left_in}
+use Rattle.far_shared.specs.Works.{KeepsRows}
+use Rattle.far_shared.proofs.NumberLaws.{of-one, first-among, may-among}
+
+-- a table that is the same keeps its rows
+pub same-keeps : (old new : Table) → new ≡ old → KeepsRows old new
+same-keeps old new e = record {
+  schema = ap (λ (t : Table). t.schema) e;
+  limits = ap (λ (t : Table). t.limits) e;
+  places = ap (λ (t : Table). t.places) e;
+  edits = ap (λ (t : Table). t.edits) e;
+  built = λ a none. ap (λ (t : Table). aggregate_at t a) e;
+}
+
+get-set_other : {X : Type 0} (xs : List X) (i k : ℕ) (x : X) → k ≢ i → slice_get (slice_set xs i x) k ≡ slice_get xs k
+get-set_other [] i k x h = refl
+get-set_other (y ∷ xs) zero zero x h = absurd (h refl)
+get-set_other (y ∷ xs) zero (suc k) x h = refl
+get-set_other (y ∷ xs) (suc i) zero x h = refl
+get-set_other (y ∷ xs) (suc i) (suc k) x h = get-set_other xs i k x (λ e. h (ap suc e))
+
+-- an aggregate of which a row group is left is not one of which none is
+some-left : (aggregate : Option Registered) (g : ℕ) → is_left aggregate g ≡ true → left_in aggregate ≡ 0 → ⊥
+some-left None g h none = (let off : false ≡ true = h in cc)
+some-left (Some r) g h none = (let on : is_unbuilt r.unbuilt g ≡ true = h in let off = none_left r.unbuilt g none in cc)
+
+-- a row group that is left is built in
+pub scanned-keeps : (t : Table) (b g : ℕ) → is_left (aggregate_at t b) g ≡ true → KeepsRows t (scanned_at b g t)
+scanned-keeps t b g h = record {
+  schema = refl;
+  limits = refl;
+  places = refl;
+  edits = refl;
+  built = λ a none. ap joined (get-set_other t.aggregates b a _ (λ e. some-left (aggregate_at t b) g h (ap (λ n. left_in (aggregate_at t n)) (sym e) ∙ none)));
+}
+
+-- the row group of a build that is accepted was left
+left-some : (o : Option Registered) (g : ℕ) (P : Registered → Type 0) → ((r : Registered) → P r → is_unbuilt r.unbuilt g ≡ true) → IsSomeAnd o P → is_left o g ≡ true
+left-some None g P f h = absurd h
+left-some (Some r) g P f h = f r h
+
+module _ {K : Type 0} where
+  -- a merge that is accepted changes no row
+  pub merges-keeps : (number_of : K → ℕ) (old : State K) (w : WorkOf K) (new : State K) → Merges number_of old w new → KeepsRows old.table new.table
+  merges-keeps number_of old (work_of.Offloaded build) new h =
+      subst (KeepsRows old.table) (sym (ap (λ (s : LiveState K). s.table) h.changed.state))
+      (scanned-keeps old.table build.aggregate build.group (left-some (aggregate_at old.table build.aggregate) build.group _ (λ r holds. holds.unbuilt) h.changed.accepted))
+  merges-keeps number_of old (work_of.Evac evac) new h = absurd h
+  merges-keeps number_of old (work_of.Carried carried) new h = absurd h
+  merges-keeps number_of old (work_of.Fetch fetch) new h = absurd h
+  merges-keeps number_of old (work_of.Fetched fetched) new h = absurd h
+  merges-keeps number_of old (work_of.Offload build) new h = absurd h
+
+  -- a call that keeps the rows where it is done, and changes nothing where it is refused
+  pub either-keeps : {A : Type 0} (r : Result A Refusal) (old new : State K) (P : A → Type 0) (Q : Refusal → Type 0) → ((x : A) → P x → KeepsRows old.table new.table) → ((e : Refusal) → Q e → new ≡ old) → IfOk r P → IfErr r Q → KeepsRows old.table new.table
+  either-keeps (Ok x) old new P Q f g done refused = f x done
+  either-keeps (Err e) old new P Q f g done refused = same-keeps old.table new.table (ap (λ (s : State K). s.table) (g e refused))
+
+  module _ (s : LiveState K) where
+    second-free : (a b : Bool) (q r : Refusal) (cases : List (Bool × Refusal)) → first_of ((a, q) ∷ (not b, r) ∷ cases) ≡ None → b ≡ true
+    second-free true b q r cases free = absurd (let some : Some q ≡ None = free in cc)
+    second-free false true q r cases free = refl
+    second-free false false q r cases free = absurd (let some : Some r ≡ None = free in cc)
+
+    pub scan-left : (o : Option Registered) (g : ℕ) → scan_refusal s o g ≡ None → is_left o g ≡ true
+    scan-left None g free = absurd (let some : Some refusal.NoAggregate ≡ None = free in cc)
+    scan-left (Some r) g free = second-free (not (nat_lt g (group_count s.table))) (is_unbuilt r.unbuilt g) refusal.OutOfRange refusal.StaleJob (needed_from s.rows r.spec g 0 s.rows.slots) free
+
+    -- a scan that is accepted changes no row
+    pub scan-keeps : (new : LiveState K) (a g : ℕ) → IsScanned s new a g → KeepsRows s.table new.table
+    scan-keeps new a g h = subst (KeepsRows s.table) (sym (ap (λ (t : LiveState K). t.table) h.state)) (scanned-keeps s.table a g (scan-left (aggregate_at s.table a) g h.due))
+
+    module _ (numbers : List ℕ) where
+      all-needed : IsOneOf numbers (refusal.Absent 0 0) → (spec : Spec) (g n : ℕ) (slots : List Slot) → AllByRecursion (λ (c : Bool × Refusal). IsOneOf numbers c.1) (needed_from s.rows spec g n slots)
+      all-needed one spec g n [] = tt
+      all-needed one spec g n (slot ∷ slots) = (one, all-needed one spec g (n + 1) slots)
+
+      all-dirty : IsOneOf numbers refusal.StaleJob → (spec : Spec) (g n : ℕ) (slots : List Slot) → AllByRecursion (λ (c : Bool × Refusal). IsOneOf numbers c.1) (dirty_from s.rows spec g n slots)
+      all-dirty one spec g n [] = tt
+      all-dirty one spec g n (slot ∷ slots) = (one, all-dirty one spec g (n + 1) slots)
+
+    -- how a scan may be refused
+    pub scan-numbers : (o : Option Registered) (g : ℕ) (e : Refusal) → MayRefuse (scan_refusal s o g) true e → IsOneOf (12 ∷ 14 ∷ 20 ∷ 16 ∷ 1 ∷ []) e
+    scan-numbers None g e h = of-one (12 ∷ 14 ∷ 20 ∷ 16 ∷ 1 ∷ []) refusal.NoAggregate e refl h
+    scan-numbers (Some r) g e h =
+        may-among (12 ∷ 14 ∷ 20 ∷ 16 ∷ 1 ∷ []) (scan_refusal s (Some r) g) e
+        (λ due. first-among (12 ∷ 14 ∷ 20 ∷ 16 ∷ 1 ∷ []) ((not (nat_lt g (group_count s.table)), refusal.OutOfRange) ∷ (not (is_unbuilt r.unbuilt g), refusal.StaleJob) ∷ needed_from s.rows r.spec g 0 s.rows.slots) e (refl, (refl, all-needed (12 ∷ 14 ∷ 20 ∷ 16 ∷ 1 ∷ []) refl r.spec g 0 s.rows.slots)) due)
+        refl h
+
+    pub offload-numbers : (o : Option Registered) (g : ℕ) (e : Refusal) → is_left o g ≡ true → MayRefuse (offload_refusal s o g) true e → IsOneOf (14 ∷ 20 ∷ 1 ∷ []) e
+    offload-numbers None g e on h = absurd (let off : false ≡ true = on in cc)
+    offload-numbers (Some r) g e on h =
+        may-among (14 ∷ 20 ∷ 1 ∷ []) (offload_refusal s (Some r) g) e
+        (λ due. first-among (14 ∷ 20 ∷ 1 ∷ []) ((not (nat_lt g (group_count s.table)), refusal.OutOfRange) ∷ (not (is_unbuilt r.unbuilt g), refusal.StaleJob) ∷ dirty_from s.rows r.spec g 0 s.rows.slots) e (refl, (refl, all-dirty (14 ∷ 20 ∷ 1 ∷ []) refl r.spec g 0 s.rows.slots)) due)
+        refl h

@@ -1,0 +1,130 @@
+-- Work in the background: how it begins and ends, and what it keeps.
+use Rattle.std.specs.Prelude.{◌≡◌, ◌<◌, ◌≤◌, ℕ, true, false, List, [], ◌∷◌, Option, None, Some, is_none, IsSomeAnd, IfSome, Result, IsErrOf}
+use Rattle.far_types.specs.declared.refusal.Refusal.{Refusal}
+use Rattle.far_types.specs.declared.refusal.Refusal.TheVariants as refusal
+use Rattle.far_types.specs.MayRefuse.{MayRefuse}
+use Rattle.far_types.specs.Table.{Table}
+use Rattle.far_store.specs.Faults.{RefusedBy}
+use Rattle.far_aggregates.specs.Aggregates.{is_left}
+use Rattle.far_rows.specs.Jobs.{fetch_refusal}
+use Rattle.far_table.specs.Offloading.{offload_refusal}
+use Rattle.far_table.specs.Watching.{aggregate_at, scan_refusal}
+use Rattle.far_frame.specs.declared.job.JobKind.{JobKind}
+use Rattle.far_frame.specs.declared.job.JobKind.TheVariants as kind
+use Rattle.far_frame.specs.declared.job.Work.TheVariants as work_of
+use Rattle.far_frame.specs.Jobs.{JobRecord, WorkOf, IsJobAt, IsColdestJob, IsFetchJob, IsOffloadJob, Commits, CommitRefusal, Installs, InstallRefusal, Merges, MergeRefusal}
+use Rattle.far_frame.specs.State.{State, live}
+use Rattle.far_shared.specs.Fours.{left_in}
+use Rattle.far_shared.specs.declared.work.Building.{Building}
+use Rattle.far_shared.specs.declared.work.Building.TheVariants as building
+use Rattle.far_shared.specs.declared.work.Work.{Work}
+use Rattle.far_shared.specs.declared.work.Work.TheVariants as work
+
+-- the stripe of a work
+abbrev pub stripe_of : Work → ℕ
+stripe_of (work.Evacuate stripe) = stripe
+stripe_of (work.Fetch stripe name) = stripe
+stripe_of (work.Build stripe) = stripe
+
+-- the numbers of the refusals that a work may begin with
+abbrev pub begin_refusals : Work → List ℕ
+begin_refusals (work.Evacuate stripe) = 1 ∷ []
+begin_refusals (work.Fetch stripe name) = 4 ∷ 14 ∷ 20 ∷ []
+begin_refusals (work.Build stripe) = 14 ∷ 20 ∷ 1 ∷ []
+
+-- the numbers of those that a job may end with
+abbrev pub end_refusals : JobKind → List ℕ
+end_refusals kind.Evac = 20 ∷ 19 ∷ []
+end_refusals kind.Fetch = 20 ∷ 17 ∷ 1 ∷ []
+end_refusals kind.Offload = 12 ∷ 20 ∷ 1 ∷ []
+
+-- the numbers of those that a job may meet from its beginning to its end
+abbrev pub job_refusals : JobKind → List ℕ
+job_refusals kind.Evac = 21 ∷ 22 ∷ 20 ∷ 19 ∷ 1 ∷ []
+job_refusals kind.Fetch = 21 ∷ 20 ∷ 17 ∷ 1 ∷ []
+job_refusals kind.Offload = 21 ∷ 12 ∷ 20 ∷ 1 ∷ []
+
+-- there are four stripes: of an unknown one a call is refused with 14, and of the others by these numbers
+pub record RefusedAt {A : Type 0} (stripe : ℕ) (numbers : List ℕ) (result : Result A Refusal) : Type 0 where
+  pub unknown : 4 ≤ stripe → IsErrOf result refusal.OutOfRange
+  pub known : stripe < 4 → RefusedBy numbers result
+
+-- the rows of a table are as before, with its schema, its limits and its edits, and so is each aggregate of which nothing is left
+pub record KeepsRows (old new : Table) : Type 0 where
+  pub schema : new.schema ≡ old.schema
+  pub limits : new.limits ≡ old.limits
+  pub places : new.places ≡ old.places
+  pub edits : new.edits ≡ old.edits
+  pub built : (a : ℕ) → left_in (aggregate_at old a) ≡ 0 → aggregate_at new a ≡ aggregate_at old a
+
+module _ {K : Type 0} (s : State K) where
+  -- no row group of any aggregate is left
+  abbrev pub IsAllBuilt : Type 0
+  IsAllBuilt = (a g : ℕ) → is_left (aggregate_at s.table a) g ≡ false
+
+  -- a row group that is left is built in by a job, or none is left
+  abbrev pub IsBuildJob : Option (JobRecord K) → Type 0
+  IsBuildJob None = IsAllBuilt
+  IsBuildJob (Some job) = (a : ℕ) × (g : ℕ) × (is_left (aggregate_at s.table a) g ≡ true) × IsOffloadJob s a g job
+
+  -- why a row group that is left is not built in by a job: the far store does not have what it needs, or memory is wanted
+  abbrev pub BuildRefusal : Refusal → Type 0
+  BuildRefusal given = (a : ℕ) × (g : ℕ) × (is_left (aggregate_at s.table a) g ≡ true) × MayRefuse (offload_refusal (live s) (aggregate_at s.table a) g) true given
+
+  -- the job that a work begins, or none where there is nothing to do
+  abbrev pub Begins : Work → Option (JobRecord K) → Type 0
+  Begins (work.Evacuate stripe) job = IsColdestJob s.rows job
+  Begins (work.Fetch stripe name) job = IsSomeAnd job (IsFetchJob s.rows name.column name.group)
+  Begins (work.Build stripe) job = IsBuildJob job
+
+  -- why a work does not begin
+  abbrev pub BeginRefusal : Work → Refusal → Type 0
+  BeginRefusal (work.Evacuate stripe) given = given ≡ refusal.NoMemory
+  BeginRefusal (work.Fetch stripe name) given = fetch_refusal s.rows name.column name.group ≡ Some given
+  BeginRefusal (work.Build stripe) given = BuildRefusal given
+
+  -- a row group that is left is built in by a scan where it can be, else by a job
+  abbrev pub BeginsBuild : Building (JobRecord K) → Type 0
+  BeginsBuild building.Nothing = IsAllBuilt
+  BeginsBuild (building.Scan a g) = (is_left (aggregate_at s.table a) g ≡ true) × (scan_refusal (live s) (aggregate_at s.table a) g ≡ None)
+  BeginsBuild (building.Offload job) = (a : ℕ) × (g : ℕ) × (is_left (aggregate_at s.table a) g ≡ true) × (is_none (scan_refusal (live s) (aggregate_at s.table a) g) ≡ false) × IsOffloadJob s a g job
+
+module _ {K : Type 0} (number_of : K → ℕ) (content : K → List ℕ) (old : State K) where
+  -- a job of this kind is accepted at its end
+  abbrev pub Ends : JobKind → WorkOf K → State K → Type 0
+  Ends kind.Evac done new = Commits number_of old done new
+  Ends kind.Fetch done new = Installs number_of old content done new
+  Ends kind.Offload done new = Merges number_of old done new
+
+  -- or it is refused there
+  abbrev pub EndRefusal : JobKind → WorkOf K → Refusal → Type 0
+  EndRefusal kind.Evac done given = CommitRefusal number_of old done given
+  EndRefusal kind.Fetch done given = InstallRefusal number_of old content done given
+  EndRefusal kind.Offload done given = MergeRefusal number_of old done given
+
+module _ {K : Type 0} (is_of : K → List ℕ → Type 0) (name : List ℕ) where
+  -- what a build holds is of the store of this name
+  abbrev pub IsBuildingAt : Building (JobRecord K) → Type 0
+  IsBuildingAt building.Nothing = Unit {0}
+  IsBuildingAt (building.Scan a g) = Unit {0}
+  IsBuildingAt (building.Offload job) = IsJobAt is_of name job
+
+module _ {K : Type 0} where
+  -- what a job does that was begun; none where it was carried
+  abbrev pub begun_kind : WorkOf K → Option JobKind
+  begun_kind (work_of.Evac evac) = Some kind.Evac
+  begun_kind (work_of.Fetch fetch) = Some kind.Fetch
+  begun_kind (work_of.Offload build) = Some kind.Offload
+  begun_kind _ = None
+
+  -- a job is begun for a work, told without its table. There may be nothing to send away or to build in
+  abbrev pub IsJobOf : Work → Option (JobRecord K) → Type 0
+  IsJobOf (work.Evacuate stripe) job = IfSome job (λ begun. begun_kind begun.work ≡ Some kind.Evac)
+  IsJobOf (work.Fetch stripe name) job = IsSomeAnd job (λ begun. (begun_kind begun.work ≡ Some kind.Fetch) × (begun.name ≡ Some name))
+  IsJobOf (work.Build stripe) job = IfSome job (λ begun. begun_kind begun.work ≡ Some kind.Offload)
+
+  -- a build by a job has an offloaded build that was begun
+  abbrev pub IsBuildOf : Building (JobRecord K) → Type 0
+  IsBuildOf building.Nothing = Unit {0}
+  IsBuildOf (building.Scan a g) = Unit {0}
+  IsBuildOf (building.Offload job) = begun_kind job.work ≡ Some kind.Offload

@@ -1,0 +1,159 @@
+// Work in the background, under the lock of one stripe. A carry is under none.
+ghost use Rattle.std.specs.Prelude.{◌≡◌, ◌+◌, ◌<◌, ◌^◌, [], ◌∷◌, IfOk, IfSome};
+ghost use Rattle.far_store.specs.Faults.{RefusedBy, faults_in};
+ghost use Rattle.far_frame.specs.Jobs.{IsJobAt, kind_of};
+ghost use Rattle.far_shared.specs.Works.{IsJobOf, IsBuildOf, IsBuildingAt, begin_refusals, end_refusals, job_refusals};
+
+use crate::stripe::{Site, Stripe};
+use crate::work::{Building, Work};
+use far_frame::Job;
+use far_history::Naming;
+use far_store::{FarStore, FarTickets, Meter};
+use far_types::{Name, Refusal};
+use std::alloc::Global;
+use std::sync::{RwLock, Wait};
+
+/// Begins a work under the read lock.
+pub(crate) fn begin_under<N: Naming, B: Site, S: FarTickets, const I: usize, R: Wait>(
+    rt: &R,
+    lock: &RwLock<Stripe<N, B, S, I>>,
+    store: &S,
+    work: &Work,
+) -> Result<Option<Job<S>>, Refusal>
+    requires store { S.name store.now ≡ B.store }
+    ensures begun { IfOk result (IsJobOf work.now) }
+    ensures here { IfOk result (λ job. IfSome job (IsJobAt S.is_of B.store)) }
+    ensures refused { RefusedBy (begin_refusals work.now) result }
+{
+    lock.read(rt).begin(store, work)
+}
+
+/// Ends a job under the write lock.
+pub(crate) fn finish_under<N: Naming, B: Site, S: FarTickets, const I: usize, R: Wait>(
+    rt: &R,
+    lock: &RwLock<Stripe<N, B, S, I>>,
+    store: &S,
+    job: &Job<S>,
+) -> Result<(), Refusal>
+    requires store { S.name store.now ≡ B.store }
+    requires here { IsJobAt S.is_of B.store job.now }
+    ensures refused { RefusedBy (end_refusals (kind_of job.now)) result }
+{
+    lock.write(rt).finish(store, job)
+}
+
+/// Begins to build a row group that is left, under the read lock.
+fn building_under<N: Naming, B: Site, S: FarTickets, const I: usize, R: Wait>(
+    rt: &R,
+    lock: &RwLock<Stripe<N, B, S, I>>,
+    store: &S,
+) -> Result<Building<Job<S>>, Refusal>
+    requires store { S.name store.now ≡ B.store }
+    ensures begun { IfOk result IsBuildOf }
+    ensures here { IfOk result (IsBuildingAt S.is_of B.store) }
+    ensures refused { RefusedBy (14 ∷ 20 ∷ 1 ∷ []) result }
+{
+    lock.read(rt).building(store)
+}
+
+/// Builds a row group into an aggregate by a scan, under the write lock.
+fn scan_under<N: Naming, B: Site, S: FarTickets, const I: usize, R: Wait>(
+    rt: &R,
+    lock: &RwLock<Stripe<N, B, S, I>>,
+    aggregate: u32,
+    group: u32,
+) -> Result<(), Refusal>
+    ensures refused { RefusedBy (12 ∷ 14 ∷ 20 ∷ 16 ∷ 1 ∷ []) result }
+{
+    lock.write(rt).scan(aggregate, group)
+}
+
+/// Carries a job under no lock, and ends it.
+fn complete_under<N: Naming, B: Site, S: FarStore, const I: usize, R: Wait>(
+    rt: &R,
+    alloc: Global,
+    lock: &RwLock<Stripe<N, B, S, I>>,
+    store: &S,
+    meter: &mut Meter,
+    job: Job<S>,
+) -> Result<(), Refusal>
+    requires few { meter.old < 2 ^ 63 }
+    requires store { S.name store.now ≡ B.store }
+    requires here { IsJobAt S.is_of B.store job }
+    ensures faults { meter.new ≡ meter.old + faults_in result }
+    ensures refused { RefusedBy (job_refusals (kind_of job)) result }
+{
+    match job.carry(alloc, store, meter) {
+        Ok(carried) => finish_under(rt, lock, store, &carried),
+        Err((refusal, _)) => Err(refusal),
+    }
+}
+
+/// Sends the coldest object of a stripe away, and tells which; `None` where there is none that may go.
+pub(crate) fn evacuate_under<N: Naming, B: Site, S: FarStore, const I: usize, R: Wait>(
+    rt: &R,
+    alloc: Global,
+    lock: &RwLock<Stripe<N, B, S, I>>,
+    stripe: u32,
+    store: &S,
+    meter: &mut Meter,
+) -> Result<Option<Name>, Refusal>
+    requires few { meter.old < 2 ^ 63 }
+    requires store { S.name store.now ≡ B.store }
+    ensures faults { meter.new ≡ meter.old + faults_in result }
+    ensures refused { RefusedBy (21 ∷ 22 ∷ 20 ∷ 19 ∷ 1 ∷ []) result }
+{
+    let Some(job) = begin_under(rt, lock, store, &Work::Evacuate(stripe))? else {
+        return Ok(None);
+    };
+    let name = job.object();
+    complete_under(rt, alloc, lock, store, meter, job)?;
+    Ok(name)
+}
+
+/// Brings an object of a stripe back.
+pub(crate) fn fetch_under<N: Naming, B: Site, S: FarStore, const I: usize, R: Wait>(
+    rt: &R,
+    alloc: Global,
+    lock: &RwLock<Stripe<N, B, S, I>>,
+    stripe: u32,
+    name: Name,
+    store: &S,
+    meter: &mut Meter,
+) -> Result<(), Refusal>
+    requires few { meter.old < 2 ^ 63 }
+    requires store { S.name store.now ≡ B.store }
+    ensures faults { meter.new ≡ meter.old + faults_in result }
+    ensures refused { RefusedBy (4 ∷ 14 ∷ 20 ∷ 21 ∷ 17 ∷ 1 ∷ []) result }
+{
+    let Some(job) = begin_under(rt, lock, store, &Work::Fetch(stripe, name))? else {
+        unreachable!()
+    };
+    complete_under(rt, alloc, lock, store, meter, job)
+}
+
+/// Builds a row group of a stripe that is left into its aggregate; false where none is left.
+pub(crate) fn build_under<N: Naming, B: Site, S: FarStore, const I: usize, R: Wait>(
+    rt: &R,
+    alloc: Global,
+    lock: &RwLock<Stripe<N, B, S, I>>,
+    store: &S,
+    meter: &mut Meter,
+) -> Result<bool, Refusal>
+    requires few { meter.old < 2 ^ 63 }
+    requires store { S.name store.now ≡ B.store }
+    ensures faults { meter.new ≡ meter.old + faults_in result }
+    ensures refused { RefusedBy (14 ∷ 12 ∷ 20 ∷ 16 ∷ 21 ∷ 1 ∷ []) result }
+{
+    match building_under(rt, lock, store)? {
+        Building::Nothing => Ok(false),
+        Building::Scan { aggregate, group } => {
+            scan_under(rt, lock, aggregate, group)?;
+            Ok(true)
+        }
+        Building::Offload(job) => {
+            complete_under(rt, alloc, lock, store, meter, job)?;
+            Ok(true)
+        }
+    }
+}

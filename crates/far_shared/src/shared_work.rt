@@ -1,0 +1,143 @@
+// Work in the background of a shared table.
+ghost use Rattle.std.specs.Prelude.{◌≡◌, ◌+◌, ◌<◌, ◌^◌, [], ◌∷◌, IfOk, IfSome};
+ghost use Rattle.far_store.specs.Faults.{faults_in};
+ghost use Rattle.far_frame.specs.Jobs.{IsJobAt, kind_of};
+ghost use Rattle.far_shared.specs.Works.{IsJobOf, RefusedAt, stripe_of, begin_refusals, end_refusals};
+
+use crate::locked::{begin_under, build_under, evacuate_under, fetch_under, finish_under};
+use crate::shared::Shared;
+use crate::stripe::Site;
+use crate::work::Work;
+use far_frame::Job;
+use far_history::Naming;
+use far_store::{FarStore, FarTickets, Meter};
+use far_types::{Name, Refusal};
+use std::sync::Wait;
+
+impl<N: Naming, B: Site, S: FarTickets> Shared<N, B, S> {
+    /// Begins a work under the read lock of its stripe; `None` where there is nothing to do.
+    ///
+    /// Refused with `OutOfRange` (14) where there is no such stripe, else as `Stripe::begin` is.
+    pub fn begin<R: Wait>(&self, rt: &R, store: &S, work: &Work) -> Result<Option<Job<S>>, Refusal>
+        requires store { S.name store.now ≡ B.store }
+        ensures begun { IfOk result (IsJobOf work.now) }
+        ensures here { IfOk result (λ job. IfSome job (IsJobAt S.is_of B.store)) }
+        ensures refused { RefusedAt (stripe_of work.now) (begin_refusals work.now) result }
+    {
+        match work.stripe() {
+            0 => begin_under(rt, &self.zero, store, work),
+            1 => begin_under(rt, &self.one, store, work),
+            2 => begin_under(rt, &self.two, store, work),
+            3 => begin_under(rt, &self.three, store, work),
+            _ => Err(Refusal::OutOfRange),
+        }
+    }
+
+    /// Ends a carried job of a stripe under its write lock. No row changes.
+    ///
+    /// Refused with `OutOfRange` (14) where there is no such stripe, else as `Stripe::finish` is.
+    pub fn finish<R: Wait>(
+        &self,
+        rt: &R,
+        stripe: u32,
+        store: &S,
+        job: &Job<S>,
+    ) -> Result<(), Refusal>
+        requires store { S.name store.now ≡ B.store }
+        requires here { IsJobAt S.is_of B.store job.now }
+        ensures refused { RefusedAt stripe (end_refusals (kind_of job.now)) result }
+    {
+        match stripe {
+            0 => finish_under(rt, &self.zero, store, job),
+            1 => finish_under(rt, &self.one, store, job),
+            2 => finish_under(rt, &self.two, store, job),
+            3 => finish_under(rt, &self.three, store, job),
+            _ => Err(Refusal::OutOfRange),
+        }
+    }
+}
+
+impl<N: Naming, B: Site, S: FarStore> Shared<N, B, S> {
+    /// Sends the coldest object of a stripe away, and tells which; `None` where there was none that may go.
+    ///
+    /// Refused with `OutOfRange` (14) where there is no such stripe; else with `NoMemory` (1), `FarFault` (21) exactly where the meter
+    /// rises, by one, `FarFull` (22), `StaleJob` (20) where the object was written or away meanwhile, and `Pinned` (19).
+    pub fn evacuate_once<R: Wait>(
+        &self,
+        rt: &R,
+        stripe: u32,
+        store: &S,
+        meter: &mut Meter,
+    ) -> Result<Option<Name>, Refusal>
+        requires few { meter.old < 2 ^ 63 }
+        requires store { S.name store.now ≡ B.store }
+        ensures faults { meter.new ≡ meter.old + faults_in result }
+        ensures refused { RefusedAt stripe (21 ∷ 22 ∷ 20 ∷ 19 ∷ 1 ∷ []) result }
+    {
+        let alloc = self.alloc;
+        match stripe {
+            0 => evacuate_under(rt, alloc, &self.zero, stripe, store, meter),
+            1 => evacuate_under(rt, alloc, &self.one, stripe, store, meter),
+            2 => evacuate_under(rt, alloc, &self.two, stripe, store, meter),
+            3 => evacuate_under(rt, alloc, &self.three, stripe, store, meter),
+            _ => Err(Refusal::OutOfRange),
+        }
+    }
+
+    /// Brings the object of a column and a row group of a stripe back.
+    ///
+    /// Refused with `OutOfRange` (14) where there is no such stripe; else with `NoColumn` (4), `OutOfRange` (14) where no place of the
+    /// row group is used, `StaleJob` (20) where the object is local or was away again meanwhile, `FarFault` (21) exactly where the
+    /// meter rises, by one, `RegionFull` (17) and `NoMemory` (1).
+    pub fn fetch<R: Wait>(
+        &self,
+        rt: &R,
+        stripe: u32,
+        column: u32,
+        group: u32,
+        store: &S,
+        meter: &mut Meter,
+    ) -> Result<(), Refusal>
+        requires few { meter.old < 2 ^ 63 }
+        requires store { S.name store.now ≡ B.store }
+        ensures faults { meter.new ≡ meter.old + faults_in result }
+        ensures refused { RefusedAt stripe (4 ∷ 14 ∷ 20 ∷ 21 ∷ 17 ∷ 1 ∷ []) result }
+    {
+        let alloc = self.alloc;
+        let name = Name { column, group };
+        match stripe {
+            0 => fetch_under(rt, alloc, &self.zero, stripe, name, store, meter),
+            1 => fetch_under(rt, alloc, &self.one, stripe, name, store, meter),
+            2 => fetch_under(rt, alloc, &self.two, stripe, name, store, meter),
+            3 => fetch_under(rt, alloc, &self.three, stripe, name, store, meter),
+            _ => Err(Refusal::OutOfRange),
+        }
+    }
+
+    /// Builds a row group of a stripe that is left into its aggregate: by a scan where all that the aggregate needs was local at the
+    /// beginning, else from the far store's copies. False where nothing was left.
+    ///
+    /// Refused with `OutOfRange` (14) where there is no such stripe; else with `NoAggregate` (12), `StaleJob` (20), `Absent` (16),
+    /// `FarFault` (21) exactly where the meter rises, by one, and `NoMemory` (1).
+    pub fn build_once<R: Wait>(
+        &self,
+        rt: &R,
+        stripe: u32,
+        store: &S,
+        meter: &mut Meter,
+    ) -> Result<bool, Refusal>
+        requires few { meter.old < 2 ^ 63 }
+        requires store { S.name store.now ≡ B.store }
+        ensures faults { meter.new ≡ meter.old + faults_in result }
+        ensures refused { RefusedAt stripe (14 ∷ 12 ∷ 20 ∷ 16 ∷ 21 ∷ 1 ∷ []) result }
+    {
+        let alloc = self.alloc;
+        match stripe {
+            0 => build_under(rt, alloc, &self.zero, store, meter),
+            1 => build_under(rt, alloc, &self.one, store, meter),
+            2 => build_under(rt, alloc, &self.two, store, meter),
+            3 => build_under(rt, alloc, &self.three, store, meter),
+            _ => Err(Refusal::OutOfRange),
+        }
+    }
+}

@@ -1,0 +1,64 @@
+// Work in the background, on what lies under the lock of a stripe.
+ghost use Rattle.std.specs.Prelude.{◌≡◌, [], ◌∷◌, IfOk, IfSome};
+ghost use Rattle.far_store.specs.Faults.{RefusedBy};
+ghost use Rattle.far_frame.specs.Jobs.{IsJobAt, kind_of};
+ghost use Rattle.far_shared.specs.Works.{IsJobOf, IsBuildOf, IsBuildingAt, begin_refusals, end_refusals};
+
+use crate::stripe::{Site, Stripe};
+use crate::work::{Building, Work};
+use crate::working::{begin_on, building_on, finish_on, scan_on};
+use far_frame::Job;
+use far_history::Naming;
+use far_store::FarTickets;
+use far_types::Refusal;
+
+impl<N: Naming, B: Site, S: FarTickets, const I: usize> Stripe<N, B, S, I> {
+    /// Begins a work; `None` where there is nothing to do. Nothing is changed.
+    ///
+    /// An evacuation is refused with `NoMemory` (1) alone; a fetch with `NoColumn` (4), `OutOfRange` (14) where no place of the row
+    /// group is used, `StaleJob` (20) where the object is local: the first that applies; a build with `StaleJob` (20) where an object
+    /// that its aggregate needs is dirty, and with `NoMemory` (1).
+    pub fn begin(&self, store: &S, work: &Work) -> Result<Option<Job<S>>, Refusal>
+        requires store { S.name store.now ≡ B.store }
+        ensures begun { IfOk result (IsJobOf work.now) }
+        ensures here { IfOk result (λ job. IfSome job (IsJobAt S.is_of B.store)) }
+        ensures refused { RefusedBy (begin_refusals work.now) result }
+    {
+        begin_on(&self.frame, store, work)
+    }
+
+    /// Ends a job by its kind: commits, installs or merges it. The history stays, and so does each row.
+    ///
+    /// Refused as `Frame::commit`, `Frame::install` and `Frame::merge` are.
+    pub fn finish(&mut self, store: &S, job: &Job<S>) -> Result<(), Refusal>
+        requires store { S.name store.now ≡ B.store }
+        requires here { IsJobAt S.is_of B.store job.now }
+        ensures same { self.new ≡ self.old }
+        ensures refused { RefusedBy (end_refusals (kind_of job.now)) result }
+    {
+        finish_on(&mut self.frame, store, job)
+    }
+
+    /// Begins to build a row group that is left, by a scan where all that its aggregate needs is local, else by a job. Nothing is
+    /// changed.
+    ///
+    /// Refused as a build is in `begin`, where no scan is possible.
+    pub fn building(&self, store: &S) -> Result<Building<Job<S>>, Refusal>
+        requires store { S.name store.now ≡ B.store }
+        ensures begun { IfOk result IsBuildOf }
+        ensures here { IfOk result (IsBuildingAt S.is_of B.store) }
+        ensures refused { RefusedBy (14 ∷ 20 ∷ 1 ∷ []) result }
+    {
+        building_on(&self.frame, store)
+    }
+
+    /// Builds a row group into an aggregate by a scan. The history stays, and so does each row.
+    ///
+    /// Refused as `Frame::scan_group` is.
+    pub fn scan(&mut self, aggregate: u32, group: u32) -> Result<(), Refusal>
+        ensures same { self.new ≡ self.old }
+        ensures refused { RefusedBy (12 ∷ 14 ∷ 20 ∷ 16 ∷ 1 ∷ []) result }
+    {
+        scan_on(&mut self.frame, aggregate, group)
+    }
+}

@@ -1,0 +1,54 @@
+// What is done in the background of a shared table.
+ghost use Rattle.std.specs.Prelude.{◌≡◌};
+ghost use Rattle.far_shared.specs.Works.{stripe_of};
+
+use far_types::Name;
+
+/// One thing that is done to a stripe in the background. It changes no row. Each variant begins with the number of its stripe.
+#[derive(Clone, Copy, Debug, PartialEq, Eq)]
+pub enum Work {
+    /// Sends the coldest object away.
+    Evacuate(u32),
+    /// Brings the object of a column and a row group back.
+    Fetch(u32, Name),
+    /// Builds a row group that is left into its aggregate.
+    Build(u32),
+}
+
+impl Work {
+    /// The number of its stripe. Takes no memory.
+    pub fn stripe(&self) -> u32
+        ensures { result ≡ stripe_of self.now }
+    {
+        match self {
+            Work::Evacuate(stripe) => *stripe,
+            Work::Fetch(stripe, _) => *stripe,
+            Work::Build(stripe) => *stripe,
+        }
+    }
+}
+
+/// How a list of works came out.
+#[derive(Clone, Copy, Debug, PartialEq, Eq)]
+pub struct Report {
+    /// How many works were done, those among them for which there was nothing to do.
+    pub done: u64,
+    /// How many were refused.
+    pub refused: u64,
+}
+
+/// How a row group that is left is built into its aggregate. The parameter is a job.
+#[derive(Drop)]
+pub enum Building<J> {
+    /// No row group of any aggregate is left.
+    Nothing,
+    /// By a scan: all that the aggregate needs is local.
+    Scan {
+        /// The number of the aggregate.
+        aggregate: u32,
+        /// The row group.
+        group: u32,
+    },
+    /// By a job, from the far store's copies.
+    Offload(J),
+}

@@ -1,0 +1,120 @@
+// Work in the background, over one table: how it begins and ends.
+ghost use Rattle.std.specs.Prelude.{◌≡◌, [], ◌∷◌, IfOk, IfErr, IfSome, OnOk, OnErr};
+ghost use Rattle.far_store.specs.Faults.{RefusedBy};
+ghost use Rattle.far_rows.specs.Jobs.{AreAt};
+ghost use Rattle.far_frame.specs.Changes.{Accepts, Refuses};
+ghost use Rattle.far_frame.specs.declared.step.Reply.TheVariants as reply;
+ghost use Rattle.far_frame.specs.declared.step.Step.TheVariants as step;
+ghost use Rattle.far_frame.specs.Jobs.{IsJobAt, kind_of};
+ghost use Rattle.far_shared.specs.Works.{KeepsRows, IsBuildJob, BuildRefusal, Begins, BeginRefusal, BeginsBuild, IsBuildingAt, Ends, EndRefusal, begin_refusals, end_refusals};
+
+use crate::work::{Building, Work};
+use far_frame::{Frame, Job, JobKind};
+use far_store::FarTickets;
+use far_types::Refusal;
+
+/// Begins to build a row group that is left from the far store's copies; `None` exactly where none is left. Nothing is changed.
+///
+/// Refused with `StaleJob` (20) where an object that its aggregate needs is dirty, and with `NoMemory` (1).
+pub(crate) fn build_on<S: FarTickets>(
+    frame: &Frame<S>,
+    store: &S,
+) -> Result<Option<Job<S>>, Refusal>
+    requires here { AreAt S.is_of (S.name store.now) frame.now.rows }
+    ensures begun { IfOk result (IsBuildJob frame.now) }
+    ensures here { IfOk result (λ job. IfSome job (IsJobAt S.is_of (S.name store.now))) }
+    ensures refused { IfErr result (BuildRefusal frame.now) }
+    ensures numbers { RefusedBy (14 ∷ 20 ∷ 1 ∷ []) result }
+{
+    let Some((aggregate, group)) = frame.unbuilt() else {
+        return Ok(None);
+    };
+    Ok(Some(frame.begin_offload(store, aggregate, group)?))
+}
+
+/// Begins a work; `None` where there is nothing to do. Nothing is changed.
+///
+/// An evacuation is refused with `NoMemory` (1) alone; a fetch with `NoColumn` (4), `OutOfRange` (14) where no place of the row group
+/// is used, `StaleJob` (20) where the object is local: the first that applies; a build as `build_on` says.
+pub(crate) fn begin_on<S: FarTickets>(
+    frame: &Frame<S>,
+    store: &S,
+    work: &Work,
+) -> Result<Option<Job<S>>, Refusal>
+    requires here { AreAt S.is_of (S.name store.now) frame.now.rows }
+    ensures begun { IfOk result (Begins frame.now work.now) }
+    ensures here { IfOk result (λ job. IfSome job (IsJobAt S.is_of (S.name store.now))) }
+    ensures refused { IfErr result (BeginRefusal frame.now work.now) }
+    ensures numbers { RefusedBy (begin_refusals work.now) result }
+{
+    match work {
+        Work::Evacuate(_) => frame.begin_coldest(store),
+        Work::Fetch(_, name) => Ok(Some(frame.begin_fetch(store, name.column, name.group)?)),
+        Work::Build(_) => build_on(frame, store),
+    }
+}
+
+/// Ends a job by its kind: commits, installs or merges it. Each row stays.
+///
+/// Refused as `Frame::commit`, `Frame::install` and `Frame::merge` are: with `StaleJob` (20) and `Pinned` (19); with `StaleJob` (20),
+/// `RegionFull` (17) and `NoMemory` (1); with `NoAggregate` (12), `StaleJob` (20) and `NoMemory` (1). Then nothing is changed.
+pub(crate) fn finish_on<S: FarTickets>(
+    frame: &mut Frame<S>,
+    store: &S,
+    job: &Job<S>,
+) -> Result<(), Refusal>
+    requires here { AreAt S.is_of (S.name store.now) frame.old.rows }
+    requires job_here { IsJobAt S.is_of (S.name store.now) job.now }
+    ensures ended { OnOk result (Ends S.number_of S.content frame.old (kind_of job.now) job.now.work frame.new) }
+    ensures refused { IfErr result (EndRefusal S.number_of S.content frame.old (kind_of job.now) job.now.work) }
+    ensures err { OnErr result (frame.new ≡ frame.old) }
+    ensures numbers { RefusedBy (end_refusals (kind_of job.now)) result }
+    ensures keeps { KeepsRows frame.old.table frame.new.table }
+    ensures here { AreAt S.is_of (S.name store.now) frame.new.rows }
+{
+    match job.kind() {
+        JobKind::Evac => frame.commit(store, job),
+        JobKind::Fetch => frame.install(store, job),
+        JobKind::Offload => frame.merge(store, job),
+    }
+}
+
+/// Begins to build a row group that is left, by a scan where all that its aggregate needs is local, else by a job. Nothing is changed.
+///
+/// Refused as `build_on` is, where no scan is possible.
+pub(crate) fn building_on<S: FarTickets>(
+    frame: &Frame<S>,
+    store: &S,
+) -> Result<Building<Job<S>>, Refusal>
+    requires here { AreAt S.is_of (S.name store.now) frame.now.rows }
+    ensures begun { IfOk result (BeginsBuild frame.now) }
+    ensures here { IfOk result (IsBuildingAt S.is_of (S.name store.now)) }
+    ensures refused { IfErr result (BuildRefusal frame.now) }
+    ensures numbers { RefusedBy (14 ∷ 20 ∷ 1 ∷ []) result }
+{
+    let Some((aggregate, group)) = frame.unbuilt() else {
+        return Ok(Building::Nothing);
+    };
+    if frame.may_scan(aggregate, group) {
+        return Ok(Building::Scan { aggregate, group });
+    }
+    Ok(Building::Offload(frame.begin_offload(store, aggregate, group)?))
+}
+
+/// Builds a row group into an aggregate by a scan. Each row and object stays.
+///
+/// Refused with `NoAggregate` (12), `OutOfRange` (14), `StaleJob` (20), `Absent` (16) and `NoMemory` (1), as `Frame::scan_group` is.
+/// Then nothing is changed.
+pub(crate) fn scan_on<S: FarTickets>(
+    frame: &mut Frame<S>,
+    aggregate: u32,
+    group: u32,
+) -> Result<(), Refusal>
+    ensures scanned { OnOk result (Accepts S.content frame.old (step.ScanGroup aggregate group) reply.Done frame.new) }
+    ensures refused { IfErr result (λ e. Refuses frame.old (step.ScanGroup aggregate group) e frame.new) }
+    ensures numbers { RefusedBy (12 ∷ 14 ∷ 20 ∷ 16 ∷ 1 ∷ []) result }
+    ensures keeps { KeepsRows frame.old.table frame.new.table }
+    ensures rows { frame.new.rows ≡ frame.old.rows }
+{
+    frame.scan_group(aggregate, group)
+}
