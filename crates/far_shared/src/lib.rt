@@ -1,6 +1,6 @@
 #![tactic(auto)]
-//! Tables that threads share. What stands is the plan of one, and the answers over its four tables; their locks and sessions are to
-//! come.
+//! Tables that threads share. What stands is the plan of one, the answers over its four tables, and what is done in the background
+//! under their locks; its opening and its edits are to come.
 
 pub mod four;
 mod locked;

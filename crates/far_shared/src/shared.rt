@@ -1,4 +1,4 @@
-// A stand-in.
+// Four tables under locks.
 use crate::stripe::{Site, Stripe};
 use far_history::Naming;
 use far_sessions::Cells;
@@ -6,7 +6,7 @@ use far_store::FarTickets;
 use std::alloc::Global;
 use std::sync::RwLock;
 
-/// Tables that threads share.
+/// Tables that threads share: four stripes, each a table under its lock, and the cells beside them.
 #[derive(Drop)]
 pub struct Shared<N: Naming, B: Site, S: FarTickets> {
     pub(crate) alloc: Global,
