@@ -1,1 +1,4 @@
+mod EditLaws
+mod FirstLaws
 mod MergeLaws
+mod StripeLaws

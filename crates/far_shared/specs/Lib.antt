@@ -1,3 +1,4 @@
+pub mod Applying
 pub mod Fours
 pub mod Lines
 pub mod Plans

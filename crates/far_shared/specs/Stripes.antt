@@ -1,21 +1,22 @@
 -- What lies under the lock of a stripe.
-use Rattle.std.specs.Prelude.{◌≡◌, true, List, [], Some}
+use Rattle.std.specs.Prelude.{◌≡◌, List, [], Some}
 use Rattle.far_types.specs.declared.spec.Spec.{Spec}
 use Rattle.far_types.specs.Table.{Table, Registered}
 use Rattle.far_table.specs.Watching.{aggregate_at}
 use Rattle.far_history.specs.Histories.{Planned, replay}
 use Rattle.far_history.specs.declared.view.Entry.{Entry}
-use Rattle.far_shared.specs.Plans.{is_plain}
+use Rattle.far_shared.specs.Plans.{IsPlan}
 
 -- an aggregate that was registered first of all, before there was a row: nothing was ever left to be built into it
 abbrev pub first_registered : Spec → Registered
 first_registered spec = record { spec = spec; registration = 0; unbuilt = [] }
 
--- the table is the replay of the history, and its aggregate 0 is the gauge, with nothing missing. Others may be registered beside it
+-- the table is the replay of the history, and its aggregate 0 is the gauge of the plan, with nothing missing. Others may be registered
+-- beside it
 pub record IsStripe (p : Planned) (log : List Entry) (table : Table) : Type 0 where
+  pub plan : IsPlan p
   pub schema : table.schema ≡ p.schema
   pub limits : table.limits ≡ p.limits
   pub places : table.places ≡ (replay p log).places
   pub edits : table.edits ≡ (replay p log).edits
-  pub plain : is_plain p.gauge ≡ true
   pub gauge : aggregate_at table 0 ≡ Some (first_registered p.gauge)
