@@ -13,6 +13,7 @@ use Rattle.far_history.specs.Rule.{entry}
 use Rattle.far_history.specs.Sessions.{Told}
 use Rattle.far_history.specs.declared.view.Entry.{Entry}
 use Rattle.far_sessions.specs.Known.{SeesMore}
+use Rattle.far_shared.specs.declared.stripe.Applied.{Applied}
 
 -- the place of the row that an edit appends, or the one that it names
 abbrev pub place_of : Table → Edit → ℕ
@@ -33,10 +34,10 @@ WhyNot table e given = (edit_refusal table e ≡ Some given)
     ⊎ (((first_of (edit_faults table.schema table.limits table.places e) ≡ None) × IsOfObjects given)
     ⊎ ((edit_refusal table e ≡ None) × (given ≡ refusal.NoMemory)))
 
-module _ (p : Planned) (before : Told) (e : Edit) where
-  -- the edit was accepted. The session has then seen a legal history which begins with all that it had seen, and ends with this edit.
-  -- It is one more of the session's own, which were as many as they are
-  pub record Extends (number place : ℕ) (after : Told) : Type 0 where
+module _ (p : Planned) (before : Told) (e : Edit) (after : Told) where
+  -- the edit was accepted. The session has then seen a legal history which begins with all that it had seen, and ends with this edit
+  -- at the number that was told. It is one more of the session's own
+  pub record Extends (applied : Applied) : Type 0 where
     pub log : List Entry
     pub more : IsPrefix before.seen log
     pub seen : after.seen ≡ log ++ entry before.by e ∷ []
@@ -44,10 +45,10 @@ module _ (p : Planned) (before : Told) (e : Edit) where
     pub by : after.by ≡ before.by
     pub own : by_session after.by after.seen ≡ after.mine
     pub legal : IsLegal p after.seen
-    pub number : number ≡ length after.seen
-    pub place : place ≡ place_of (replay p log) e
+    pub number : applied.number ≡ length after.seen
+    pub place : applied.place ≡ place_of (replay p log) e
 
-  -- the edit was refused, over the replay of the history that the session has then seen. It made none
-  pub record IsRefused (given : Refusal) (after : Told) : Type 0 where
+  -- the edit was refused, as over the replay of the history that the session has then seen. It made none
+  pub record IsRefused (given : Refusal) : Type 0 where
     pub sees : SeesMore p before after
     pub why : WhyNot (replay p after.seen) e given

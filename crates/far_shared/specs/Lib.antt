@@ -1,5 +1,9 @@
 pub mod Applying
+pub mod Asking
+pub mod Closing
 pub mod Fours
 pub mod Lines
+pub mod Opening
 pub mod Plans
 pub mod Stripes
+pub mod Watching

@@ -14,6 +14,7 @@ use far_store::FarTickets;
 use far_types::{Edit, Refusal};
 
 /// What an accepted edit leaves: the place of the row that it appended, or the one that it names, and what the gauge reads then.
+#[derive(Drop)]
 pub(crate) struct Changed {
     pub(crate) place: u32,
     pub(crate) after: Reading,
