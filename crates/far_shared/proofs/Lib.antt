@@ -1,4 +1,6 @@
+mod AskLaws
 mod EditLaws
 mod FirstLaws
 mod MergeLaws
+mod RegisterLaws
 mod StripeLaws

@@ -94,6 +94,7 @@ module _ (p : Planned) (log : List Entry) (table : Table) (is : IsStripe p log t
         limits = is.limits;
         places = ap (places_after e) is.places ∙ sym (ap (λ (t : Table). t.places) pushed);
         edits = ap (λ n. n + 1) is.edits ∙ sym (ap (λ (t : Table). t.edits) pushed);
+        aggregates = is.aggregates;
         gauge = is.gauge;
       }
 
