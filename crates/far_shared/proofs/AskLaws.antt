@@ -54,9 +54,10 @@ module _ (p : Planned) (zero one two three : List Entry) (t0 t1 t2 t3 : Table) (
   }
     where
       told : answer ≡ answer_over alike.second.0 (all_rows t0 t1 t2 t3)
-      told = subst (λ (found : Option Spec). IfSome found (λ (spec : Spec). answer ≡ answer_over spec (all_rows t0 t1 t2 t3))) alike.second.1.0 is
+      told = subst (λ (found : Option Spec). IfSome found (λ (spec : Spec). answer ≡ answer_over spec (all_rows t0 t1 t2 t3))) alike.second.1 is
+
       gauge : a ≡ 0 → alike.second.0 ≡ p.gauge
       gauge first =
-          let here : spec_at t0 0 ≡ Some alike.second.0 = subst (λ n. spec_at t0 n ≡ Some alike.second.0) first alike.second.1.0 in
+          let here : spec_at t0 0 ≡ Some alike.second.0 = subst (λ n. spec_at t0 n ≡ Some alike.second.0) first alike.second.1 in
           let gauged : spec_at t0 0 ≡ Some p.gauge = ap (option_map (λ (aggregate : Registered). aggregate.spec)) is0.gauge in
           cc

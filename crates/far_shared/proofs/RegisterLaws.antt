@@ -76,8 +76,10 @@ module _ (p : Planned) (is : IsPlan p) where
     where
       first : 0 ≡ a
       first = cc
+
       none : groups p.limits.group 0 ≡ 0
       none = no-groups p.limits.group (omega (arith, is.limits.group_low))
+
       opened : IsStripe p [] (registered_at 0 p.gauge (empty_table p.schema p.limits))
       opened = record {
         plan = is;

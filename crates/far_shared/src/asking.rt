@@ -66,14 +66,7 @@ fn answer_stripes<N: Naming, B: Site, S: FarTickets>(
     one.keeper.known();
     two.keeper.known();
     three.keeper.known();
-    answer_four(
-        alloc,
-        &zero.frame,
-        &one.frame,
-        &two.frame,
-        &three.frame,
-        a,
-    )
+    answer_four(alloc, &zero.frame, &one.frame, &two.frame, &three.frame, a)
 }
 
 impl<N: Naming, B: Site, S: FarTickets> Shared<N, B, S> {

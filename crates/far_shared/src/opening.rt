@@ -84,10 +84,7 @@ impl<N: Naming, S: FarTickets> Made<N, S> {
     /// the four cells, and the store to which objects will go.
     ///
     /// Refused with `NoMemory` (1) alone; what was made is then dropped.
-    pub fn open<B: Site>(
-        self,
-        alloc: Global,
-    ) -> Result<(Shared<N, B, S>, Vec<Session<B>>), Refusal>
+    pub fn open<B: Site>(self, alloc: Global) -> Result<(Shared<N, B, S>, Vec<Session<B>>), Refusal>
         requires names { AreNamed self B.cells }
         ensures sessions { IfOk result (λ opened. opened.1.items ≡ newcomers N.plan.sessions) }
         ensures memory { IfErr result (λ e. e ≡ Refusal.NoMemory) }
