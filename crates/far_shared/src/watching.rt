@@ -18,6 +18,8 @@ impl<N: Naming, B: Site, S: FarTickets, const I: usize> Stripe<N, B, S, I> {
         ensures allowed { OnOk result (spec_refusal N.plan.schema spec.now ≡ None) }
         ensures refused { IfErr result (WatchRefusal N.plan.schema spec.now) }
     {
+        // Looked at before memory is asked for, so that want of memory never hides what is wrong with it.
+        spec.check(self.frame.schema())?;
         self.frame.watch(spec.clone()?)
     }
 
