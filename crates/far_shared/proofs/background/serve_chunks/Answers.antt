@@ -1,4 +1,3 @@
-use borrow.Author.Rules.{lives}
 use Rattle.std.proofs.Common.{◌≡◌, ◌+◌, ◌≤◌, ◌<◌, length, sum_by, get_or, arith, rules}
 use Rattle.std.specs.Fork.{slice_chunk}
 use Rattle.far_shared.specs.Works.{works_in}
@@ -17,6 +16,3 @@ sum_of-requires g c = let e = all-counted g c in search rules
 
 pub returns : goal.returns
 returns g c = let e = all-counted g (goal.at.returns g c).After-deref in search rules
-
-pub map_chunks-requires-sync-F : goal.map_chunks-requires-sync-F
-map_chunks-requires-sync-F g c κs within = search (rules, lives, within) depth 24 fits 20000
