@@ -69,15 +69,29 @@ fn first_wrong<S: FarStore>(
     alloc: Global,
     numbers: &mut Stage<'_, S>,
     texts: &mut Stage<'_, S>,
-    run: &mut Run,
+    mut run: Run,
 ) -> Result<Option<u32>, Refusal> {
     for index in 0..STEPS {
-        let (draws, faults) = (&mut run.draws, &mut run.faults);
-        let first = step(alloc, numbers, &mut run.numbers, draws, faults);
-        let second = step(alloc, texts, &mut run.texts, draws, faults);
+        let first = step(
+            alloc,
+            numbers,
+            &mut run.numbers,
+            &mut run.draws,
+            &mut run.faults,
+        );
+        let second = step(
+            alloc,
+            texts,
+            &mut run.texts,
+            &mut run.draws,
+            &mut run.faults,
+        );
         match (first, second) {
-            (Ok(true), Ok(true)) => {}
-            (Ok(_), Ok(_)) => return Ok(Some(index)),
+            (Ok(first), Ok(second)) => {
+                if !first || !second {
+                    return Ok(Some(index));
+                }
+            }
             _ => return Err(Refusal::NoMemory),
         }
     }
@@ -85,7 +99,7 @@ fn first_wrong<S: FarStore>(
 }
 
 /// A run over a store of which a put and a get fail.
-fn run_over<S: FarStore>(alloc: Global, store: &S, run: &mut Run) -> Result<Option<u32>, Refusal> {
+fn run_over<S: FarStore>(alloc: Global, store: &S, run: Run) -> Result<Option<u32>, Refusal> {
     match Stage::new(alloc, store, NUMBERS) {
         Ok(mut numbers) => run_with(alloc, store, &mut numbers, run),
         Err(refusal) => Err(refusal),
@@ -96,7 +110,7 @@ fn run_with<S: FarStore>(
     alloc: Global,
     store: &S,
     numbers: &mut Stage<'_, S>,
-    run: &mut Run,
+    run: Run,
 ) -> Result<Option<u32>, Refusal> {
     match Stage::new(alloc, store, TEXTS) {
         Ok(mut texts) => first_wrong(alloc, numbers, &mut texts, run),
@@ -106,18 +120,14 @@ fn run_with<S: FarStore>(
 
 /// The run of a seed: the first step that is not right.
 fn run_of<R: Wait + Sync + Drop>(rt: R, alloc: Global, seed: u64) -> Result<Option<u32>, Refusal> {
-    let mut run = Run {
+    let run = Run {
         numbers: Model::new(NUMBERS),
         texts: Model::new(TEXTS),
         draws: Draws::new(seed),
         faults: Faults::new(seed % 11, seed % 7),
     };
     match AgentStore::new(rt, alloc, 4_096) {
-        Ok(store) => run_over(
-            alloc,
-            &FaultyStore::new(store, seed % 11, seed % 7),
-            &mut run,
-        ),
+        Ok(store) => run_over(alloc, &FaultyStore::new(store, seed % 11, seed % 7), run),
         Err(refusal) => Err(refusal),
     }
 }

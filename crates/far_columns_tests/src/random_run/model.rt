@@ -69,20 +69,22 @@ impl Model {
         k: usize,
         faults: &mut Faults,
     ) -> Result<(), Refusal> {
-        let last = self.objects.checked_sub(1);
+        let objects = self.objects;
         let Some(plain) = self.columns.get_mut(k) else {
             return Err(Refusal::NoColumn);
         };
         let length = plain.length(call);
-        if let Some(refusal) = plain.refusal(call, length, columns.fits(length), last, faults) {
+        let (fits, last) = (columns.fits(length), objects.checked_sub(1));
+        if let Some(refusal) = plain.refusal(call, length, fits, last, faults) {
             return Err(refusal);
         }
         let groups = plain.len.div_ceil(SIZE);
-        plain.apply(call, self.objects);
-        if plain.len.div_ceil(SIZE) > groups {
-            self.objects = self.objects.saturating_add(1);
-        } else if plain.len.div_ceil(SIZE) < groups {
-            self.objects = self.objects.saturating_sub(1);
+        plain.apply(call, objects);
+        let then = plain.len.div_ceil(SIZE);
+        if then > groups {
+            self.objects = objects.saturating_add(1);
+        } else if then < groups {
+            self.objects = objects.saturating_sub(1);
         }
         Ok(())
     }

@@ -287,8 +287,10 @@ impl Plain {
         } else {
             self.written(place / SIZE);
         }
-        if let (Some(there), Some(alive)) = (self.cells.get_mut(place), self.alive.get_mut(place)) {
+        if let Some(there) = self.cells.get_mut(place) {
             *there = cell;
+        }
+        if let Some(alive) = self.alive.get_mut(place) {
             *alive = true;
         }
     }
