@@ -14,8 +14,8 @@ const NO_VALUE: Values<'static> = (
     CellRef::Missing,
 );
 
-// How many row groups there are at most.
-const GROUPS: usize = 4;
+// How many objects there are at most: one of each of four columns in each of four row groups.
+const OBJECTS: usize = 16;
 
 /// What is known of an object.
 #[derive(Clone, Copy)]
@@ -33,13 +33,13 @@ const NEW: Held = Held {
     leavings: 0,
 };
 
-/// How many places there are, the values of each, whether it is alive, and what is known of the objects of each row group.
+/// How many places there are, the values of each, whether it is alive, and what is known of each object.
 #[derive(Drop)]
 pub struct Plain {
     len: usize,
     rows: Vec<Values<'static>>,
     alive: [bool; PLACES],
-    groups: [[Held; 4]; GROUPS],
+    objects: [Held; OBJECTS],
 }
 
 impl Plain {
@@ -49,7 +49,7 @@ impl Plain {
             len: 0,
             rows: Vec::from_array(alloc, [NO_VALUE; PLACES])?,
             alive: [true; PLACES],
-            groups: [[NEW; 4]; GROUPS],
+            objects: [NEW; OBJECTS],
         })
     }
 
@@ -71,18 +71,13 @@ impl Plain {
         if group.saturating_mul(SIZE) >= self.len {
             return None;
         }
-        match self.groups.get(group) {
-            Some(objects) => objects.get(column).copied(),
-            None => None,
-        }
+        self.objects.get(object(column, group)).copied()
     }
 
     // It is this from now on.
     fn hold(&mut self, column: usize, group: usize, held: Held) {
-        if let Some(objects) = self.groups.get_mut(group) {
-            if let Some(object) = objects.get_mut(column) {
-                *object = held;
-            }
+        if let Some(object) = self.objects.get_mut(object(column, group)) {
+            *object = held;
         }
     }
 
@@ -159,10 +154,10 @@ impl Plain {
 
     // All objects of a row group are written, or none.
     fn write_all(&mut self, group: usize) -> Result<(), Refusal> {
-        let before = self.groups;
+        let before = self.objects;
         for column in 0..4 {
             if let Err(refusal) = self.write(column, group) {
-                self.groups = before;
+                self.objects = before;
                 return Err(refusal);
             }
         }
@@ -239,6 +234,11 @@ impl Plain {
         self.hold(column, group, changed);
         Ok(())
     }
+}
+
+// Where the object of a row group of a column lies among all.
+fn object(column: usize, group: usize) -> usize {
+    group.saturating_mul(4).saturating_add(column)
 }
 
 // The values of a row, once that for a column is another.
