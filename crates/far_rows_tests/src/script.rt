@@ -123,8 +123,17 @@ fn first_wrong_between<S: FarStore>(
     if wrong.is_some() || case.moved.is_empty() {
         return Ok(wrong);
     }
+    first_wrong_moved(alloc, fixture, case.moved)
+}
+
+// The same of the parts that come once the table is in the other store.
+fn first_wrong_moved<S: FarStore>(
+    alloc: Global,
+    fixture: Fixture<'_, S>,
+    parts: &[&[Step]],
+) -> Result<Option<(usize, usize)>, Refusal> {
     let mut fixture = fixture.moved(alloc)?;
-    Ok(first_wrong_part(alloc, &mut fixture, case.moved))
+    Ok(first_wrong_part(alloc, &mut fixture, parts))
 }
 
 // The part of a script and its step that do not come out as they should.
