@@ -1,48 +1,23 @@
 -- What was printed up to a fault.
-use Rattle.std.proofs.Common.{◌≡◌, ◌==◌, ◌+◌, ℕ, false, inl, inr, List, [], ◌∷◌, ◌++◌, length, take, Option, Some, None, Result, Ok, Err, IfErr, IsErrAnd, append_assoc, append-nil, length-append, ◌∙◌, refl, sym, ap, subst, arith}
-use Rattle.std.specs.Prelude.{codes, IfNone, IfSome, IsUtf8, unwrap_or}
+use Rattle.std.proofs.Common.{◌≡◌, ◌==◌, ◌+◌, ℕ, false, inl, inr, List, [], ◌∷◌, ◌++◌, length, take, Option, Some, None, append_assoc, append-nil, ◌∙◌, refl, sym, ap, subst}
+use Rattle.std.specs.Prelude.{codes, IfSome, IsUtf8, unwrap_or}
 use Rattle.std.specs.List.{list_any}
 use Rattle.std.specs.Io.BufRead.{strip_last}
-use Rattle.std.specs.Io.KnownBytes.{Consumes}
 use Rattle.std.proofs.KnownBytes.{Appends-nil}
 use Rattle.std.specs.declared.io.traits.Read.{Ghosts}
 use Rattle.far_store.specs.declared.store.FarTickets.{Ghosts as Tickets}
-use Rattle.far_shell.specs.declared.fault.ShellFault.{ShellFault}
-use Rattle.far_shell.specs.declared.fault.ShellFault.TheVariants as fault
-use Rattle.far_shell.specs.declared.input.Input.{Input}
+use Rattle.far_script.specs.declared.fault.ShellFault.{ShellFault}
+use Rattle.far_script.specs.declared.fault.ShellFault.TheVariants as fault
+use Rattle.far_script.specs.declared.input.Input.{Input}
 use Rattle.far_shell.specs.Breaks.{Lists, ListsNext, Breaks, BreaksIn, BreaksLater, BreaksOff, CutOff, EndsBy, Fails, HasNoTurn, IsBroken, IsFront, IsRejected, PrintsCut, Rejection, Rejects}
-use Rattle.far_shell.specs.Faults.{IfInput}
-use Rattle.far_shell.specs.Flow.{Counts, Gives, IsSpent, Prints, Reads, StartsWith, Stops, unread}
+use Rattle.far_script.specs.Faults.{IfInput}
+use Rattle.far_script.specs.Flow.{Counts, Gives, IsSpent, Prints, Reads, StartsWith, Stops}
 use Rattle.far_shell.specs.Progress.{At}
-use Rattle.far_shell.specs.Scripts.{Answers, Blank, IsOneLine, IsScript, Opens}
-use Rattle.far_shell.proofs.FlowLaws.{no-first, opens-then, prints, prints-then, prints-nothing-then, prints-then-nothing, reads-none, spent-nothing, spent-stays}
-
--- a fault that is handed on
-pub handed-on : {T : Type 0} (r : Result T ShellFault) (why : ShellFault) (Q : ShellFault → Type 0) → IsErrAnd r (λ given. given ≡ why) → Q why → IfErr r Q
-handed-on (Ok x) why Q h q = tt
-handed-on (Err given) why Q h q = subst Q (sym h) q
-
-pub each-fault : {T : Type 0} (r : Result T ShellFault) (P Q : ShellFault → Type 0) → ((why : ShellFault) → P why → Q why) → IfErr r P → IfErr r Q
-each-fault (Ok x) P Q f h = tt
-each-fault (Err why) P Q f h = f why h
-
--- what is said where there is none
-pub none-of : (o : Option ℕ) (P : Type 0) → ((x : ℕ) → o ≡ Some x → ⊥) → IfNone o P → P
-none-of None P not h = h
-none-of (Some x) P not h = absurd (not x refl)
-
--- what is said of a fault of the input
-pub if-input : (why : ShellFault) (P Q : Type 0) → (P → Q) → IfInput why P → IfInput why Q
-if-input fault.BadStart P Q f h = tt
-if-input fault.Input P Q f h = f h
-if-input fault.Output P Q f h = tt
-if-input fault.Memory P Q f h = tt
-
-pub not-input : (why : ShellFault) (P : Type 0) → (why ≡ fault.Input → ⊥) → IfInput why P
-not-input fault.BadStart P other = tt
-not-input fault.Input P other = absurd (other refl)
-not-input fault.Output P other = tt
-not-input fault.Memory P other = tt
+use Rattle.far_script.specs.Lines.{Blank, IsOneLine}
+use Rattle.far_shell.specs.Scripts.{Answers, IsScript, Opens}
+use Rattle.far_script.proofs.FlowLaws.{no-first, prints, prints-then, prints-nothing-then, prints-then-nothing, reads-none}
+use Rattle.far_shell.proofs.ScriptLaws.{opens-then}
+use Rattle.far_script.proofs.StopLaws.{coming, counts-then, gives-then, if-input, spent-rest, starts, starts-split, starts-then, stops-here, stops-more, stops-then}
 
 -- a first line is rejected by no such fault
 rejected-input : (why : ShellFault) (line text : List ℕ) (P : Type 0) → Rejection why line text → IfInput why P
@@ -88,33 +63,6 @@ pub prints-cut-more : (why : ShellFault) (a b : List ℕ → Type 0) (u v w : Op
     → PrintsCut why a v mid w left → PrintsCut why b u held w left
 prints-cut-more why a b u v w held mid left f p q = (q.0, prints-nothing-then u v w held mid q.0 left p q.1, cut-more why a b q.0 f q.2)
 
-starts-known : (known left : Option (List ℕ)) (came a bytes b : List ℕ) → Consumes known left came → a ++ came ≡ bytes ++ b → IfSome known (λ coming. a ++ coming ≡ bytes ++ (b ++ unwrap_or left []))
-starts-known None left came a bytes b p e = tt
-starts-known (Some xs) None came a bytes b p e = absurd p
-starts-known (Some xs) (Some ys) came a bytes b p e =
-    ap (λ (t : List ℕ). a ++ t) p ∙ sym (append_assoc a came ys) ∙ ap (λ (t : List ℕ). t ++ ys) e ∙ append_assoc bytes b ys
-
-starts-later : (known left : Option (List ℕ)) (came a first b bytes rest : List ℕ) → Consumes known left came → a ++ came ≡ first ++ b → IfSome left (λ coming. b ++ coming ≡ bytes ++ rest)
-    → IfSome known (λ coming. a ++ coming ≡ (first ++ bytes) ++ rest)
-starts-later None left came a first b bytes rest p e h = tt
-starts-later (Some xs) None came a first b bytes rest p e h = absurd p
-starts-later (Some xs) (Some ys) came a first b bytes rest p e h =
-    ap (λ (t : List ℕ). a ++ t) p ∙ sym (append_assoc a came ys) ∙ ap (λ (t : List ℕ). t ++ ys) e ∙ append_assoc first b ys ∙ ap (λ (t : List ℕ). first ++ t) h ∙ sym (append_assoc first bytes rest)
-
-starts-apart : (known : Option (List ℕ)) (a bytes more rest : List ℕ) → IfSome known (λ coming. a ++ coming ≡ (bytes ++ more) ++ rest) → IfSome known (λ coming. a ++ coming ≡ bytes ++ (more ++ rest))
-starts-apart None a bytes more rest h = tt
-starts-apart (Some xs) a bytes more rest h = h ∙ append_assoc bytes more rest
-
-starts-here : (known : Option (List ℕ)) (a : List ℕ) → IfSome known (λ coming. a ++ coming ≡ a ++ unwrap_or known [])
-starts-here None a = tt
-starts-here (Some xs) a = refl
-
-counted-then : (x m o came u um f a fa : ℕ) → x + a ≡ m + um → m + came ≡ o → u + came ≡ f + um → fa ≡ f + a → x + fa ≡ o + u
-counted-then x m o came u um f a fa p q r s = omega (arith, p, q, r, s)
-
-both-lengths : (xs ys zs ws : List ℕ) → xs ++ ys ≡ zs ++ ws → length xs + length ys ≡ length zs + length ws
-both-lengths xs ys zs ws e = sym (length-append xs ys) ∙ ap (λ (t : List ℕ). length t) e ∙ length-append zs ws
-
 take-all : (xs ys : List ℕ) → take (length xs) (xs ++ ys) ≡ xs
 take-all [] [] = refl
 take-all [] (y ∷ ys) = refl
@@ -125,67 +73,11 @@ pub take-front : (xs ys : List ℕ) (n : ℕ) → length xs ≡ n → take n (xs
 take-front xs ys n e = subst (λ (k : ℕ). take k (xs ++ ys) ≡ xs) e (take-all xs ys)
 
 module _ {R : Type 0} (read : Ghosts R) where
-  -- what still comes of a script
-  abbrev pub coming : Input R read → List ℕ
-  coming input = unread read input ++ unwrap_or (read.remaining input.source.reader) []
-
-  -- nothing comes behind
-  pub spent-rest : (input : Input R read) → IsSpent read input → coming input ≡ []
-  spent-rest input spent = ap (λ (t : List ℕ). t ++ unwrap_or (read.remaining input.source.reader) []) spent.0 ∙ input.source.end spent.1
-
-  pub starts : (old new : Input R read) (bytes : List ℕ) → Reads read old bytes new → StartsWith read old bytes (coming new)
-  starts old new bytes p = (
-    starts-known (read.remaining old.source.reader) (read.remaining new.source.reader) p.came (unread read old) bytes (unread read new) p.consumed p.taken,
-    λ spent. ap (λ (t : List ℕ). t ++ coming new) (spent-nothing read old new bytes spent p) ∙ spent-rest new (spent-stays read old new bytes spent p),
-  )
-
-  pub starts-then : (old mid : Input R read) (first bytes rest : List ℕ) → Reads read old first mid → StartsWith read mid bytes rest → StartsWith read old (first ++ bytes) rest
-  starts-then old mid first bytes rest p h = (
-    starts-later (read.remaining old.source.reader) (read.remaining mid.source.reader) p.came (unread read old) first (unread read mid) bytes rest p.consumed p.taken h.0,
-    λ spent. ap (λ (t : List ℕ). (t ++ bytes) ++ rest) (spent-nothing read old mid first spent p) ∙ h.1 (spent-stays read old mid first spent p),
-  )
-
-  starts-split : (input : Input R read) (bytes more rest : List ℕ) → StartsWith read input (bytes ++ more) rest → StartsWith read input bytes (more ++ rest)
-  starts-split input bytes more rest h = (
-    starts-apart (read.remaining input.source.reader) (unread read input) bytes more rest h.0,
-    λ spent. sym (append_assoc bytes more rest) ∙ h.1 spent,
-  )
-
-  -- all that is held came, and nothing more
-  pub stops-here : (old new : Input R read) (P : List ℕ → Type 0) → new.source.bytes ≡ old.source.bytes → P (unread read old) → Stops read P old new
-  stops-here old new P same h = (
-    unread read old,
-    unwrap_or (read.remaining old.source.reader) [],
-    (starts-here (read.remaining old.source.reader) (unread read old), λ spent. spent-rest old spent),
-    ap (λ (n : ℕ). n + length (unread read old)) same,
-    h,
-  )
-
-  counts-then : (old mid new : Input R read) (first bytes : List ℕ) → Reads read old first mid → Counts read mid bytes new → Counts read old (first ++ bytes) new
-  counts-then old mid new first bytes p q =
-      counted-then new.source.bytes mid.source.bytes old.source.bytes (length p.came) (length (unread read old)) (length (unread read mid)) (length first) (length bytes) (length (first ++ bytes)) q p.counted
-      (both-lengths (unread read old) p.came first (unread read mid) p.taken) (length-append first bytes)
-
-  pub gives-then : (old mid new : Input R read) (first bytes rest : List ℕ) (why : ShellFault) → Reads read old first mid → Gives read why mid new bytes rest → Gives read why old new (first ++ bytes) rest
-  gives-then old mid new first bytes rest why p g =
-      (starts-then old mid first bytes rest p g.0, if-input why (Counts read mid bytes new) (Counts read old (first ++ bytes) new) (λ c. counts-then old mid new first bytes p c) g.1)
-
-  -- bytes were taken before those that are told
-  pub stops-then : (old mid new : Input R read) (first : List ℕ) (P Q : List ℕ → Type 0) → Reads read old first mid → ((bytes : List ℕ) → P bytes → Q (first ++ bytes)) → Stops read P mid new → Stops read Q old new
-  stops-then old mid new first P Q p f s = (first ++ s.0, s.1, starts-then old mid first s.0 s.1 p s.2, counts-then old mid new first s.0 p s.3, f s.0 s.4)
-
-  pub stops-more : (old new : Input R read) (P Q : List ℕ → Type 0) → ((bytes : List ℕ) → P bytes → Q bytes) → Stops read P old new → Stops read Q old new
-  stops-more old new P Q f s = (s.0, s.1, s.2, s.3, f s.0 s.4)
-
-  -- nothing was taken
-  pub stops-still : (old mid new : Input R read) (P : List ℕ → Type 0) → Reads read old [] mid → new.source.bytes ≡ mid.source.bytes → P (unread read mid) → Stops read P old new
-  stops-still old mid new P p same h = stops-then old mid new [] P P p (λ bytes q. q) (stops-here mid new P same h)
-
   -- a whole line came, and is at fault with what came behind it
   stops-line : (before mid new : Input R read) (raw line : List ℕ) (fails : List ℕ → List ℕ → Type 0) → IsOneLine raw → line ≡ strip_last 13 raw → Reads read before (raw ++ 10 ∷ []) mid
       → Stops read (λ behind. fails line behind) mid new → Stops read (HasNoTurn fails) before new
   stops-line before mid new raw line fails one stripped p s =
-      stops-then before mid new (raw ++ 10 ∷ []) (λ behind. fails line behind) (HasNoTurn fails) p
+      stops-then read before mid new (raw ++ 10 ∷ []) (λ behind. fails line behind) (HasNoTurn fails) p
       (λ behind h. inr (raw, behind, one, append_assoc raw (10 ∷ []) behind, subst (λ (z : List ℕ). fails z behind) stripped h)) s
 
   -- the last one came
@@ -193,22 +85,22 @@ module _ {R : Type 0} (read : Ghosts R) where
       → Stops read P mid new → Stops read (HasNoTurn fails) before new
   stops-last before mid new line fails P one p spent s =
       let none : s.0 ≡ [] = no-first s.0 s.1 (s.2.1 spent) in
-      stops-then before mid new line (λ behind. behind ≡ []) (HasNoTurn fails) p
+      stops-then read before mid new line (λ behind. behind ≡ []) (HasNoTurn fails) p
       (λ behind h. inl (subst (λ (z : List ℕ). IsOneLine z) (sym (ap (λ (z : List ℕ). line ++ z) h ∙ append-nil line)) one)) (s.0, s.1, s.2, s.3, none)
 
   -- a line that came is no text
   pub no-text-line : (before mid : Input R read) (raw line : List ℕ) → list_any (λ x. x == 10) raw ≡ false → line ≡ strip_last 13 raw → Reads read before (raw ++ 10 ∷ []) mid → (IsUtf8 line → ⊥)
       → Stops read (HasNoTurn (λ line behind. ¬ (IsUtf8 line))) before mid
-  no-text-line before mid raw line one stripped p h = stops-line before mid mid raw line (λ line behind. ¬ (IsUtf8 line)) one stripped p (stops-here mid mid (λ behind. ¬ (IsUtf8 line)) refl h)
+  no-text-line before mid raw line one stripped p h = stops-line before mid mid raw line (λ line behind. ¬ (IsUtf8 line)) one stripped p (stops-here read mid mid (λ behind. ¬ (IsUtf8 line)) refl h)
 
   pub no-text-last : (before mid : Input R read) (line : List ℕ) → list_any (λ x. x == 10) line ≡ false → Reads read before line mid → IsSpent read mid → (IsUtf8 line → ⊥)
       → Stops read (HasNoTurn (λ line behind. ¬ (IsUtf8 line))) before mid
-  no-text-last before mid line one p spent h = stops-last before mid mid line (λ line behind. ¬ (IsUtf8 line)) (λ behind. ¬ (IsUtf8 line)) one p spent (stops-here mid mid (λ behind. ¬ (IsUtf8 line)) refl h)
+  no-text-last before mid line one p spent h = stops-last before mid mid line (λ line behind. ¬ (IsUtf8 line)) (λ behind. ¬ (IsUtf8 line)) one p spent (stops-here read mid mid (λ behind. ¬ (IsUtf8 line)) refl h)
 
   pub no-line : (why : ShellFault) (before new : Input R read) → IfInput why (Stops read IsOneLine before new) → IfInput why (Stops read (HasNoTurn (λ line behind. ¬ (IsUtf8 line))) before new)
   no-line why before new h =
       if-input why (Stops read IsOneLine before new) (Stops read (HasNoTurn (λ line behind. ¬ (IsUtf8 line))) before new)
-      (λ s. stops-more before new IsOneLine (HasNoTurn (λ line behind. ¬ (IsUtf8 line))) (λ bytes one. inl one) s) h
+      (λ s. stops-more read before new IsOneLine (HasNoTurn (λ line behind. ¬ (IsUtf8 line))) (λ bytes one. inl one) s) h
 
 nothing-printed : (a b c d : Option (List ℕ)) (h k l m text front : List ℕ) → Prints a h text b k → Prints b k [] c l → Prints c l front d m → front ≡ [] → Prints a h text d m
 nothing-printed a b c d h k l m text front q t u none =
@@ -458,14 +350,6 @@ whole-unwritten tickets splits u v w script rest text left lost begins p s q =
 pub breaks-as : {S K : Type 0} (tickets : Tickets S K) (splits others : List ℕ → List ℕ → Type 0) (u v : Option (List ℕ)) (why : ShellFault) → ((bytes rest : List ℕ) → splits bytes rest → others bytes rest) → Breaks tickets splits u v why → Breaks tickets others u v why
 breaks-as tickets splits others u v why f b =
     record { bytes = b.bytes; rest = b.rest; begins = f b.bytes b.rest b.begins; text = b.text; sent = b.sent; lost = b.lost; written = b.written; said = b.said; ends = b.ends }
-
-module _ {R : Type 0} (read : Ghosts R) where
-  -- a split of a script of which nothing was read
-  pub gives-known : (input new : Input R read) (reader : R) (why : ShellFault) (bytes rest : List ℕ) → input.source.reader ≡ reader → unread read input ≡ [] → Gives read why input new bytes rest
-      → IfSome (read.remaining reader) (λ script. script ≡ bytes ++ rest)
-  gives-known input new reader why bytes rest is none g =
-      subst (λ (r : R). IfSome (read.remaining r) (λ script. script ≡ bytes ++ rest)) is
-      (subst (λ (z : List ℕ). IfSome (read.remaining input.source.reader) (λ script. z ++ script ≡ bytes ++ rest)) none g.0.0)
 
 -- nothing was read
 pub breaks-none : {S K : Type 0} (tickets : Tickets S K) (known u : Option (List ℕ)) → Breaks tickets (λ bytes rest. IfSome known (λ script. script ≡ bytes ++ rest)) u u fault.Memory

@@ -2,10 +2,10 @@
 use Rattle.std.proofs.Common.{drop, Option, subst, ◌≡◌, ◌+◌, ℕ, zero, suc, Bool, true, false, List, [], ◌∷◌, ◌++◌, length, take, append_assoc, append-nil, length-append, if◌then◌else◌, ◌∙◌, refl, sym, ap, arith}
 use Rattle.far_types.specs.declared.cell.Cell.{Cell}
 use Rattle.far_types.specs.Table.{Place, rows_of}
-use Rattle.far_shell.specs.Printing.{texts_of}
-use Rattle.far_shell.specs.Flow.{Prints}
+use Rattle.far_script.specs.Printing.{texts_of}
+use Rattle.far_script.specs.Flow.{Prints}
 use Rattle.far_shell.specs.Listings.{cells_at, is_live, row_line}
-use Rattle.far_shell.proofs.FlowLaws.{prints, prints-then, prints-then-nothing}
+use Rattle.far_script.proofs.FlowLaws.{prints, prints-then, prints-then-nothing}
 
 rows-first : (b : Bool) (p : Place) (rest : List Place) → p.alive ≡ b → rows_of (p ∷ rest) ≡ (if b then p.cells ∷ rows_of rest else rows_of rest)
 rows-first true p rest h = rw h refl

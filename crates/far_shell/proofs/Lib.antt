@@ -1,13 +1,5 @@
-pub mod FieldLaws
-pub mod NumberLaws
-pub mod PartLaws
-pub mod PlainRecords
-pub mod WordLaws
-pub mod TestLaws
-pub mod KindLaws
-pub mod PrintLaws
 pub mod PlainLaws
-pub mod FlowLaws
+pub mod ScriptLaws
 pub mod DumpLaws
 pub mod RowLaws
 pub mod PieceLaws

@@ -17,7 +17,7 @@ use Rattle.far_types.specs.declared.refusal.Refusal.{Refusal}
 use Rattle.far_frame.specs.Steps.{IsStep}
 use Rattle.far_frame.specs.Worlds.{World}
 use Rattle.std.specs.Prelude.{codes}
-use Rattle.far_shell.specs.Printing.{numbered_text, refusal_text}
+use Rattle.far_script.specs.Printing.{numbered_text, refusal_text}
 use Rattle.far_shell.specs.Replies.{AfterReply, Loads, insert_of_record}
 
 -- where a record ended, no other is begun

@@ -7,8 +7,8 @@ use Rattle.far_types.specs.declared.cell.Cell.{Cell}
 use Rattle.far_frame.specs.Lending.{Piece}
 use Rattle.far_shell.specs.Listings.{cell_text, field_in_record, row_line}
 use Rattle.far_shell.specs.Pieces.{group_text, next_text, piece_text, pieces_text}
-use Rattle.far_shell.specs.Printing.{line_end, texts_of}
-use Rattle.far_shell.proofs.PrintLaws.{is-some, not-zero}
+use Rattle.far_script.specs.Printing.{line_end, texts_of}
+use Rattle.far_script.proofs.PrintLaws.{is-some, not-zero}
 use Rattle.far_shell.proofs.RowLaws.{drop-past, row-some}
 
 -- a text more, that of the i-th item

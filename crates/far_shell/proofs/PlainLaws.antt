@@ -5,9 +5,9 @@ use Rattle.std.specs.Fmt.{digit_glyph, digits, digits_onto, signed_decimal}
 use Rattle.std.proofs.lemmas.Bool.{eqb-true}
 use Rattle.csv.specs.Quoting.{needs_byte}
 use Rattle.csv.specs.Writing.{default_writer, field_text, needs_quotes}
-use Rattle.far_shell.specs.Fields.{missing_mark}
+use Rattle.far_script.specs.Fields.{missing_mark}
 use Rattle.far_shell.specs.Listings.{field_in_record}
-use Rattle.far_shell.proofs.PrintLaws.{is-some, lone-same, not-zero}
+use Rattle.far_script.proofs.PrintLaws.{is-some, lone-same, not-zero}
 
 -- a byte above another is no such byte
 above : (b low : ℕ) → low < b → (b == low) ≡ false

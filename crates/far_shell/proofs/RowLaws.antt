@@ -7,8 +7,8 @@ use Rattle.csv.specs.Writing.{default_writer, field_text, fields_text, is_blank,
 use Rattle.far_types.specs.declared.cell.Cell.{Cell}
 use Rattle.far_types.specs.Table.{Place}
 use Rattle.far_shell.specs.Listings.{cell_text, cells_at, field_in_record, row_line}
-use Rattle.far_shell.specs.Printing.{record_text}
-use Rattle.far_shell.proofs.PrintLaws.{is-some}
+use Rattle.far_script.specs.Printing.{record_text}
+use Rattle.far_script.proofs.PrintLaws.{is-some}
 
 -- the cells of a place that is there
 pub cells-there : (places : List Place) (p : ℕ) (cells : List Cell) → option_map (λ place. place.cells) (slice_get places p) ≡ Some cells → cells_at p places ≡ cells

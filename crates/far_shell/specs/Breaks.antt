@@ -5,18 +5,19 @@ use Rattle.far_types.specs.declared.cell.Kind.{Kind}
 use Rattle.far_types.specs.declared.refusal.Refusal.TheVariants as refusal
 use Rattle.far_types.specs.Bounds.{IsSchema, AreLimits}
 use Rattle.far_store.specs.declared.store.FarTickets.{Ghosts as Tickets}
-use Rattle.far_shell.specs.declared.fault.ShellFault.{ShellFault}
-use Rattle.far_shell.specs.declared.fault.ShellFault.TheVariants as fault
+use Rattle.far_script.specs.declared.fault.ShellFault.{ShellFault}
+use Rattle.far_script.specs.declared.fault.ShellFault.TheVariants as fault
 use Rattle.far_shell.specs.declared.command.Command.{Command}
 use Rattle.far_shell.specs.declared.command.Command.TheVariants as command
 use Rattle.far_frame.specs.State.{live}
 use Rattle.far_shell.specs.Commands.{command_of}
-use Rattle.far_shell.specs.Flow.{Prints}
+use Rattle.far_script.specs.Flow.{Prints}
 use Rattle.far_shell.specs.Listings.{listing_of}
-use Rattle.far_shell.specs.Openings.{Opened, opening_of}
-use Rattle.far_shell.specs.Printing.{refusal_text}
+use Rattle.far_script.specs.Openings.{Opened, opening_of}
+use Rattle.far_script.specs.Printing.{refusal_text}
 use Rattle.far_shell.specs.Progress.{At}
-use Rattle.far_shell.specs.Scripts.{Answers, Blank, IsOneLine, IsScript, Opens, without_return}
+use Rattle.far_script.specs.Lines.{Blank, IsOneLine, without_return}
+use Rattle.far_shell.specs.Scripts.{Answers, IsScript, Opens}
 
 -- a front of an answer; it may be empty
 abbrev pub IsFront : (List ℕ → Type 0) → List ℕ → Type 0

@@ -8,8 +8,8 @@ use Rattle.far_types.specs.declared.cell.Cell.TheVariants as cell
 use Rattle.far_types.specs.Table.{Table, Place, rows_of}
 use Rattle.far_table.specs.State.{State}
 use Rattle.far_frame.specs.Views.{away}
-use Rattle.far_shell.specs.Fields.{missing_mark}
-use Rattle.far_shell.specs.Printing.{numbered_text, record_text, refusal_text, texts_of}
+use Rattle.far_script.specs.Fields.{missing_mark}
+use Rattle.far_script.specs.Printing.{numbered_text, record_text, refusal_text, texts_of}
 
 -- what stands for a cell, before it is quoted
 abbrev pub cell_text : Cell → List ℕ

@@ -2,7 +2,7 @@
 use Rattle.std.specs.Prelude.{ℕ, Bool, List, [], ◌∷◌, ◌++◌, codes, decimal, if◌then◌else◌}
 use Rattle.far_frame.specs.Lending.{Piece}
 use Rattle.far_shell.specs.Listings.{row_line}
-use Rattle.far_shell.specs.Printing.{space, line_end, texts_of}
+use Rattle.far_script.specs.Printing.{space, line_end, texts_of}
 
 -- what stands for a place that is alive, and for one that is not
 abbrev pub flag_text : Bool → List ℕ

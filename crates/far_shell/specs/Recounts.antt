@@ -4,7 +4,7 @@ use Rattle.far_types.specs.declared.answer.Answer.{Answer}
 use Rattle.far_types.specs.declared.refusal.Refusal.{Refusal}
 use Rattle.far_types.specs.Table.{Table}
 use Rattle.far_table.specs.Recounting.{recount_refusal, IsAnswerNow, RecountRefusal}
-use Rattle.far_shell.specs.Printing.{answer_text, refusal_text}
+use Rattle.far_script.specs.Printing.{answer_text, refusal_text}
 
 -- no recount by 4 workers: there is no such aggregate; or the store fails, which a meter of its own counts; or memory is wanted
 abbrev pub IsNotRecounted : Table → ℕ → Refusal → Type 0

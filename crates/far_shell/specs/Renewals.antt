@@ -6,7 +6,7 @@ use Rattle.far_store.specs.Faults.{faults_of}
 use Rattle.far_frame.specs.Jobs.{IsOneOf}
 use Rattle.far_frame.specs.Renewing.{IsMigratedTo}
 use Rattle.far_frame.specs.Worlds.{World}
-use Rattle.far_shell.specs.Printing.{refusal_text}
+use Rattle.far_script.specs.Printing.{refusal_text}
 
 -- no renewal: a store fails, or the new one is full, or memory is wanted. All is as it was but for the count of faults
 abbrev pub IsNotRenewed : {K : Type 0} → World K → Refusal → World K → Type 0

@@ -15,10 +15,10 @@ use Rattle.far_frame.specs.Steps.{IsStep}
 use Rattle.far_frame.specs.Worlds.{World}
 use Rattle.far_shell.specs.declared.command.Command.{Command}
 use Rattle.far_shell.specs.declared.command.Command.TheVariants as command
-use Rattle.far_shell.specs.Fields.{cells_from}
+use Rattle.far_script.specs.Fields.{cells_from}
 use Rattle.far_shell.specs.Listings.{listing_of}
 use Rattle.far_shell.specs.Pieces.{pieces_text, next_text}
-use Rattle.far_shell.specs.Printing.{numbered_text, answer_text, refusal_text}
+use Rattle.far_script.specs.Printing.{numbered_text, answer_text, refusal_text}
 use Rattle.far_shell.specs.Recounts.{Recounts}
 use Rattle.far_shell.specs.Renewals.{Renews}
 

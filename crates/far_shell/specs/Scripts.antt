@@ -1,12 +1,12 @@
 -- What the lines of a script are answered, and a whole script.
-use Rattle.std.specs.Prelude.{◌≡◌, ◌⊎◌, ℕ, ◌+◌, Bool, false, ◌==◌, List, [], ◌∷◌, ◌++◌, Some, codes, IsUtf8}
-use Rattle.std.specs.List.{list_any, flat_map}
-use Rattle.std.specs.Io.BufRead.{strip_last}
+use Rattle.std.specs.Prelude.{◌≡◌, ◌⊎◌, ℕ, ◌+◌, List, [], ◌∷◌, ◌++◌, Some, codes, IsUtf8}
+use Rattle.std.specs.List.{flat_map}
 use Rattle.far_types.specs.Bounds.{IsSchema, AreLimits}
 use Rattle.far_store.specs.declared.store.FarTickets.{Ghosts as Tickets}
 use Rattle.far_frame.specs.State.{empty_state}
 use Rattle.far_frame.specs.Worlds.{World}
-use Rattle.far_shell.specs.Openings.{Opened, opening_of}
+use Rattle.far_script.specs.Lines.{Blank, IsOneLine, without_return}
+use Rattle.far_script.specs.Openings.{Opened, opening_of}
 use Rattle.far_shell.specs.Commands.{command_of}
 use Rattle.far_shell.specs.Progress.{At}
 use Rattle.far_shell.specs.Replies.{ServesLine}
@@ -17,28 +17,12 @@ pub record Turn : Type 0 where
   pub rows : List ℕ
   pub text : List ℕ
 
-abbrev pub is_line_feed : ℕ → Bool
-is_line_feed c = c == 10
-
--- a line without the carriage return at its end
-abbrev pub without_return : List ℕ → List ℕ
-without_return line = strip_last 13 line
-
--- no line feed is within
-abbrev pub IsOneLine : List ℕ → Type 0
-IsOneLine line = list_any is_line_feed line ≡ false
-
 -- the bytes of a turn
 abbrev pub bytes_of : Turn → List ℕ
 bytes_of turn = turn.line ++ 10 ∷ turn.rows
 
 abbrev pub text_of : Turn → List ℕ
 text_of turn = turn.text
-
--- lines without a byte
-abbrev pub Blank : List ℕ → List (List ℕ) → Type 0
-Blank bytes [] = bytes ≡ []
-Blank bytes (line ∷ lines) = (rest : List ℕ) × (without_return line ≡ []) × (bytes ≡ line ++ 10 ∷ rest) × Blank rest lines
 
 module _ {K : Type 0} where
   -- an empty table of these columns and limits, which are what a table may have. No job was begun and no fault was met yet

@@ -6,15 +6,13 @@ ghost use Rattle.csv.specs.Writing.{default_writer, fields_text};
 ghost use Rattle.far_types.specs.Table.{rows_of};
 ghost use Rattle.far_frame.specs.State.{live};
 ghost use Rattle.far_shell.specs.Breaks.{PrintsCut};
-ghost use Rattle.far_shell.specs.Flow.{Prints};
+ghost use Rattle.far_script.specs.Flow.{Prints};
 ghost use Rattle.far_shell.specs.Listings.{cell_text, dump_text, field_in_record, is_live, listing_of, row_line};
 
-use super::fault::ShellFault;
-use super::output::Output;
-use super::page::Page;
-use super::print::{numbered, refused};
 use far_frame::{Frame, View};
 use far_rows::RowRef;
+use far_script::print::{numbered, refused};
+use far_script::{Output, Page, ShellFault};
 use far_store::FarTickets;
 use far_types::{CellRef, Refusal};
 use std::io::Write;

@@ -4,12 +4,12 @@ ghost use Rattle.csv.specs.Records.{fields_of};
 ghost use Rattle.far_frame.specs.Steps.{IsStep};
 ghost use Rattle.far_shell.specs.Replies.{Loads, insert_of_record, records_of};
 
-use super::bounded::MAX_BYTES;
-use super::field::record_cells;
-use super::page::Page;
-use super::print::{numbered, refused};
 use csv::{ReaderBuilder, StringRecord};
 use far_frame::{Reply, World};
+use far_script::Page;
+use far_script::bounded::MAX_BYTES;
+use far_script::field::record_cells;
+use far_script::print::{numbered, refused};
 use far_store::FarStore;
 use far_types::{Edit, Refusal, Row};
 use std::alloc::Global;

@@ -6,11 +6,11 @@ ghost use Rattle.far_types.specs.Lent.{int_cell, lent_cell, text_cell};
 ghost use Rattle.far_frame.specs.Lending.{int_piece, text_piece};
 ghost use Rattle.far_shell.specs.Listings.{cell_text, row_line};
 ghost use Rattle.far_shell.specs.Pieces.{flag_text, next_text, piece_text, pieces_text};
-ghost use Rattle.far_shell.specs.Printing.{texts_of};
+ghost use Rattle.far_script.specs.Printing.{texts_of};
 
 use super::listing::cell;
-use super::page::Page;
 use far_frame::{IntPiece, TextPiece};
+use far_script::Page;
 use far_types::{CellRef, Refusal, Text};
 
 /// A value of a piece, which may be missing.

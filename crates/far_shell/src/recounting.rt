@@ -3,10 +3,10 @@ ghost use Rattle.std.specs.Prelude.{◌≡◌, IfErr, IfOk, OnOk};
 ghost use Rattle.far_table.specs.Recounting.{IsAnswerNow};
 ghost use Rattle.far_shell.specs.Recounts.{IsNotRecounted, Recounts};
 
-use super::page::Page;
-use super::print::{answer, refused};
 use super::resources::Resources;
 use far_frame::World;
+use far_script::Page;
+use far_script::print::{answer, refused};
 use far_store::{FarStore, Meter};
 use far_types::{Answer, Refusal};
 

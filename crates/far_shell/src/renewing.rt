@@ -3,11 +3,11 @@ ghost use Rattle.std.specs.Prelude.{◌≡◌, ◌++◌, ◌+◌, ◌≤◌, ◌
 ghost use Rattle.far_frame.specs.Renewing.{IsMigratedTo};
 ghost use Rattle.far_shell.specs.Renewals.{IsRenewed, IsNotRenewed, Renews};
 
-use super::opening::{Opening, open_table};
-use super::page::Page;
-use super::print::refused;
+use super::opening::open_table;
 use super::resources::Resources;
 use far_frame::World;
+use far_script::print::refused;
+use far_script::{Opening, Page};
 use far_store::FarStore;
 use far_types::{Kind, Limits, Refusal};
 use std::mem;

@@ -2,19 +2,17 @@
 ghost use Rattle.std.specs.Prelude.{◌≡◌, ◌⊎◌, ℕ, List, [], ◌++◌, ◌≤◌, codes, IfOk, IfErr, IfSome, OnOk};
 ghost use Rattle.std.specs.Io.KnownBytes.{Appends};
 ghost use Rattle.far_shell.specs.Breaks.{Breaks, BreaksOff, IsBroken, Rejection};
-ghost use Rattle.far_shell.specs.Flow.{Gives, IsSpent, IsWhole, Prints, Reads};
+ghost use Rattle.far_script.specs.Flow.{Gives, IsSpent, IsWhole, Prints, Reads};
 ghost use Rattle.far_shell.specs.Scripts.{Ends, IsOpenedBy, IsScript, Opens};
 
-use super::bounded::MAX_BYTES;
-use super::fault::ShellFault;
-use super::input::{Input, Line};
-use super::opening::{first_line, open_table};
-use super::output::Output;
-use super::page::Page;
-use super::print::refused;
+use super::opening::open_table;
 use super::progress::Progress;
 use super::resources::{Agents, Resources};
 use super::serve::answer_line;
+use far_script::bounded::MAX_BYTES;
+use far_script::opening::first_line;
+use far_script::print::refused;
+use far_script::{Input, Line, Output, Page, ShellFault};
 use far_store::{AgentStore, FarStore, FarTickets};
 use far_types::Refusal;
 use std::alloc::Global;

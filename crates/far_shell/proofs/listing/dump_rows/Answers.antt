@@ -1,11 +1,11 @@
 use Rattle.std.proofs.Common.{take, ◌++◌, inr, ◌+◌, ◌∙◌, sym, ap, codes, length}
 use Rattle.far_types.specs.Table.{rows_of}
-use Rattle.far_shell.specs.Printing.{numbered_text, texts_of}
+use Rattle.far_script.specs.Printing.{numbered_text, texts_of}
 use Rattle.far_shell.specs.Listings.{row_line}
 use Rattle.far_shell.proofs.DumpLaws.{dump-rest, dump-row, dump-skip}
 use Rattle.far_shell.proofs.RowLaws.{cells-there}
-use Rattle.far_shell.specs.declared.fault.ShellFault.TheVariants as fault
-use Rattle.far_shell.proofs.BreakLaws.{handed-on}
+use Rattle.far_script.specs.declared.fault.ShellFault.TheVariants as fault
+use Rattle.far_script.proofs.StopLaws.{handed-on}
 use Rattle.far_shell.proofs.listing.dump_rows.Goals.{then-is_live+in_ok-cells+in_ok-print_row+in_ok-add-2+in_ok-flush_if_full, else-is_live}
 use Rattle.far_shell.proofs.listing.dump_rows.Goals as goal
 

@@ -1,6 +1,6 @@
 use Rattle.std.proofs.Common.{◌≡◌, ◌++◌, drop}
 use Rattle.far_shell.specs.Pieces.{flag_text}
-use Rattle.far_shell.specs.Printing.{texts_of}
+use Rattle.far_script.specs.Printing.{texts_of}
 use Rattle.far_shell.proofs.pieces.marks.Given as goal
 
 abbrev pub invariant-loop-alive : goal.invariant-loop-alive

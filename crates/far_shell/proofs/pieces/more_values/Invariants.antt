@@ -1,5 +1,5 @@
 use Rattle.std.proofs.Common.{◌≡◌, ◌++◌, drop}
-use Rattle.far_shell.specs.Printing.{texts_of}
+use Rattle.far_script.specs.Printing.{texts_of}
 use Rattle.far_shell.proofs.PieceLaws.{next_field}
 use Rattle.far_shell.proofs.pieces.more_values.Given as goal
 

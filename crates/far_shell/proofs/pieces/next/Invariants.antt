@@ -1,6 +1,6 @@
 use Rattle.std.proofs.Common.{◌≡◌, ◌++◌, codes, drop}
 use Rattle.far_shell.specs.Pieces.{group_text}
-use Rattle.far_shell.specs.Printing.{texts_of}
+use Rattle.far_script.specs.Printing.{texts_of}
 use Rattle.far_shell.proofs.pieces.next.Given as goal
 
 abbrev pub invariant-loop-group : goal.invariant-loop-group

@@ -1,7 +1,9 @@
 use Rattle.std.proofs.Common.{[], ◌++◌, ◌∷◌, ◌∙◌, refl, sym, arith}
-use Rattle.far_shell.specs.declared.fault.ShellFault.TheVariants as fault
-use Rattle.far_shell.proofs.BreakLaws.{breaks-first, handed-on, no-line, no-text-last, no-text-line, rejects-last, rejects-line, rejects-none}
-use Rattle.far_shell.proofs.FlowLaws.{few-bytes, turn-more, reads-none, reads-then, prints-none, prints-nothing-then, blank-more, range-empty, opens-line, opens-last}
+use Rattle.far_script.specs.declared.fault.ShellFault.TheVariants as fault
+use Rattle.far_script.proofs.StopLaws.{handed-on}
+use Rattle.far_shell.proofs.BreakLaws.{breaks-first, no-line, no-text-last, no-text-line, rejects-last, rejects-line, rejects-none}
+use Rattle.far_script.proofs.FlowLaws.{few-bytes, reads-none, reads-then, prints-none, prints-nothing-then, range-empty}
+use Rattle.far_shell.proofs.ScriptLaws.{turn-more, blank-more, opens-line, opens-last}
 use Rattle.far_shell.proofs.script.open.Goals as goal
 
 pub loop-turn-init : goal.loop-turn-init

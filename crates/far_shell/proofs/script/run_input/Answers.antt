@@ -1,8 +1,8 @@
 use Rattle.std.proofs.Common.{[], inl, refl}
 use Rattle.std.proofs.KnownBytes.{Appends-nil}
-use Rattle.far_shell.specs.declared.fault.ShellFault.TheVariants as fault
-use Rattle.far_shell.proofs.BreakLaws.{coming, handed-on, starts}
-use Rattle.far_shell.proofs.FlowLaws.{reads-none}
+use Rattle.far_script.specs.declared.fault.ShellFault.TheVariants as fault
+use Rattle.far_script.proofs.StopLaws.{coming, handed-on, starts}
+use Rattle.far_script.proofs.FlowLaws.{reads-none}
 use Rattle.far_shell.proofs.script.run_input.Goals as goal
 
 pub returns-in_err-store-clause-err : goal.returns-in_err-store-clause-err

@@ -1,8 +1,9 @@
 use Rattle.std.proofs.Common.{[], subst}
-use Rattle.far_shell.specs.Flow.{Gives, Prints}
-use Rattle.far_shell.specs.declared.fault.ShellFault.TheVariants as fault
-use Rattle.far_shell.proofs.BreakLaws.{breaks-unwritten, breaks-written, coming, handed-on, starts, whole-unwritten}
-use Rattle.far_shell.proofs.FlowLaws.{all-written}
+use Rattle.far_script.specs.Flow.{Gives, Prints}
+use Rattle.far_script.specs.declared.fault.ShellFault.TheVariants as fault
+use Rattle.far_script.proofs.StopLaws.{coming, handed-on, starts}
+use Rattle.far_shell.proofs.BreakLaws.{breaks-unwritten, breaks-written, whole-unwritten}
+use Rattle.far_script.proofs.FlowLaws.{all-written}
 use Rattle.far_shell.proofs.script.run_over.Goals as goal
 
 pub returns-in-Ok-clause-ok : goal.returns-in-Ok-clause-ok

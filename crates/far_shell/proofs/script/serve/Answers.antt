@@ -1,7 +1,8 @@
 use Rattle.std.proofs.Common.{arith}
-use Rattle.far_shell.specs.Flow.{IsSpent}
-use Rattle.far_shell.proofs.BreakLaws.{breaks-later, handed-on}
-use Rattle.far_shell.proofs.FlowLaws.{first-number, script-whole}
+use Rattle.far_script.specs.Flow.{IsSpent}
+use Rattle.far_script.proofs.StopLaws.{handed-on}
+use Rattle.far_shell.proofs.BreakLaws.{breaks-later}
+use Rattle.far_shell.proofs.ScriptLaws.{first-number, script-whole}
 use Rattle.far_shell.proofs.script.serve.Goals as goal
 
 pub serve_lines-requires-clause-first : goal.serve_lines-requires-clause-first

@@ -1,7 +1,9 @@
 use Rattle.std.proofs.Common.{[], refl, arith}
-use Rattle.far_shell.specs.declared.fault.ShellFault.TheVariants as fault
-use Rattle.far_shell.proofs.BreakLaws.{breaks-between, breaks-last, breaks-line, handed-on}
-use Rattle.far_shell.proofs.FlowLaws.{reads-none, prints-none, prints-then-nothing, answers-none, goes-on, comes-to-end, few-bytes, next-number}
+use Rattle.far_script.specs.declared.fault.ShellFault.TheVariants as fault
+use Rattle.far_script.proofs.StopLaws.{handed-on}
+use Rattle.far_shell.proofs.BreakLaws.{breaks-between, breaks-last, breaks-line}
+use Rattle.far_script.proofs.FlowLaws.{reads-none, prints-none, prints-then-nothing, few-bytes}
+use Rattle.far_shell.proofs.ScriptLaws.{answers-none, goes-on, comes-to-end, next-number}
 use Rattle.far_shell.proofs.script.serve_lines.Goals as goal
 
 pub loop-turn-init : goal.loop-turn-init

@@ -1,5 +1,5 @@
 use Rattle.std.proofs.Common.{ℕ, List, length, ◌≤◌, ◌+◌}
-use Rattle.far_shell.specs.Flow.{Reads, Prints}
+use Rattle.far_script.specs.Flow.{Reads, Prints}
 use Rattle.far_shell.specs.Scripts.{Answers}
 use Rattle.far_shell.proofs.script.serve_lines.Given as goal
 

@@ -1,10 +1,12 @@
 use Rattle.std.proofs.Common.{[], refl, subst, arith, ◌<◌, ◌+◌}
-use Rattle.far_shell.specs.Flow.{spanned}
+use Rattle.far_script.specs.Flow.{spanned}
 use Rattle.far_shell.specs.Scripts.{AnswersLine}
 use Rattle.far_shell.specs.Progress.{At}
 use Rattle.far_shell.specs.Breaks.{Fails, Lists}
-use Rattle.far_shell.proofs.BreakLaws.{cut-more, handed-on, if-input, stops-more}
-use Rattle.far_shell.proofs.FlowLaws.{reads-none, prints-none, answers-empty, answers-command, range-empty, range-some}
+use Rattle.far_script.proofs.StopLaws.{handed-on, if-input, stops-more}
+use Rattle.far_shell.proofs.BreakLaws.{cut-more}
+use Rattle.far_script.proofs.FlowLaws.{reads-none, prints-none, range-empty, range-some}
+use Rattle.far_shell.proofs.ScriptLaws.{answers-empty, answers-command}
 use Rattle.far_shell.proofs.serve.answer_line.Goals as goal
 
 pub returns-then-is_empty-clause-ok : goal.returns-then-is_empty-clause-ok

@@ -1,0 +1,25 @@
+use Rattle.std.proofs.Common.{◌≡◌, ℕ, ◌+◌, ◌∙◌, arith, slice_range}
+use Rattle.far_script.proofs.FlowLaws.{reads-line, range-front, range-within}
+use Rattle.far_script.proofs.input.Input.line.Goals as goal
+
+next-same : (n m : ℕ) → n ≡ m → m + 1 ≡ n + 1
+next-same n m e = omega (arith, e)
+
+pub returns-clause-line : goal.returns-clause-line
+returns-clause-line g c =
+    let s = rw c.in-Some.is at c.in_ok-found.ensures.end in
+    let e = c.take-line.ensures in
+    let from = c.take-line.result.from in
+    let to = c.take-line.result.to in
+    let held = c.take-line.new.self.held in
+    let n = c.line_len-whole.result in
+    let within = range-within held from to n (rw c.as_slice.ensures at c.line_len-whole.ensures.within) in (
+      (grind arith, grind (arith, within, s.1, e.to, e.held, e.from, s.0)),
+      (
+        slice_range held from to,
+        rw (e.held, e.from, e.to) s.3,
+        range-front held from to n within ∙ (rw c.as_slice.ensures at c.line_len-whole.ensures.line),
+        reads-line g.R.Read c.args.self.now c.seek_line.new.self c.take-line.new.self from to c.in_ok-found.ensures.read e.source e.held (e.start ∙ next-same to _ e.to) e.from
+            (grind (arith, e.from, e.to, s.0)) (grind (arith, e.to, s.1)) (rw e.to s.2),
+      ),
+    )

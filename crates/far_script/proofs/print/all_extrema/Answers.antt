@@ -1,0 +1,7 @@
+use Rattle.far_script.specs.Printing.{extrema_text}
+use Rattle.far_script.proofs.PrintLaws.{texts-go-on}
+use Rattle.far_script.proofs.print.all_extrema.Goals as goal
+
+pub loop-line-preserved : goal.loop-line-preserved
+loop-line-preserved c = texts-go-on extrema_text c.args.lines.now c.loop-line.line-index c.line-item.result _ _ _
+    (rw c.as_slice-line-items.ensures at c.loop-line-test.true) (rw c.as_slice-line-items.ensures at c.line-item.is) c.in_ok-extrema.ensures.ok c.loop-line.invariant

@@ -1,0 +1,75 @@
+-- What goes through a reader and a writer, and what is held on the way.
+use Rattle.std.specs.Prelude.{◌≡◌, ℕ, ◌+◌, ◌==◌, List, [], ◌∷◌, ◌++◌, length, Option, true, false, slice_range, drop, ◌≤◌, IfSome}
+use Rattle.std.specs.List.{list_any}
+use Rattle.std.specs.Io.BufRead.{strip_last}
+use Rattle.std.specs.Io.KnownBytes.{Appends, Consumes}
+use Rattle.std.specs.declared.io.traits.Read.{Ghosts}
+use Rattle.far_script.specs.declared.fault.ShellFault.{ShellFault}
+use Rattle.far_script.specs.declared.input.Input.{Input}
+use Rattle.far_script.specs.declared.input.Span.{Span}
+use Rattle.far_script.specs.declared.input.Line.{Line}
+use Rattle.far_script.specs.declared.input.Line.TheVariants as line
+use Rattle.far_script.specs.Faults.{IfInput}
+
+-- a text was printed: what was held before it and the text went to the writer, or are held still
+abbrev pub Prints : Option (List ℕ) → List ℕ → List ℕ → Option (List ℕ) → List ℕ → Type 0
+Prints old held text new left = (sent : List ℕ) × Appends old new sent × (held ++ text ≡ sent ++ left)
+
+-- all bytes of a script, where they are known, and within the bound
+abbrev pub IsWhole : Option (List ℕ) → List ℕ → Type 0
+IsWhole known script = IfSome known (λ bytes. script ≡ bytes) × (length script ≤ 16777216)
+
+module _ {R : Type 0} (read : Ghosts R) where
+  -- what was read and not taken yet
+  abbrev pub unread : Input R read → List ℕ
+  unread input = drop input.start input.held
+
+  -- a span lies within what is held of a script
+  abbrev pub Holds : Input R read → Span → Type 0
+  Holds input span = (span.from ≤ span.to) × (span.to ≤ length input.held)
+
+  -- the bytes of a span
+  abbrev pub spanned : Input R read → Span → List ℕ
+  spanned input span = slice_range input.held span.from span.to
+
+  -- bytes of a script were taken: what was held before and what came from the reader were taken, or are held still. What
+  -- came counts, and nothing comes after the end
+  pub record Reads (old : Input R read) (bytes : List ℕ) (new : Input R read) : Type 0 where
+    pub came : List ℕ
+    pub consumed : Consumes (read.remaining old.source.reader) (read.remaining new.source.reader) came
+    pub taken : unread old ++ came ≡ bytes ++ unread new
+    pub counted : new.source.bytes + length came ≡ old.source.bytes
+    pub none : old.source.ended ≡ true → came ≡ []
+    pub ended : old.source.ended ≡ true → new.source.ended ≡ true
+
+  -- a line was taken without its end: with the line feed behind it, or the last one, which has none
+  abbrev pub TakesLine : Input R read → Line → Input R read → Type 0
+  TakesLine old (line.Whole span) new =
+      (raw : List ℕ) × (list_any (λ c. c == 10) raw ≡ false) × (spanned new span ≡ strip_last 13 raw) × Reads old (raw ++ 10 ∷ []) new
+  TakesLine old (line.Last span) new =
+      (list_any (λ c. c == 10) (spanned new span) ≡ false) × (unread new ≡ []) × (new.source.ended ≡ true) × Reads old (spanned new span) new
+
+  abbrev pub span_of : Line → Span
+  span_of (line.Whole span) = span
+  span_of (line.Last span) = span
+
+  -- nothing comes any more
+  abbrev pub IsSpent : Input R read → Type 0
+  IsSpent input = (unread input ≡ []) × (input.source.ended ≡ true)
+
+  -- what is left of a script, where it is known, is these bytes and the rest behind them
+  abbrev pub StartsWith : Input R read → List ℕ → List ℕ → Type 0
+  StartsWith input bytes rest = IfSome (read.remaining input.source.reader) (λ coming. unread input ++ coming ≡ bytes ++ rest)
+      × (IsSpent input → bytes ++ rest ≡ [])
+
+  -- bytes are at hand, those that were held and those that came since, and they were counted
+  abbrev pub Counts : Input R read → List ℕ → Input R read → Type 0
+  Counts old bytes new = new.source.bytes + length bytes ≡ old.source.bytes + length (unread old)
+
+  -- what is left of a script is these bytes and the rest. Where the input is at fault, the bytes are all that came
+  abbrev pub Gives : ShellFault → Input R read → Input R read → List ℕ → List ℕ → Type 0
+  Gives why old new bytes rest = StartsWith old bytes rest × IfInput why (Counts old bytes new)
+
+  -- the input is at fault, and this is said of all bytes that came
+  abbrev pub Stops : (List ℕ → Type 0) → Input R read → Input R read → Type 0
+  Stops said old new = (bytes : List ℕ) × (rest : List ℕ) × StartsWith old bytes rest × Counts old bytes new × said bytes

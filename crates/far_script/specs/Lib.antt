@@ -1,0 +1,11 @@
+pub mod Fields
+pub mod Numbers
+pub mod OneRecord
+pub mod Words
+pub mod Verbs
+pub mod Watches
+pub mod Openings
+pub mod Printing
+pub mod Faults
+pub mod Lines
+pub mod Flow

@@ -1,0 +1,55 @@
+-- The line that opens a table.
+use Rattle.std.specs.Prelude.{ℕ, max, List, [], ◌∷◌, Option, None, Some, option_map, option_and_then, is_none, codes, if◌then◌else◌}
+use Rattle.std.specs.List.{slice_split}
+use Rattle.far_types.specs.declared.cell.Kind.{Kind}
+use Rattle.far_types.specs.declared.cell.Kind.TheVariants as kind
+use Rattle.far_types.specs.declared.limits.Limits.{Limits}
+use Rattle.far_script.specs.OneRecord.{is_comma}
+use Rattle.far_script.specs.Words.{word_of, rest_of, word_in, after, number_in, long_number_in, last_number_in, reads}
+
+abbrev pub kind_named : List ℕ → Option Kind
+kind_named word =
+    if reads word (codes "int") then Some kind.Int
+    else if reads word (codes "text") then Some kind.Text
+    else None
+
+-- kinds between commas
+abbrev pub kinds_named : List (List ℕ) → Option (List Kind)
+kinds_named [] = Some []
+kinds_named (name ∷ names) = option_and_then (λ kind. option_map (λ kinds. kind ∷ kinds) (kinds_named names)) (kind_named name)
+
+abbrev pub kinds_of : List ℕ → Option (List Kind)
+kinds_of word = kinds_named (slice_split is_comma word)
+
+-- the limits of a line that names none
+abbrev pub usual_limits : ℕ → Limits
+usual_limits g = record { group = g; places = 16777216; edits = 1099511627776; int_segments = 64; int_size = max g 4096; text_segments = 64; text_size = 65536 }
+
+-- PLACES EDITS INT_SEGMENTS INT_SIZE TEXT_SEGMENTS TEXT_SIZE
+abbrev pub given_limits : ℕ → Option (List ℕ) → Option Limits
+given_limits g left =
+    option_and_then (λ p. option_and_then (λ e. option_and_then (λ s. option_and_then (λ i. option_and_then (λ t.
+    option_map (λ z. record { group = g; places = p; edits = e; int_segments = s; int_size = i; text_segments = t; text_size = z })
+    (last_number_in (after (after (after (after (after left)))))))
+    (number_in (after (after (after (after left))))))
+    (number_in (after (after (after left)))))
+    (number_in (after (after left))))
+    (long_number_in (after left)))
+    (number_in left)
+
+abbrev pub limits_of : ℕ → Option (List ℕ) → Option Limits
+limits_of g left = if is_none left then Some (usual_limits g) else given_limits g left
+
+-- the columns and the limits of the table
+abbrev pub Opened : Type 0
+Opened = List Kind × Limits
+
+-- GROUP KINDS, and the limits or nothing
+abbrev pub opening_in : Option (List ℕ) → Option Opened
+opening_in left =
+    option_and_then (λ group. option_and_then (λ kinds. option_map (λ limits. (kinds, limits)) (limits_of group (after (after left))))
+    (option_and_then kinds_of (word_in (after left)))) (number_in left)
+
+-- what a line opens
+abbrev pub opening_of : List ℕ → Option Opened
+opening_of line = if reads (word_of line) (codes "schema") then opening_in (rest_of line) else None

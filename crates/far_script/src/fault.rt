@@ -1,0 +1,64 @@
+// What ends a script early.
+ghost use Rattle.std.specs.Prelude.{◌≡◌};
+
+use far_types::Refusal;
+use std::alloc::{AllocError, AllocFailed};
+
+/// What ends a script before its end. What was answered before stands.
+#[derive(Drop, Debug, Clone, Copy, PartialEq, Eq)]
+pub enum ShellFault {
+    /// The first command opens no table.
+    BadStart,
+    /// A read failed, the script is too long or no UTF-8, or a load ends before its bytes.
+    Input,
+    /// A write failed.
+    Output,
+    /// The shell itself was refused memory.
+    Memory,
+}
+
+impl From<AllocError> for ShellFault {
+    ghost use Rattle.far_script.specs.declared.fault.ShellFault.TheVariants.{Memory};
+
+    ghost from_gives = { λ _ fault. fault ≡ Memory };
+
+    fn from(_e: AllocError) -> ShellFault {
+        ShellFault::Memory
+    }
+}
+
+impl<T: Drop> From<AllocFailed<T>> for ShellFault {
+    ghost use Rattle.far_script.specs.declared.fault.ShellFault.TheVariants.{Memory};
+
+    ghost from_gives = { λ _ fault. fault ≡ Memory };
+
+    fn from(_e: AllocFailed<T>) -> ShellFault {
+        ShellFault::Memory
+    }
+}
+
+/// A growth of the shell's own that was refused.
+impl From<Refusal> for ShellFault {
+    ghost use Rattle.far_script.specs.declared.fault.ShellFault.TheVariants.{Memory};
+
+    ghost from_gives = { λ _ fault. fault ≡ Memory };
+
+    fn from(_e: Refusal) -> ShellFault {
+        ShellFault::Memory
+    }
+}
+
+impl ShellFault {
+    ghost use Rattle.far_script.specs.Faults.{status_of};
+
+    /// The exit status of a program that ends by the fault.
+    pub fn status(self) -> u8
+        ensures { result ≡ status_of self }
+    {
+        match self {
+            ShellFault::BadStart => 2,
+            ShellFault::Input | ShellFault::Output => 3,
+            ShellFault::Memory => 4,
+        }
+    }
+}

@@ -1,0 +1,47 @@
+// What is read of a script and not answered yet.
+ghost use Rattle.std.specs.Prelude.{◌≡◌, ◌==◌, ◌≤◌, ◌+◌, false, length, take, drop};
+ghost use Rattle.std.specs.List.{list_any};
+
+mod filling;
+mod taking;
+
+use super::bounded::Bounded;
+use super::page::Page;
+use std::io::Read;
+
+/// Where a line or a load stands in what was read.
+#[derive(Clone, Copy, Debug, Drop)]
+pub struct Span {
+    /// Where it begins.
+    pub from: usize,
+    /// The place behind its last byte.
+    pub to: usize,
+}
+
+/// A line of a script, without its end.
+#[derive(Clone, Copy, Debug, Drop)]
+pub enum Line {
+    /// One with its end.
+    Whole(Span),
+    /// What stands behind the last end of a line. It may be empty.
+    Last(Span),
+}
+
+/// A script that is read as it is answered: at most one line or one load of it is held, and what came with it. It is read
+/// in at most 1,048,576 reads and has at most 16,777,216 bytes.
+#[derive(Drop)]
+pub struct Input<R: Read + Drop> {
+    /// The reader, and how much of it is left.
+    pub source: Bounded<R>,
+    /// Where a read puts its bytes.
+    chunk: Vec<u8>,
+    /// What was read and may not have been taken yet.
+    pub held: Page,
+    /// Where the next line begins.
+    pub start: usize,
+    /// How many bytes from there on are known to have no end of a line.
+    plain: usize,
+    ghost known: { start + plain ≤ length held },
+    ghost most: { length held + source.bytes ≤ 16777216 + start },
+    ghost within: { list_any (λ c. c == 10) (take plain (drop start held)) ≡ false },
+}

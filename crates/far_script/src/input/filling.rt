@@ -1,0 +1,113 @@
+// Bytes of a script, as they come.
+ghost use Rattle.std.specs.Prelude.{◌≡◌, ◌≢◌, ◌==◌, ◌≤◌, ◌<◌, ◌+◌, [], false, true, slice_index, slice_range, take, length, IfNone, IfErr, IfOk, IfSome, OnOk};
+ghost use Rattle.std.specs.List.{list_any};
+ghost use Rattle.far_script.specs.Faults.{IfInput};
+ghost use Rattle.far_script.specs.Flow.{Reads, unread};
+
+use super::Input;
+use crate::bounded::Bounded;
+use crate::fault::ShellFault;
+use crate::page::Page;
+use std::alloc::Global;
+use std::io::Read;
+
+/// How many bytes are read at a time, at least.
+const CHUNK: usize = 65_536;
+
+impl<R: Read + Drop> Input<R> {
+    /// A script of which nothing was read yet. Where memory is refused, the fault is `Memory`.
+    pub fn new(alloc: Global, reader: R) -> Result<Input<R>, ShellFault>
+        ensures reader { IfOk result (λ input. input.source.reader ≡ reader) }
+        ensures bytes { IfOk result (λ input. input.source.bytes ≡ 16777216) }
+        ensures reads { IfOk result (λ input. input.source.reads ≡ 1048576) }
+        ensures unread { IfOk result (λ input. unread R.Read input ≡ []) }
+        ensures fault { IfErr result (λ fault. fault ≡ ShellFault.Memory) }
+    {
+        let mut chunk = Vec::new(alloc);
+        chunk.resize(CHUNK, 0)?;
+        Ok(Input {
+            source: Bounded::new(reader),
+            chunk,
+            held: Page::new(alloc),
+            start: 0,
+            plain: 0,
+        })
+    }
+
+    /// How many reads are left.
+    pub fn reads_left(&self) -> u32
+        ensures { result ≡ self.now.source.reads }
+    {
+        self.source.reads
+    }
+
+    /// How many bytes are left.
+    pub fn bytes_left(&self) -> u32
+        ensures { result ≡ self.now.source.bytes }
+    {
+        self.source.bytes
+    }
+
+    /// Forgets what was taken.
+    fn forget(&mut self)
+        ensures source { self.new.source ≡ self.old.source }
+        ensures unread { unread R.Read self.new ≡ unread R.Read self.old }
+        ensures chunk { self.new.chunk ≡ self.old.chunk }
+    {
+        self.held.forget(self.start);
+        self.start = 0;
+    }
+
+    /// Reads once, and says whether bytes came. They stop at the end of the script alone. Nothing waits to be written
+    /// then.
+    pub fn fill(&mut self, gathered: &Page) -> Result<bool, ShellFault>
+        requires flushed { gathered.now ≡ [] }
+        ensures read { OnOk result (Reads R.Read self.old [] self.new) }
+        ensures fault { IfErr result (λ fault. fault ≢ ShellFault.BadStart) }
+        ensures stopped { IfErr result (λ fault. IfInput fault ((self.new.source.bytes ≡ self.old.source.bytes) × (unread R.Read self.new ≡ unread R.Read self.old))) }
+        ensures asked { self.new.source.reads ≤ self.old.source.reads }
+        ensures ended { IfOk result (λ more. more ≡ false → (self.new.source.ended ≡ true) × (unread R.Read self.new ≡ unread R.Read self.old)) }
+    {
+        self.forget();
+        if self.chunk.is_empty() {
+            return Err(ShellFault::Memory);
+        }
+        let count = self.source.read(self.chunk.as_mut_slice())?;
+        self.held.bytes(&self.chunk[..count])?;
+        Ok(count > 0)
+    }
+
+    /// Where the first line ends that is whole in the buffer.
+    pub fn line_end(&mut self) -> Option<usize>
+        ensures end { IfSome result (λ end. (self.new.start ≤ end) × (end < length self.new.held) × (slice_index self.new.held end ≡ 10) × (list_any (λ c. c == 10) (slice_range self.new.held self.new.start end) ≡ false)) }
+        ensures none { IfNone result (list_any (λ c. c == 10) (unread R.Read self.new) ≡ false) }
+        ensures source { self.new.source ≡ self.old.source }
+        ensures held { self.new.held ≡ self.old.held }
+        ensures start { self.new.start ≡ self.old.start }
+    {
+        match line_feed(&self.held.as_slice()[self.start..], self.plain) {
+            Some(at) => {
+                self.plain = at;
+                Some(self.start + at)
+            }
+            None => {
+                self.plain = self.held.len() - self.start;
+                None
+            }
+        }
+    }
+}
+
+/// The place of the first line feed, where there is none before `from`.
+fn line_feed(bytes: &[u8], from: usize) -> Option<usize>
+    requires { list_any (λ c. c == 10) (take from bytes.now) ≡ false }
+    ensures some { IfSome result (λ at. (at < length bytes.now) × (slice_index bytes.now at ≡ 10) × (list_any (λ c. c == 10) (take at bytes.now) ≡ false)) }
+    ensures none { IfNone result (list_any (λ c. c == 10) bytes.now ≡ false) }
+{
+    for at in from..bytes.len() {
+        if bytes[at] == b'\n' {
+            return Some(at);
+        }
+    }
+    None
+}

@@ -1,0 +1,149 @@
+// Lines and loads of a script.
+ghost use Rattle.std.specs.Prelude.{◌↔◌, ◌≡◌, ◌≢◌, ◌==◌, ◌≤◌, ◌<◌, ◌+◌, [], false, true, length, slice_index, slice_range, take, IsTrue, IsUtf8, IfNone, IfErr, IfOk, IfSome, OnOk};
+ghost use Rattle.std.specs.Io.BufRead.{strip_last};
+ghost use Rattle.std.specs.List.{list_any};
+ghost use Rattle.far_script.specs.Faults.{IfInput};
+ghost use Rattle.far_script.specs.Flow.{Holds, Prints, Reads, Stops, TakesLine, span_of, spanned, unread};
+ghost use Rattle.far_script.specs.Lines.{IsOneLine};
+
+use super::{Input, Line, Span};
+use crate::bounded::MAX_READS;
+use crate::fault::ShellFault;
+use crate::output::Output;
+use std::io::{Read, Write};
+use std::str;
+
+impl Span {
+    /// Whether there is no byte.
+    pub fn is_empty(self) -> bool
+        ensures { IsTrue result ↔ (self.to ≤ self.from) }
+    {
+        self.to <= self.from
+    }
+}
+
+/// How long a line is without the carriage return at its end.
+fn line_len(line: &[u8]) -> usize
+    ensures within { result ≤ length line.now }
+    ensures line { take result line.now ≡ strip_last 13 line.now }
+{
+    let len = line.len();
+    if len > 0 && line[len - 1] == b'\r' {
+        len - 1
+    } else {
+        len
+    }
+}
+
+impl<R: Read + Drop> Input<R> {
+    /// Reads until a whole line is at hand, and says where it ends; `None` at the end of the script. Replies are written
+    /// before the reader is asked.
+    fn seek_line<W: Write>(
+        &mut self,
+        output: &mut Output,
+        writer: &mut W,
+    ) -> Result<Option<usize>, ShellFault>
+        ensures read { OnOk result (Reads R.Read self.old [] self.new) }
+        ensures fault { IfErr result (λ fault. fault ≢ ShellFault.BadStart) }
+        ensures stopped { IfErr result (λ fault. IfInput fault (Stops R.Read IsOneLine self.old self.new)) }
+        ensures asked { self.new.source.reads ≤ self.old.source.reads }
+        ensures printed { Prints (W.contents writer.old) output.old.page [] (W.contents writer.new) output.new.page }
+        ensures end { IfOk result (λ found. IfSome found (λ end. (self.new.start ≤ end) × (end < length self.new.held) × (slice_index self.new.held end ≡ 10) × (list_any (λ c. c == 10) (slice_range self.new.held self.new.start end) ≡ false))) }
+        ensures ended { IfOk result (λ found. IfNone found ((self.new.source.ended ≡ true) × (list_any (λ c. c == 10) (unread R.Read self.new) ≡ false))) }
+    {
+        for _ in 0..=MAX_READS {
+            if let Some(end) = self.line_end() {
+                return Ok(Some(end));
+            }
+            output.flush(writer)?;
+            if !self.fill(&output.page)? {
+                return Ok(None);
+            }
+        }
+        match self.line_end() {
+            Some(end) => Ok(Some(end)),
+            None => Err(ShellFault::Input),
+        }
+    }
+
+    /// Takes what stands up to a place.
+    fn take(&mut self, end: usize, next: usize) -> Span
+        requires { (self.old.start ≤ end) × (end ≤ next) × (next ≤ length self.old.held) }
+        ensures from { result.from ≡ self.old.start }
+        ensures to { result.to ≡ end }
+        ensures held { self.new.held ≡ self.old.held }
+        ensures source { self.new.source ≡ self.old.source }
+        ensures start { self.new.start ≡ next }
+    {
+        let from = self.start;
+        self.start = next;
+        self.plain = 0;
+        Span { from, to: end }
+    }
+
+    /// Takes the next line, whose end is a line feed and a carriage return directly before it, if there is one.
+    pub fn line<W: Write>(
+        &mut self,
+        output: &mut Output,
+        writer: &mut W,
+    ) -> Result<Line, ShellFault>
+        ensures line { IfOk result (λ line. Holds R.Read self.new (span_of R.Read line) × TakesLine R.Read self.old line self.new) }
+        ensures fault { IfErr result (λ fault. fault ≢ ShellFault.BadStart) }
+        ensures stopped { IfErr result (λ fault. IfInput fault (Stops R.Read IsOneLine self.old self.new)) }
+        ensures asked { self.new.source.reads ≤ self.old.source.reads }
+        ensures printed { Prints (W.contents writer.old) output.old.page [] (W.contents writer.new) output.new.page }
+    {
+        let found = self.seek_line(output, writer)?;
+        let len = self.held.len();
+        let Some(end) = found else {
+            return Ok(Line::Last(self.take(len, len)));
+        };
+        let line = self.take(end, end + 1);
+        let whole = line_len(&self.held.as_slice()[line.from..line.to]);
+        Ok(Line::Whole(Span {
+            from: line.from,
+            to: line.from + whole,
+        }))
+    }
+
+    /// Takes the next bytes, as many as asked. Where the script ends before them, the fault is `Input`.
+    pub fn bytes<W: Write>(
+        &mut self,
+        output: &mut Output,
+        writer: &mut W,
+        count: usize,
+    ) -> Result<Span, ShellFault>
+        ensures span { IfOk result (λ span. Holds R.Read self.new span × (length (spanned R.Read self.new span) ≡ count) × Reads R.Read self.old (spanned R.Read self.new span) self.new) }
+        ensures fault { IfErr result (λ fault. fault ≢ ShellFault.BadStart) }
+        ensures stopped { IfErr result (λ fault. IfInput fault (Stops R.Read (λ bytes. length bytes < count) self.old self.new)) }
+        ensures asked { self.new.source.reads ≤ self.old.source.reads }
+        ensures printed { Prints (W.contents writer.old) output.old.page [] (W.contents writer.new) output.new.page }
+    {
+        for _ in 0..=MAX_READS {
+            if self.held.len() - self.start >= count {
+                break;
+            }
+            output.flush(writer)?;
+            if !self.fill(&output.page)? {
+                return Err(ShellFault::Input);
+            }
+        }
+        if self.held.len() - self.start < count {
+            return Err(ShellFault::Input);
+        }
+        let end = self.start + count;
+        Ok(self.take(end, end))
+    }
+
+    /// The text of a line or of a load that was just taken. Where it is no UTF-8, the fault is `Input`.
+    pub fn text(&self, span: Span) -> Result<&str, ShellFault>
+        requires { Holds R.Read self.now span }
+        ensures ok { IfOk result (λ text. (text.now ≡ spanned R.Read self.now span) × IsUtf8 text.now) }
+        ensures fault { IfErr result (λ fault. (fault ≡ ShellFault.Input) × ¬ (IsUtf8 (spanned R.Read self.now span))) }
+    {
+        match str::from_utf8(&self.held.as_slice()[span.from..span.to]) {
+            Ok(text) => Ok(text),
+            Err(_) => Err(ShellFault::Input),
+        }
+    }
+}

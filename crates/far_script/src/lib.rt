@@ -1,0 +1,24 @@
+#![tactic(auto)]
+//! The script language as text, without a table: a script is read line by line, words, numbers and fields are read as what
+//! they name, and answers are printed.
+
+pub mod bounded;
+mod fault;
+pub mod field;
+mod input;
+mod number;
+pub mod opening;
+mod output;
+mod page;
+pub mod print;
+mod record;
+pub mod verb;
+pub mod watch;
+mod words;
+
+pub use fault::ShellFault;
+pub use input::{Input, Line, Span};
+pub use opening::Opening;
+pub use output::Output;
+pub use page::Page;
+pub use words::Words;

@@ -1,0 +1,104 @@
+// Replies on their way out.
+ghost use Rattle.std.specs.Prelude.{◌≡◌, ◌≤◌, [], ◌++◌, length, take, true, OnOk, OnErr, IfErr};
+ghost use Rattle.std.specs.Io.KnownBytes.{Appends, Keeps};
+ghost use Rattle.far_script.specs.Flow.{Prints};
+
+use super::fault::ShellFault;
+use super::page::Page;
+use far_types::Refusal;
+use std::alloc::Global;
+use std::io::{ErrorKind, Write};
+
+/// How many bytes are gathered before they are written.
+const FULL: usize = 65_536;
+
+/// The replies that were printed and not written yet.
+#[derive(Drop)]
+pub struct Output {
+    /// The replies that were not written yet.
+    pub page: Page,
+    /// The reply at hand, which is added when it is whole.
+    pub reply: Page,
+    /// Whether a write failed. Nothing is written after it.
+    pub failed: bool,
+}
+
+/// Writes bytes until they are all taken or a write fails, and says how many were taken.
+fn write_out<W: Write>(writer: &mut W, bytes: &[u8]) -> usize
+    ensures sent { Appends (W.contents writer.old) (W.contents writer.new) (take result bytes.now) }
+    ensures within { result ≤ length bytes.now }
+{
+    let mut taken = 0;
+    for _ in 0..u64::MAX {
+        if taken >= bytes.len() {
+            return taken;
+        }
+        match writer.write(&bytes[taken..]) {
+            Ok(0) => return taken,
+            Ok(count) => taken += count,
+            Err(error) => {
+                if error.kind() != ErrorKind::Interrupted {
+                    return taken;
+                }
+            }
+        }
+    }
+    taken
+}
+
+impl Output {
+    /// Nothing was printed yet.
+    pub fn new(alloc: Global) -> Output
+        ensures { result.page ≡ [] }
+    {
+        Output {
+            page: Page::new(alloc),
+            reply: Page::new(alloc),
+            failed: false,
+        }
+    }
+
+    /// Adds the reply at hand. Refused with `NoMemory` (1) alone, and then nothing is added.
+    pub fn add(&mut self) -> Result<(), Refusal>
+        ensures ok { OnOk result (self.new.page ≡ self.old.page ++ self.old.reply) }
+        ensures err { OnErr result (self.new.page ≡ self.old.page) }
+        ensures failed { self.new.failed ≡ self.old.failed }
+    {
+        self.page.bytes(self.reply.as_slice())
+    }
+
+    /// Writes what was gathered, and flushes the writer. Where that fails the fault is `Output`; what the writer took is
+    /// a front of what was gathered, and nothing is written again.
+    pub fn flush<W: Write>(&mut self, writer: &mut W) -> Result<(), ShellFault>
+        ensures printed { Prints (W.contents writer.old) self.old.page [] (W.contents writer.new) self.new.page }
+        ensures ok { OnOk result (self.new.page ≡ []) }
+        ensures failed { OnErr result (self.new.failed ≡ true) }
+        ensures stopped { self.old.failed ≡ true → Keeps (W.contents writer.old) (W.contents writer.new) }
+        ensures fault { IfErr result (λ fault. fault ≡ ShellFault.Output) }
+    {
+        if self.page.is_empty() {
+            return Ok(());
+        }
+        if self.failed {
+            return Err(ShellFault::Output);
+        }
+        let taken = write_out(writer, self.page.as_slice());
+        self.page.forget(taken);
+        self.failed = !self.page.is_empty() || writer.flush().is_err();
+        if self.failed {
+            return Err(ShellFault::Output);
+        }
+        Ok(())
+    }
+
+    /// The same where much was gathered.
+    pub fn flush_if_full<W: Write>(&mut self, writer: &mut W) -> Result<(), ShellFault>
+        ensures printed { Prints (W.contents writer.old) self.old.page [] (W.contents writer.new) self.new.page }
+        ensures fault { IfErr result (λ fault. fault ≡ ShellFault.Output) }
+    {
+        if self.page.len() < FULL {
+            return Ok(());
+        }
+        self.flush(writer)
+    }
+}

@@ -1,0 +1,194 @@
+// Replies as text, gathered before they are written.
+ghost use Rattle.std.specs.Prelude.{◌≡◌, ◌==◌, ◌++◌, ◌∷◌, true, IfOk, OnOk, OnErr, IfErr, decimal, length, take, drop, ◌≤◌, []};
+ghost use Rattle.std.specs.Fmt.{signed_decimal};
+ghost use Rattle.csv.specs.Writing.{default_writer, field_text, needs_quotes, row_text};
+ghost use Rattle.far_script.specs.Printing.{record_text};
+
+use csv::WriterBuilder;
+use far_types::Refusal;
+use itoa::Buffer;
+use std::alloc::Global;
+use std::marker::Model;
+
+/// Replies that were not written yet. Contracts see their bytes.
+#[derive(Drop, Debug)]
+pub struct Page {
+    bytes: Vec<u8>,
+}
+
+impl Model for Page {
+    ghost use Rattle.std.specs.Prelude.{ℕ, List};
+
+    ghost Value = { List ℕ };
+
+    ghost view = { λ page. page.bytes.items };
+}
+
+impl Page {
+    /// An empty page.
+    pub fn new(alloc: Global) -> Page
+        ensures { result ≡ [] }
+    {
+        Page {
+            bytes: Vec::new(alloc),
+        }
+    }
+
+    /// The bytes, lent in place.
+    pub fn as_slice(&self) -> &[u8]
+        ensures { result.now ≡ self.now }
+    {
+        self.bytes.as_slice()
+    }
+
+    /// How many bytes there are.
+    pub fn len(&self) -> usize
+        ensures { result ≡ length self.now }
+    {
+        self.bytes.len()
+    }
+
+    /// Whether there is no byte.
+    pub fn is_empty(&self) -> bool
+        ensures { result ≡ (length self.now == 0) }
+    {
+        self.bytes.is_empty()
+    }
+
+    /// Forgets what stands behind the first `len` bytes.
+    pub fn truncate(&mut self, len: usize)
+        ensures { self.new ≡ take len self.old }
+    {
+        self.bytes.truncate(len);
+    }
+
+    /// Forgets the first bytes.
+    pub fn forget(&mut self, count: usize)
+        requires { count ≤ length self.old }
+        ensures { self.new ≡ drop count self.old }
+    {
+        if count == 0 {
+            return;
+        }
+        let len = self.bytes.len();
+        self.bytes.copy_within(count..len, 0);
+        self.bytes.truncate(len - count);
+    }
+
+    /// Adds bytes. Refused with `NoMemory` (1) alone.
+    pub fn bytes(&mut self, bytes: &[u8]) -> Result<(), Refusal>
+        ensures ok { OnOk result (self.new ≡ self.old ++ bytes.now) }
+        ensures err { OnErr result (self.new ≡ self.old) }
+        ensures memory { IfErr result (λ e. e ≡ Refusal.NoMemory) }
+    {
+        self.bytes.extend_from_slice(bytes)?;
+        Ok(())
+    }
+
+    /// Adds a text. Refused with `NoMemory` (1) alone.
+    pub fn text(&mut self, text: &str) -> Result<(), Refusal>
+        ensures ok { OnOk result (self.new ≡ self.old ++ text.now) }
+        ensures err { OnErr result (self.new ≡ self.old) }
+        ensures memory { IfErr result (λ e. e ≡ Refusal.NoMemory) }
+    {
+        self.bytes(text.as_bytes())
+    }
+
+    /// Adds a byte. Refused with `NoMemory` (1) alone.
+    #[inline(always)]
+    pub fn byte(&mut self, byte: u8) -> Result<(), Refusal>
+        ensures ok { OnOk result (self.new ≡ self.old ++ byte ∷ []) }
+        ensures memory { IfErr result (λ e. e ≡ Refusal.NoMemory) }
+    {
+        self.bytes.push(byte)?;
+        Ok(())
+    }
+
+    /// Adds a number in decimal digits. Refused with `NoMemory` (1) alone.
+    pub fn number(&mut self, number: u64) -> Result<(), Refusal>
+        ensures ok { OnOk result (self.new ≡ self.old ++ decimal number) }
+        ensures memory { IfErr result (λ e. e ≡ Refusal.NoMemory) }
+    {
+        let mut digits = Buffer::new();
+        self.text(digits.format(number))
+    }
+
+    /// Adds a number in decimal digits, with a minus where it is below 0. Refused with `NoMemory` (1) alone.
+    pub fn signed(&mut self, number: i64) -> Result<(), Refusal>
+        ensures ok { OnOk result (self.new ≡ self.old ++ signed_decimal number) }
+        ensures memory { IfErr result (λ e. e ≡ Refusal.NoMemory) }
+    {
+        let mut digits = Buffer::new();
+        self.text(digits.format(number))
+    }
+
+    /// The same of a wide number. Refused with `NoMemory` (1) alone.
+    pub fn wide(&mut self, number: i128) -> Result<(), Refusal>
+        ensures ok { OnOk result (self.new ≡ self.old ++ signed_decimal number) }
+        ensures memory { IfErr result (λ e. e ≡ Refusal.NoMemory) }
+    {
+        let mut digits = Buffer::new();
+        self.text(digits.format(number))
+    }
+}
+
+fn needs_quotes(field: &[u8]) -> bool
+    ensures { result ≡ needs_quotes default_writer field.now }
+{
+    field.iter().any(|byte| *byte == b',' || *byte == b'"' || *byte == b'\r' || *byte == b'\n')
+}
+
+/// A record of one field as the csv writer writes it, with its line's end.
+fn write_record(alloc: Global, field: &[u8]) -> Result<Vec<u8>, Refusal>
+    ensures row { IfOk result (λ text. text.items ≡ row_text default_writer (field.now ∷ [])) }
+    ensures memory { IfErr result (λ e. e ≡ Refusal.NoMemory) }
+{
+    let mut writer = WriterBuilder::new().from_writer(Vec::new(alloc));
+    if writer.write_fields(&[field]).is_err() {
+        return Err(Refusal::NoMemory);
+    }
+    match writer.into_inner() {
+        Ok(text) => Ok(text),
+        Err(_) => Err(Refusal::NoMemory),
+    }
+}
+
+impl Page {
+    /// Adds a field that the csv writer quotes. It stands apart, since the writer has a large frame, which each call would pay
+    /// for.
+    #[inline(never)]
+    fn quoted_field(&mut self, field: &[u8]) -> Result<(), Refusal>
+        requires { needs_quotes default_writer field.now ≡ true }
+        ensures ok { OnOk result (self.new ≡ self.old ++ field_text default_writer field.now) }
+        ensures memory { IfErr result (λ e. e ≡ Refusal.NoMemory) }
+    {
+        let mut text = write_record(*self.bytes.allocator(), field)?;
+        let _end = text.pop();
+        self.bytes(text.as_slice())
+    }
+
+    /// Adds a field of a record of several, as the csv writer writes it. Refused with `NoMemory` (1) alone.
+    pub fn field(&mut self, field: &[u8]) -> Result<(), Refusal>
+        ensures ok { OnOk result (self.new ≡ self.old ++ field_text default_writer field.now) }
+        ensures memory { IfErr result (λ e. e ≡ Refusal.NoMemory) }
+    {
+        if needs_quotes(field) {
+            self.quoted_field(field)
+        } else {
+            self.bytes(field)
+        }
+    }
+
+    /// Adds a record of one field, as the csv writer writes it, without its line's end. Refused with `NoMemory` (1)
+    /// alone.
+    pub fn lone_field(&mut self, field: &[u8]) -> Result<(), Refusal>
+        ensures ok { OnOk result (self.new ≡ self.old ++ record_text (field.now ∷ [])) }
+        ensures memory { IfErr result (λ e. e ≡ Refusal.NoMemory) }
+    {
+        if field.is_empty() {
+            self.text("\"\"")
+        } else {
+            self.field(field)
+        }
+    }
+}

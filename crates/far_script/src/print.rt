@@ -1,0 +1,128 @@
+// Replies as lines.
+ghost use Rattle.std.specs.Prelude.{◌≡◌, ◌++◌, OnOk, IfErr, codes, length, take};
+ghost use Rattle.far_script.specs.Printing.{answer_text, carried_text, extrema_text, key_text, numbered_text, refusal_text, texts_of, total_text};
+
+use super::page::Page;
+use far_types::{Answer, ExtremaLines, Key, Refusal, TotalLines};
+use itoa::Buffer;
+
+/// A word and a number, on a line.
+#[inline(always)]
+pub fn numbered(page: &mut Page, word: &str, number: u64) -> Result<(), Refusal>
+    ensures ok { OnOk result (page.new ≡ page.old ++ numbered_text word.now number) }
+    ensures memory { IfErr result (λ e. e ≡ Refusal.NoMemory) }
+{
+    page.text(word)?;
+    page.byte(b' ')?;
+    page.number(number)?;
+    page.byte(b'\n')
+}
+
+/// What a refusal carries.
+fn carried(page: &mut Page, refusal: &Refusal) -> Result<(), Refusal>
+    ensures ok { OnOk result (page.new ≡ page.old ++ carried_text refusal.now) }
+    ensures memory { IfErr result (λ e. e ≡ Refusal.NoMemory) }
+{
+    match refusal {
+        Refusal::Building(left) => {
+            page.text(" ")?;
+            page.number(u64::from(*left))
+        }
+        Refusal::Absent { column, group } => {
+            page.text(" ")?;
+            page.number(u64::from(*column))?;
+            page.text(" ")?;
+            page.number(u64::from(*group))
+        }
+        _ => Ok(()),
+    }
+}
+
+/// `refused NUMBER NAME`, and what the refusal carries.
+pub fn refused(page: &mut Page, refusal: &Refusal) -> Result<(), Refusal>
+    ensures ok { OnOk result (page.new ≡ page.old ++ refusal_text refusal.now) }
+    ensures memory { IfErr result (λ e. e ≡ Refusal.NoMemory) }
+{
+    page.text("refused ")?;
+    page.number(u64::from(refusal.number()))?;
+    page.text(" ")?;
+    page.text(refusal.name())?;
+    carried(page, refusal)?;
+    page.text("\n")
+}
+
+/// The key of a line, and a space.
+fn key(page: &mut Page, key: &Option<Key>) -> Result<(), Refusal>
+    ensures ok { OnOk result (page.new ≡ page.old ++ key_text key.now) }
+    ensures memory { IfErr result (λ e. e ≡ Refusal.NoMemory) }
+{
+    match key {
+        None => Ok(()),
+        Some(Key::Int(number)) => {
+            let mut digits = Buffer::new();
+            page.lone_field(digits.format(*number).as_bytes())?;
+            page.text(" ")
+        }
+        Some(Key::Text(text)) => {
+            page.lone_field(text.as_bytes())?;
+            page.text(" ")
+        }
+    }
+}
+
+fn total(page: &mut Page, line: &(Option<Key>, u64, i128)) -> Result<(), Refusal>
+    ensures ok { OnOk result (page.new ≡ page.old ++ total_text line.now) }
+    ensures memory { IfErr result (λ e. e ≡ Refusal.NoMemory) }
+{
+    key(page, &line.0)?;
+    page.text("count ")?;
+    page.number(line.1)?;
+    page.text(" sum ")?;
+    page.wide(line.2)?;
+    page.text("\n")
+}
+
+fn extrema(page: &mut Page, line: &(Option<Key>, i64, i64)) -> Result<(), Refusal>
+    ensures ok { OnOk result (page.new ≡ page.old ++ extrema_text line.now) }
+    ensures memory { IfErr result (λ e. e ≡ Refusal.NoMemory) }
+{
+    key(page, &line.0)?;
+    page.text("min ")?;
+    page.signed(line.1)?;
+    page.text(" max ")?;
+    page.signed(line.2)?;
+    page.text("\n")
+}
+
+fn totals(page: &mut Page, lines: &TotalLines) -> Result<(), Refusal>
+    ensures ok { OnOk result (page.new ≡ page.old ++ texts_of total_text lines.now) }
+    ensures memory { IfErr result (λ e. e ≡ Refusal.NoMemory) }
+{
+    for line in lines.as_slice() {
+        total(page, line)?;
+    }
+    Ok(())
+}
+
+fn all_extrema(page: &mut Page, lines: &ExtremaLines) -> Result<(), Refusal>
+    ensures ok { OnOk result (page.new ≡ page.old ++ texts_of extrema_text lines.now) }
+    ensures memory { IfErr result (λ e. e ≡ Refusal.NoMemory) }
+{
+    for line in lines.as_slice() {
+        extrema(page, line)?;
+    }
+    Ok(())
+}
+
+/// The lines of an answer, or `none`.
+pub fn answer(page: &mut Page, answer: &Answer) -> Result<(), Refusal>
+    ensures ok { OnOk result (page.new ≡ page.old ++ answer_text answer.now) }
+    ensures memory { IfErr result (λ e. e ≡ Refusal.NoMemory) }
+{
+    match answer {
+        Answer::Totals(lines) if lines.as_slice().is_empty() => page.text("none\n"),
+        Answer::Totals(lines) => totals(page, lines),
+        Answer::Extrema(lines) if lines.as_slice().is_empty() => page.text("none\n"),
+        Answer::Extrema(lines) => all_extrema(page, lines),
+    }
+}

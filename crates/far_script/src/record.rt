@@ -1,0 +1,61 @@
+// The fields of one record of comma-separated values.
+ghost use Rattle.std.specs.Prelude.{◌≡◌, ◌==◌, Bool, true, false, IfOk, IfErr, option_map, slice_index, not, ◌&&◌};
+ghost use Rattle.std.specs.List.{list_any};
+ghost use Rattle.csv.specs.Records.{fields_of};
+ghost use Rattle.far_script.specs.OneRecord.{one_record, is_mark, is_plain};
+
+use csv::{ReaderBuilder, StringRecord};
+use far_types::Refusal;
+use std::alloc::Global;
+
+/// The fields of a text that is exactly one record, by the csv reader: no header row, no trimming. Refused with
+/// `NoMemory` (1) alone: a text in memory has no other way to fail.
+#[inline(never)]
+pub fn read_record(alloc: Global, text: &str) -> Result<Option<StringRecord>, Refusal>
+    ensures record { IfOk result (λ found. option_map fields_of found ≡ one_record text.now) }
+    ensures memory { IfErr result (λ e. e ≡ Refusal.NoMemory) }
+{
+    let mut reader = ReaderBuilder::new()
+        .has_headers(false)
+        .flexible(true)
+        .from_reader(alloc, text.as_bytes());
+    let mut record = StringRecord::new(alloc);
+    match reader.read_record(&mut record) {
+        Ok(true) => {}
+        Ok(false) => return Ok(None),
+        Err(_) => return Err(Refusal::NoMemory),
+    }
+    let mut next = StringRecord::new(alloc);
+    match reader.read_record(&mut next) {
+        Ok(true) => Ok(None),
+        Ok(false) => Ok(Some(record)),
+        Err(_) => Err(Refusal::NoMemory),
+    }
+}
+
+/// Whether a text may begin with a byte order mark.
+fn may_begin_with_order_mark(bytes: &[u8]) -> bool
+    ensures { result ≡ (slice_index bytes.now 0 == 239) }
+{
+    match bytes {
+        [first, ..] => *first == 0xef,
+        [] => false,
+    }
+}
+
+fn has_mark(bytes: &[u8]) -> bool
+    ensures { result ≡ list_any is_mark bytes.now }
+{
+    bytes
+        .iter()
+        .any(|byte| *byte == b'"' || *byte == b'\r' || *byte == b'\n')
+}
+
+/// Whether the record of a text is what stands between its commas: it has no quote and no end of a line, and does not
+/// begin with a byte order mark.
+pub fn is_plain(text: &str) -> bool
+    ensures { result ≡ is_plain text.now }
+{
+    let bytes = text.as_bytes();
+    !may_begin_with_order_mark(bytes) && !has_mark(bytes)
+}

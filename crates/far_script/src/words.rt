@@ -1,0 +1,111 @@
+// The words of a line.
+ghost use Rattle.std.specs.Prelude.{◌≡◌, option_map, is_none, IfSome, IfNone, ◌∷◌, [], Some};
+ghost use Rattle.far_script.specs.Words.{after, word_in, number_in, long_number_in, last_number_in, last_long_number_in, is_next, words_in};
+
+use super::number::{long_number, number};
+use std::marker::Model;
+
+/// What is left of a line: words with exactly one space between them, from the first on. Contracts see the text that is
+/// left, and nothing once the last word was taken.
+#[derive(Drop)]
+pub struct Words<'a> {
+    left: Option<&'a str>,
+}
+
+impl<'a> Model for Words<'a> {
+    ghost use Rattle.std.specs.Prelude.{ℕ, List, Option, option_map};
+
+    ghost Value = { Option (List ℕ) };
+
+    ghost view = { λ words. option_map (λ text. text.now) words.left };
+}
+
+impl<'a> Words<'a> {
+    /// The words of a text.
+    pub fn new(text: &'a str) -> Words<'a>
+        ensures { result ≡ Some text.now }
+    {
+        Words { left: Some(text) }
+    }
+
+    /// What is left, with all its spaces.
+    pub fn rest(self) -> Option<&'a str>
+        ensures { option_map (λ text. text.now) result ≡ self.entry }
+    {
+        self.left
+    }
+
+    /// Whether the last word was taken.
+    pub fn is_empty(&self) -> bool
+        ensures { result ≡ is_none self.now }
+    {
+        self.left.is_none()
+    }
+
+    /// Takes the next word, where there is one. It is empty where two spaces stand together, or one at an end.
+    pub fn word(&mut self) -> Option<&'a str>
+        ensures word { option_map (λ word. word.now) result ≡ word_in self.old }
+        ensures left { self.new ≡ after self.old }
+        ensures first { IfSome result (λ word. words_in self.old ≡ word.now ∷ words_in self.new) }
+        ensures none { IfNone result (words_in self.old ≡ []) }
+    {
+        let text = self.left?;
+        match text.split_once(' ') {
+            Some((word, rest)) => {
+                self.left = Some(rest);
+                Some(word)
+            }
+            None => {
+                self.left = None;
+                Some(text)
+            }
+        }
+    }
+
+    /// Whether the next word is this one.
+    pub fn next_is(&self, name: &str) -> bool
+        ensures { result ≡ is_next self.now name.now }
+    {
+        match self.left {
+            Some(text) => match text.split_once(' ') {
+                Some((word, _)) => word == name,
+                None => text == name,
+            },
+            None => false,
+        }
+    }
+
+    /// Takes the next word, and reads it as a number below 2^32.
+    pub fn number(&mut self) -> Option<u32>
+        ensures number { result ≡ number_in self.old }
+        ensures left { self.new ≡ after self.old }
+    {
+        number(self.word()?)
+    }
+
+    /// Takes the next word, and reads it as a number below 2^64.
+    pub fn long_number(&mut self) -> Option<u64>
+        ensures number { result ≡ long_number_in self.old }
+        ensures left { self.new ≡ after self.old }
+    {
+        long_number(self.word()?)
+    }
+
+    /// The last word as a number below 2^32: there is no other word behind it.
+    pub fn last_number(mut self) -> Option<u32>
+        ensures { result ≡ last_number_in self.entry }
+    {
+        let number = self.number();
+        if self.is_empty() { number } else { None }
+    }
+
+    /// The last word as a number below 2^64: there is no other word behind it.
+    pub fn last_long_number(mut self) -> Option<u64>
+        ensures { result ≡ last_long_number_in self.entry }
+    {
+        match self.long_number() {
+            Some(number) if self.is_empty() => Some(number),
+            _ => None,
+        }
+    }
+}

@@ -1,6 +1,0 @@
-use Rattle.std.proofs.Common.{◌≡◌, ◌++◌, drop}
-use Rattle.far_shell.specs.Printing.{texts_of, total_text}
-use Rattle.far_shell.proofs.print.totals.Given as goal
-
-abbrev pub invariant-loop-line : goal.invariant-loop-line
-invariant-loop-line l = l.page ++ texts_of total_text (drop l.line-index l.lines) ≡ l.initial.page ++ texts_of total_text l.lines
