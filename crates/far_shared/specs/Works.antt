@@ -1,5 +1,5 @@
 -- Work in the background: how it begins and ends, and what it keeps.
-use Rattle.std.specs.Prelude.{◌≡◌, ◌<◌, ◌≤◌, ℕ, true, false, List, [], ◌∷◌, Option, None, Some, is_none, IsSomeAnd, IfSome, Result, IsErrOf}
+use Rattle.std.specs.Prelude.{◌≡◌, ◌<◌, ◌≤◌, ℕ, true, false, List, [], ◌∷◌, length, Option, None, Some, is_none, IsSomeAnd, IfSome, Result, IsErrOf}
 use Rattle.far_types.specs.declared.refusal.Refusal.{Refusal}
 use Rattle.far_types.specs.declared.refusal.Refusal.TheVariants as refusal
 use Rattle.far_types.specs.MayRefuse.{MayRefuse}
@@ -49,12 +49,14 @@ pub record RefusedAt {A : Type 0} (stripe : ℕ) (numbers : List ℕ) (result : 
   pub unknown : 4 ≤ stripe → IsErrOf result refusal.OutOfRange
   pub known : stripe < 4 → RefusedBy numbers result
 
--- the rows of a table are as before, with its schema, its limits and its edits, and so is each aggregate of which nothing is left
+-- the rows of a table are as before, with its schema, its limits, its edits and how many aggregates it has room for, and so is each
+-- aggregate of which nothing is left
 pub record KeepsRows (old new : Table) : Type 0 where
   pub schema : new.schema ≡ old.schema
   pub limits : new.limits ≡ old.limits
   pub places : new.places ≡ old.places
   pub edits : new.edits ≡ old.edits
+  pub aggregates : length new.aggregates ≡ length old.aggregates
   pub built : (a : ℕ) → left_in (aggregate_at old a) ≡ 0 → aggregate_at new a ≡ aggregate_at old a
 
 module _ {K : Type 0} (s : State K) where

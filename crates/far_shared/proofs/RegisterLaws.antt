@@ -1,0 +1,119 @@
+-- The table of a stripe once an aggregate is registered or forgotten beside its gauge.
+use Rattle.std.proofs.Common.{◌≡◌, ◌≢◌, ◌⊎◌, inl, inr, ℕ, zero, suc, ◌+◌, ◌-◌, ◌<◌, ◌≤◌, ◌^◌, Bool, true, false, List, [], ◌∷◌, length, Option, None, Some, refl, sym, ap, subst, ◌∙◌, arith}
+use Rattle.std.specs.Prelude.{◌==◌, ◌/◌, is_none, replicate, slice_get, slice_set}
+use Rattle.std.specs.Option.{option_or}
+use Rattle.std.proofs.Math.Nat.{div-eq_of_lt}
+use Rattle.std.proofs.lemmas.List.{length-set}
+use Rattle.far_types.specs.declared.refusal.Refusal.{Refusal}
+use Rattle.far_types.specs.declared.refusal.Refusal.TheVariants as refusal
+use Rattle.far_types.specs.declared.spec.Spec.{Spec}
+use Rattle.far_types.specs.Bounds.{spec_refusal}
+use Rattle.far_types.specs.FirstOf.{first_of}
+use Rattle.far_types.specs.MayRefuse.{MayRefuse}
+use Rattle.far_types.specs.Table.{Table, Registered, all_unbuilt, empty_table, groups}
+use Rattle.far_aggregates.specs.Aggregates.{joined, free_from}
+use Rattle.far_table.specs.Watching.{lowest_free, watch_refusal, with_aggregate, registered_at}
+use Rattle.far_history.specs.Histories.{Planned}
+use Rattle.far_history.specs.declared.view.Entry.{Entry}
+use Rattle.far_shared.specs.Plans.{IsPlan}
+use Rattle.far_shared.specs.Stripes.{IsStripe, first_registered}
+use Rattle.far_shared.specs.Watching.{WatchRefusal}
+use Rattle.far_shared.proofs.StripeLaws.{plan-checked}
+
+first-kept : {X : Type 0} (xs : List X) (a : ℕ) (x : X) → a ≢ 0 → slice_get (slice_set xs a x) 0 ≡ slice_get xs 0
+first-kept [] a x ne = refl
+first-kept (y ∷ ys) zero x ne = absurd (ne refl)
+first-kept (y ∷ ys) (suc a) x ne = refl
+
+free-within : (n : ℕ) (xs : List (Option Registered)) (a : ℕ) → free_from n xs ≡ Some a → (n ≤ a) × (a < n + length xs)
+free-within n [] a is = absurd cc
+free-within n (None ∷ rest) a is = (let e : n ≡ a = cc in (omega (arith, e), omega (arith, e)))
+free-within n (Some r ∷ rest) a is = (let ih = free-within (n + 1) rest a is in (omega (arith, ih.0), omega (arith, ih.1)))
+
+number-in : (xs : List (Option Registered)) (r : Registered) (a : ℕ) → joined (slice_get xs 0) ≡ Some r → length xs ≡ 32 → free_from 0 xs ≡ Some a → (a ≢ 0) × (a < 32)
+number-in [] r a first len free = absurd cc
+number-in (None ∷ xs) r a first len free = absurd cc
+number-in (Some s ∷ xs) r a first len free = (let within = free-within 1 xs a free in ((λ e. omega (arith, within.0, e)), omega (arith, within.1, len)))
+
+module _ (p : Planned) (log : List Entry) (table : Table) (is : IsStripe p log table) where
+  -- the lowest free number is none of the gauge's
+  pub number-free : (a : ℕ) → lowest_free table ≡ Some a → (a ≢ 0) × (a < 32)
+  number-free a free = number-in table.aggregates (first_registered p.gauge) a is.gauge is.aggregates free
+
+  module _ (a : ℕ) (ne : a ≢ 0) where
+    -- whatever stands under another number than the gauge's
+    pub stripe-with : (x : Option Registered) → IsStripe p log (with_aggregate a x table)
+    stripe-with x = record {
+      plan = is.plan;
+      schema = is.schema;
+      limits = is.limits;
+      places = is.places;
+      edits = is.edits;
+      aggregates = length-set table.aggregates a x ∙ is.aggregates;
+      gauge = ap joined (first-kept table.aggregates a x ne) ∙ is.gauge;
+    }
+
+    pub stripe-registered : (spec : Spec) → IsStripe p log (registered_at a spec table)
+    stripe-registered spec =
+        let with = stripe-with (Some record { spec = spec; registration = table.registrations; unbuilt = all_unbuilt table.limits.group table.places }) in record {
+          plan = with.plan;
+          schema = with.schema;
+          limits = with.limits;
+          places = with.places;
+          edits = with.edits;
+          aggregates = with.aggregates;
+          gauge = with.gauge;
+        }
+
+-- an empty table has no row groups
+no-groups : (size : ℕ) → 0 < size → groups size 0 ≡ 0
+no-groups size some = div-eq_of_lt (omega (arith, some))
+
+module _ (p : Planned) (is : IsPlan p) where
+  -- an empty table whose gauge was registered
+  pub stripe-opened : (a : ℕ) → lowest_free (empty_table p.schema p.limits) ≡ Some a → IsStripe p [] (registered_at a p.gauge (empty_table p.schema p.limits))
+  stripe-opened a free = subst (λ n. IsStripe p [] (registered_at n p.gauge (empty_table p.schema p.limits))) first opened
+    where
+      first : 0 ≡ a
+      first = cc
+
+      none : groups p.limits.group 0 ≡ 0
+      none = no-groups p.limits.group (omega (arith, is.limits.group_low))
+
+      opened : IsStripe p [] (registered_at 0 p.gauge (empty_table p.schema p.limits))
+      opened = record {
+        plan = is;
+        schema = refl;
+        limits = refl;
+        places = refl;
+        edits = refl;
+        aggregates = refl;
+        gauge = ap (λ (n : ℕ). Some (registered p.gauge (replicate n true))) none;
+      }
+        where
+          registered : Spec → List Bool → Registered
+          registered spec unbuilt = record { spec = spec; registration = 0; unbuilt = unbuilt }
+
+  -- the gauge is registered, want of memory aside
+  pub gauge-free : watch_refusal (empty_table p.schema p.limits) p.gauge ≡ None
+  gauge-free = ap (λ (due : Option Refusal). option_or due (first_of ((false, refusal.TooManyAggregates) ∷ (false, refusal.TooManyAggregates) ∷ []))) (plan-checked p is)
+
+module _ (table : Table) (spec : Spec) where
+  -- why an aggregate is not registered
+  pub watch-why : (given : Refusal) → MayRefuse (watch_refusal table spec) true given → WatchRefusal table.schema spec given
+  watch-why given may = by (spec_refusal table.schema spec) (is_none (lowest_free table)) (table.registrations == 2 ^ 32) may
+    where
+      by : (due : Option Refusal) (full used : Bool) → MayRefuse (option_or due (first_of ((full, refusal.TooManyAggregates) ∷ (used, refusal.TooManyAggregates) ∷ []))) true given
+          → (due ≡ Some given) ⊎ ((due ≡ None) × ((given ≡ refusal.TooManyAggregates) ⊎ (given ≡ refusal.NoMemory)))
+      by (Some due) full used may = inl (ap (λ (e : Refusal). Some e) (sym may))
+      by None true used may = inr (refl, inl may)
+      by None false true may = inr (refl, inl may)
+      by None false false may = inr (refl, inr may.0)
+
+  -- what is registered may be had over the schema
+  pub watch-allowed : watch_refusal table spec ≡ None → spec_refusal table.schema spec ≡ None
+  watch-allowed free = by (spec_refusal table.schema spec) free
+    where
+      by : (due : Option Refusal) → option_or due (first_of ((is_none (lowest_free table), refusal.TooManyAggregates) ∷ (table.registrations == 2 ^ 32, refusal.TooManyAggregates) ∷ [])) ≡ None → due ≡ None
+      by None free = refl
+      by (Some due) free = absurd cc
