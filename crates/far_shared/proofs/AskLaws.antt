@@ -1,6 +1,7 @@
 -- What four stripes answer together.
-use Rattle.std.proofs.Common.{◌≡◌, ◌≢◌, ◌⊎◌, inl, inr, ℕ, ◌+◌, List, Option, None, Some, IfSome, refl, sym, ap, subst, ◌∙◌}
+use Rattle.std.proofs.Common.{◌≡◌, ◌≢◌, ◌⊎◌, inl, inr, ℕ, ◌+◌, List, Option, None, Some, IfSome, IfOk, IfErr, OnOk, Result, refl, sym, ap, subst, ◌∙◌}
 use Rattle.std.specs.Prelude.{option_map}
+use Rattle.std.specs.declared.result.Result.TheVariants.{Ok, Err}
 use Rattle.far_types.specs.declared.answer.Answer.{Answer}
 use Rattle.far_types.specs.declared.refusal.Refusal.{Refusal}
 use Rattle.far_types.specs.declared.refusal.Refusal.TheVariants as refusal
@@ -13,6 +14,7 @@ use Rattle.far_history.specs.declared.view.Entry.{Entry}
 use Rattle.far_shared.specs.Asking.{IsAnswer, IsAskRefusal}
 use Rattle.far_shared.specs.Fours.{AreLike, AreAlike, FourRefusal, LeftRefusal, all_rows, left_in, left_in_all, spec_at}
 use Rattle.far_shared.specs.Stripes.{IsStripe, first_registered}
+use Rattle.far_shared.proofs.NumberLaws.{if-err}
 
 -- what is told of four tables that do not answer
 pub ask-refusal : (a : ℕ) (one two three four : Table) (given : Refusal) → FourRefusal a one two three four given → IsAskRefusal given
@@ -61,3 +63,15 @@ module _ (p : Planned) (zero one two three : List Entry) (t0 t1 t2 t3 : Table) (
           let here : spec_at t0 0 ≡ Some alike.second.0 = subst (λ n. spec_at t0 n ≡ Some alike.second.0) first alike.second.1 in
           let gauged : spec_at t0 0 ≡ Some p.gauge = ap (option_map (λ (aggregate : Registered). aggregate.spec)) is0.gauge in
           cc
+
+  module _ (a : ℕ) (r : Result Answer Refusal) where
+    pub answers-told : IsLegal p zero → IsLegal p one → IsLegal p two → IsLegal p three
+        → IfOk r (λ answer. IfSome (spec_at t0 a) (λ (spec : Spec). answer ≡ answer_over spec (all_rows t0 t1 t2 t3))) → OnOk r (AreAlike a t0 t1 t2 t3) → IfOk r (IsAnswer p a)
+    answers-told l0 l1 l2 l3 = by r
+      where
+        by : (r : Result Answer Refusal) → IfOk r (λ answer. IfSome (spec_at t0 a) (λ (spec : Spec). answer ≡ answer_over spec (all_rows t0 t1 t2 t3))) → OnOk r (AreAlike a t0 t1 t2 t3) → IfOk r (IsAnswer p a)
+        by (Ok answer) told alike = is-answer a answer l0 l1 l2 l3 alike told
+        by (Err e) told alike = tt
+
+    pub gauge-told : IfErr r (FourRefusal a t0 t1 t2 t3) → a ≡ 0 → IfErr r (λ e. e ≡ refusal.NoMemory)
+    gauge-told refused first = if-err r (FourRefusal a t0 t1 t2 t3) (λ e. e ≡ refusal.NoMemory) (λ e h. gauge-answers e (subst (λ n. FourRefusal n t0 t1 t2 t3 e) first h)) refused

@@ -1,3 +1,4 @@
+mod ApplyLaws
 mod AskLaws
 mod EditLaws
 mod FirstLaws

@@ -12,9 +12,17 @@ use Rattle.far_types.specs.FirstOf.{first_of}
 use Rattle.far_types.specs.MayRefuse.{MayRefuse}
 use Rattle.far_types.specs.Table.{Table, Registered, all_unbuilt, empty_table, groups}
 use Rattle.far_aggregates.specs.Aggregates.{joined, free_from}
+use Rattle.far_rows.specs.Jobs.{AreAt}
+use Rattle.far_table.specs.State.{State as LiveState}
 use Rattle.far_table.specs.Watching.{lowest_free, watch_refusal, with_aggregate, registered_at}
+use Rattle.far_frame.specs.Changes.{Accepts, Refuses}
+use Rattle.far_frame.specs.State.{State, live, empty_state}
+use Rattle.far_frame.specs.declared.step.Reply.{Reply}
+use Rattle.far_frame.specs.declared.step.Reply.TheVariants as reply
+use Rattle.far_frame.specs.declared.step.Step.TheVariants as step
 use Rattle.far_history.specs.Histories.{Planned}
 use Rattle.far_history.specs.declared.view.Entry.{Entry}
+use Rattle.far_shared.specs.Opening.{IsEmpty}
 use Rattle.far_shared.specs.Plans.{IsPlan}
 use Rattle.far_shared.specs.Stripes.{IsStripe, first_registered}
 use Rattle.far_shared.specs.Watching.{WatchRefusal}
@@ -117,3 +125,66 @@ module _ (table : Table) (spec : Spec) where
       by : (due : Option Refusal) → option_or due (first_of ((is_none (lowest_free table), refusal.TooManyAggregates) ∷ (table.registrations == 2 ^ 32, refusal.TooManyAggregates) ∷ [])) ≡ None → due ≡ None
       by None free = refl
       by (Some due) free = absurd cc
+
+module _ {K : Type 0} (content : K → List ℕ) (old new : State K) where
+  same-rows : (spec : Spec) (given : Reply) → Accepts content old (step.Watch spec) given new → new.rows ≡ old.rows
+  same-rows spec given h = ap (λ (s : LiveState K). s.rows) h.2.changed.state
+
+  module _ (is_of : K → List ℕ → Type 0) (name : List ℕ) (here : AreAt is_of name old.rows) where
+    -- objects stay where they are
+    pub watched-here : (spec : Spec) (given : Reply) → Accepts content old (step.Watch spec) given new → AreAt is_of name new.rows
+    watched-here spec given h = subst (AreAt is_of name) (sym (same-rows spec given h)) here
+
+    pub unwatched-here : (a : ℕ) (given : Reply) → Accepts content old (step.Unwatch a) given new → AreAt is_of name new.rows
+    unwatched-here a given h = subst (AreAt is_of name) (sym (ap (λ (s : LiveState K). s.rows) h.1.changed.state)) here
+
+  module _ (p : Planned) (log : List Entry) (is : IsStripe p log old.table) where
+    -- the stripe, once an aggregate is registered
+    pub stripe-watched : (spec : Spec) (given : Reply) → Accepts content old (step.Watch spec) given new → IsStripe p log new.table
+    stripe-watched spec given h =
+        subst (IsStripe p log) (sym (ap (λ (s : LiveState K). s.table) h.2.changed.state)) (stripe-registered p log old.table is h.0 (number-free p log old.table is h.0 h.2.changed.number).0 spec)
+
+    -- its number
+    pub number-watched : (spec : Spec) (a : ℕ) → Accepts content old (step.Watch spec) (reply.Aggregate a) new → (a ≢ 0) × (a < 32)
+    number-watched spec a h =
+        let is-a : reply.Aggregate a ≡ reply.Aggregate h.0 = h.1 in
+        let same : h.0 ≡ a = cc in
+        subst (λ n. (n ≢ 0) × (n < 32)) same (number-free p log old.table is h.0 h.2.changed.number)
+
+    -- the stripe, once another aggregate than the gauge is forgotten
+    pub stripe-unwatched : (a : ℕ) (given : Reply) → a ≢ 0 → Accepts content old (step.Unwatch a) given new → IsStripe p log new.table
+    stripe-unwatched a given ne h =
+        subst (IsStripe p log) (sym (ap (λ (s : LiveState K). s.table) h.1.changed.state)) (stripe-with p log old.table is a ne None)
+
+    -- why it is not registered
+    pub refused-watched : (spec : Spec) (given : Refusal) → Refuses old (step.Watch spec) given new → WatchRefusal p.schema spec given
+    refused-watched spec given h = subst (λ schema. WatchRefusal schema spec given) is.schema (watch-why old.table spec given h.1)
+
+  module _ (p : Planned) (is : IsPlan p) (n : ℕ) (fresh : old ≡ empty_state p.schema p.limits n) (spec : Spec) (gauge : spec ≡ p.gauge) where
+    is-fresh : old.table ≡ empty_table p.schema p.limits
+    is-fresh = ap (λ (s : State K). s.table) fresh
+
+    -- an empty table, once its gauge is registered
+    pub empty-watched : (is_of : K → List ℕ → Type 0) (given : Reply) → ((name : List ℕ) → AreAt is_of name old.rows) → Accepts content old (step.Watch spec) given new → IsEmpty is_of p new
+    empty-watched is_of given here h = record {
+      stripe = subst (IsStripe p []) (sym table) (stripe-opened p is h.0 (subst (λ (t : Table). lowest_free t ≡ Some h.0) is-fresh h.2.changed.number));
+      here = λ name. watched-here is_of name (here name) spec given h;
+    }
+      where
+        table : new.table ≡ registered_at h.0 p.gauge (empty_table p.schema p.limits)
+        table =
+            ap (λ (s : LiveState K). s.table) h.2.changed.state
+            ∙ ap (registered_at h.0 spec) is-fresh
+            ∙ ap (λ (x : Spec). registered_at h.0 x (empty_table p.schema p.limits)) gauge
+
+    -- it is registered, want of memory aside
+    pub empty-refused : (given : Refusal) → Refuses old (step.Watch spec) given new → given ≡ refusal.NoMemory
+    empty-refused given h =
+        let free : watch_refusal old.table spec ≡ None =
+        ap (λ (t : Table). watch_refusal t spec) is-fresh ∙ ap (watch_refusal (empty_table p.schema p.limits)) gauge ∙ gauge-free p is in
+        let may : MayRefuse None true given = subst (λ (due : Option Refusal). MayRefuse due true given) free h.1 in
+        may.0
+
+-- a stripe begins with an empty table and an empty history
+pub empty-stripe : {K : Type 0} (is_of : K → List ℕ → Type 0) (p : Planned) (store : List ℕ) (log : List Entry) (s : State K) → log ≡ [] → IsEmpty is_of p s → IsStripe p log s.table × AreAt is_of store s.rows
+empty-stripe is_of p store log s none empty = (subst (λ l. IsStripe p l s.table) (sym none) empty.stripe, empty.here store)

@@ -105,3 +105,19 @@ module _ (p : Planned) (log : List Entry) (table : Table) (is : IsStripe p log t
       let after : places ≡ (replay p (log ++ entry by e ∷ [])).places = now ∙ (stripe-edited by e).places in
       let count : length log + 1 ≡ length (log ++ entry by e ∷ []) = omega (arith, length-append log (entry by e ∷ [])) in
       rw after (rw count refl)
+
+  -- the stripe, once the edit is made in its table and added to its history
+  pub stripe-made : (by : ℕ) (e : Edit) (now : List Entry) (after : Table) → now ≡ log ++ entry by e ∷ [] → after ≡ edited e table → IsStripe p now after
+  stripe-made by e now after longer changed =
+      subst (λ l. IsStripe p l after) (sym longer) (subst (IsStripe p (log ++ entry by e ∷ [])) (sym changed) (stripe-edited by e))
+
+  pub stripe-same : (now : List Entry) (after : Table) → now ≡ log → after ≡ table → IsStripe p now after
+  stripe-same now after same kept = subst (λ l. IsStripe p l after) (sym same) (subst (IsStripe p log) (sym kept) is)
+
+  -- what the gauge reads after the edit is what the longer history leaves
+  pub reads-edited : (by : ℕ) (e : Edit) (before after : Reading) (now : Table) → before ≡ gauge_of p log → now ≡ edited e table
+      → after ≡ record { edits = before.edits + 1; count = (folded p.gauge now.places).0; sum = (folded p.gauge now.places).1 } → after ≡ gauge_of p (log ++ entry by e ∷ [])
+  reads-edited by e before after now told changed reads =
+      reads
+      ∙ ap (λ (r : Reading). record { edits = r.edits + 1; count = (folded p.gauge now.places).0; sum = (folded p.gauge now.places).1 }) told
+      ∙ gauge-edited by e now.places (ap (λ (t : Table). t.places) changed)
