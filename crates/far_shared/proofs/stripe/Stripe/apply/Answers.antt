@@ -6,23 +6,19 @@ use Rattle.far_shared.proofs.StripeLaws.{few, reads-edited, same-refusal, same-w
 use Rattle.far_shared.proofs.stripe.Stripe.apply.Goals as goal
 
 pub change-requires-clause-few : goal.change-requires-clause-few
-change-requires-clause-few g c =
+change-requires-clause-few g c κs inside =
     let s = c.self.inside in
     let look = c.look-before.ensures in
     let legal = subst (IsLegal g.N.Naming.plan) look.whole look.seen.legal in
     subst (λ (r : Reading). r.edits < 2 ^ 63) (sym look.reading) (few g.N.Naming.plan s.keeper s.frame.table c.self.invariant.0 legal)
 
-pub add-requires-clause-may : goal.add-requires-clause-may
-add-requires-clause-may g c =
-    let s = c.self.inside in
-    rw (c.look-before.ensures.history, c.of-told.ensures) (same-refusal g.N.Naming.plan s.keeper s.frame.table c.self.invariant.0 c.args.edit ∙ c.in_ok-changed.ensures.may)
-
-pub add-requires-clause-reading : goal.add-requires-clause-reading
-add-requires-clause-reading g c =
+pub add-requires : goal.add-requires
+add-requires g c =
     let s = c.self.inside in
     let made = c.in_ok-changed.ensures in
-    rw (c.look-before.ensures.history, c.of-told.ensures)
-    (reads-edited g.N.Naming.plan s.keeper s.frame.table c.self.invariant.0 _ c.args.edit c.look-before.result _ _ c.look-before.ensures.reading made.made made.after)
+    let may : edit_refusal (replay g.N.Naming.plan c.look-before.new.self) c.of-told.result.value ≡ None =
+    rw (c.look-before.ensures.history, c.of-told.ensures) (same-refusal g.N.Naming.plan s.keeper s.frame.table c.self.invariant.0 c.args.edit ∙ made.may) in
+    ?
 
 pub returns-in_err-changed-clause-why : goal.returns-in_err-changed-clause-why
 returns-in_err-changed-clause-why g c =
