@@ -1,6 +1,5 @@
-use Rattle.std.proofs.Common.{◌≡◌, ◌<◌, ◌^◌, None, sym, subst, ◌∙◌, rules}
-use Rattle.far_types.specs.Edits.{edit_refusal}
-use Rattle.far_history.specs.Histories.{IsLegal, replay}
+use Rattle.std.proofs.Common.{◌<◌, ◌^◌, sym, subst, ◌∙◌, arith, rules}
+use Rattle.far_history.specs.Histories.{IsLegal}
 use Rattle.far_history.specs.declared.reading.Reading.{Reading}
 use Rattle.far_shared.proofs.StripeLaws.{few, reads-edited, same-refusal, same-why, stripe-made}
 use Rattle.far_shared.proofs.stripe.Stripe.apply.Goals as goal
@@ -15,10 +14,20 @@ change-requires-clause-few g c κs inside =
 pub add-requires : goal.add-requires
 add-requires g c =
     let s = c.self.inside in
-    let made = c.in_ok-changed.ensures in
-    let may : edit_refusal (replay g.N.Naming.plan c.look-before.new.self) c.of-told.result.value ≡ None =
-    rw (c.look-before.ensures.history, c.of-told.ensures) (same-refusal g.N.Naming.plan s.keeper s.frame.table c.self.invariant.0 c.args.edit ∙ made.may) in
-    ?
+    let made = c.in_ok-changed.ensures in (
+      omega arith,
+      (
+        omega arith,
+        (
+          omega arith,
+          (
+            rw (c.look-before.ensures.history, c.of-told.ensures) (same-refusal g.N.Naming.plan s.keeper s.frame.table c.self.invariant.0 c.args.edit ∙ made.may),
+            rw (c.look-before.ensures.history, c.of-told.ensures)
+                (reads-edited g.N.Naming.plan s.keeper s.frame.table c.self.invariant.0 _ c.args.edit c.look-before.result _ _ c.look-before.ensures.reading made.made made.after),
+          ),
+        ),
+      ),
+    )
 
 pub returns-in_err-changed-clause-why : goal.returns-in_err-changed-clause-why
 returns-in_err-changed-clause-why g c =
