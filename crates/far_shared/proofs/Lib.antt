@@ -1,3 +1,5 @@
+mod CrossingLaws
 mod MergeLaws
 mod NumberLaws
+mod ReportLaws
 mod WorkLaws

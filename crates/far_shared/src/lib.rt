@@ -2,6 +2,7 @@
 //! Tables that threads share. What stands is the plan of one, the answers over its four tables, and what is done in the background
 //! under their locks; its opening and its edits are to come.
 
+pub mod background;
 pub mod four;
 mod locked;
 mod merging;
@@ -13,6 +14,7 @@ mod stripe_work;
 pub mod work;
 mod working;
 
+pub use background::Background;
 pub use four::answer_four;
 pub use plan::Plan;
 pub use shared::Shared;
