@@ -1,4 +1,4 @@
-mod CrossingLaws
+pub mod CrossingLaws
 mod MergeLaws
 mod NumberLaws
 mod ReportLaws

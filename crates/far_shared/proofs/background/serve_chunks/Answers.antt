@@ -1,7 +1,4 @@
 use denote.Param.{param}
-use denote.Param.Send.{IsSync, param_sync, arg_sync, shr_sync, sendable}
-use denote.Param.SendFields.{declared_sync, as_row_sync}
-use Rattle.far_shared.specs.contracts.shared.Shared as shared
 use Rattle.far_shared.proofs.CrossingLaws.{shared_sync}
 use Rattle.std.proofs.Common.{◌≡◌, ◌+◌, ◌≤◌, ◌<◌, length, sum_by, get_or, arith, rules}
 use Rattle.std.specs.Fork.{slice_chunk}
@@ -22,5 +19,16 @@ sum_of-requires g c = let e = all-counted g c in search rules
 pub returns : goal.returns
 returns g c = let e = all-counted g (goal.at.returns g c).After-deref in search rules
 
+-- the closure holds a `&` to the runtime, to the four tables and to the store
 pub map_chunks-requires-sync-F : goal.map_chunks-requires-sync-F
-map_chunks-requires-sync-F g c κs within = search (shared_sync, c.type_bounds.send-S-Ticket, c.type_bounds.sync-S-Ticket, c.type_bounds.sync-R, c.type_bounds.sync-S, sendable) depth 30 fits 5000
+map_chunks-requires-sync-F g c κs within =
+    let all = shared_sync (param 0 g.row.N) (param 1 g.row.B) (param 2 g.row.S) (param 4 g.row.S-Ticket) g.B.Rooms g.N.Naming g.B.Site g.S.FarTickets c.type_bounds.send-S-Ticket c.type_bounds.sync-S-Ticket in
+    record {
+      shared = λ x b o κ. (
+        (
+          ((λ q. tt), c.type_bounds.sync-R.shared x.0.now x.0.ref_ptr.0 x.0.ref_ptr.1 _),
+          (((λ q. tt), all.shared x.1.now x.1.ref_ptr.0 x.1.ref_ptr.1 _), (((λ q. tt), c.type_bounds.sync-S.shared x.2.now x.2.ref_ptr.0 x.2.ref_ptr.1 _), tt)),
+        ),
+        λ q. tt,
+      );
+    }
