@@ -6,4 +6,5 @@ mod MergeLaws
 mod NumberLaws
 mod RegisterLaws
 mod StripeLaws
+mod WatchLaws
 mod WorkLaws
