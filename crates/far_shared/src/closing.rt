@@ -4,9 +4,10 @@ ghost use Rattle.far_rows.specs.Jobs.{AreAt};
 ghost use Rattle.far_sessions.specs.Closing.{IsWhole};
 ghost use Rattle.far_shared.specs.Closing.{IsClosed};
 
-use crate::opening::Frames;
+use crate::opening::Four;
 use crate::shared::Shared;
 use crate::stripe::Site;
+use far_frame::Frame;
 use far_history::Naming;
 use far_sessions::{Keepers, Session, are_whole, settle};
 use far_store::FarTickets;
@@ -22,7 +23,7 @@ impl<N: Naming, B: Site, S: FarTickets> Shared<N, B, S> {
         self,
         rt: &R,
         sessions: Vec<Session<B>>,
-    ) -> Result<Frames<S>, (Refusal, Shared<N, B, S>, Vec<Session<B>>)>
+    ) -> Result<Four<Frame<S>>, (Refusal, Shared<N, B, S>, Vec<Session<B>>)>
         ensures whole { OnOk result (IsWhole N.plan.sessions sessions.items) }
         ensures zero { IfOk result (λ frames. IsClosed N.plan 0 sessions.items frames.zero.table) }
         ensures one { IfOk result (λ frames. IsClosed N.plan 1 sessions.items frames.one.table) }
@@ -39,7 +40,7 @@ impl<N: Naming, B: Site, S: FarTickets> Shared<N, B, S> {
     }
 
     /// Ends these sessions, and gives the four tables.
-    fn settled<R: Wait>(self, rt: &R, sessions: Vec<Session<B>>) -> Frames<S>
+    fn settled<R: Wait>(self, rt: &R, sessions: Vec<Session<B>>) -> Four<Frame<S>>
         ensures zero { IsClosed N.plan 0 sessions.items result.zero.table }
         ensures one { IsClosed N.plan 1 sessions.items result.one.table }
         ensures two { IsClosed N.plan 2 sessions.items result.two.table }
@@ -70,7 +71,7 @@ impl<N: Naming, B: Site, S: FarTickets> Shared<N, B, S> {
         keepers.two.known();
         keepers.three.known();
         settle(rt, &cells, &mut keepers, sessions);
-        Frames {
+        Four {
             zero: zero.frame,
             one: one.frame,
             two: two.frame,

@@ -22,7 +22,7 @@ mod working;
 pub use asking::Scope;
 pub use background::Background;
 pub use four::answer_four;
-pub use opening::{Frames, Made};
+pub use opening::{Four, Made};
 pub use plan::Plan;
 pub use shared::Shared;
 pub use stripe::{Applied, Site, Stripe};

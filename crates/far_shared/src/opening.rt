@@ -1,5 +1,5 @@
 // How a shared table begins.
-ghost use Rattle.std.specs.Prelude.{◌≡◌, [], IfOk, IfErr};
+ghost use Rattle.std.specs.Prelude.{◌≡◌, ◌⊎◌, [], IfOk, IfErr, IsErrOf, IsOkAnd};
 ghost use Rattle.far_sessions.specs.Known.{newcomers};
 ghost use Rattle.far_shared.specs.Opening.{AreNamed, IsEmpty};
 
@@ -8,24 +8,47 @@ use crate::shared::{Count, Shared};
 use crate::stripe::{Site, Stripe};
 use far_frame::Frame;
 use far_history::Naming;
-use far_sessions::{Keeper, Keepers, Opened, Session};
+use far_sessions::{Cells, Keeper, Keepers, Opened, Session};
 use far_store::FarTickets;
 use far_types::Refusal;
 use std::alloc::Global;
 use std::marker::{Model, PhantomData};
 use std::sync::RwLock;
 
-/// The tables of four stripes.
+/// One of each of the four stripes.
 #[derive(Drop)]
-pub struct Frames<S: FarTickets> {
-    /// The table of stripe 0.
-    pub zero: Frame<S>,
-    /// The table of stripe 1.
-    pub one: Frame<S>,
-    /// The table of stripe 2.
-    pub two: Frame<S>,
-    /// The table of stripe 3.
-    pub three: Frame<S>,
+pub struct Four<T> {
+    /// That of stripe 0.
+    pub zero: T,
+    /// That of stripe 1.
+    pub one: T,
+    /// That of stripe 2.
+    pub two: T,
+    /// That of stripe 3.
+    pub three: T,
+}
+
+/// All four, or the first refusal.
+///
+/// It knows nothing of what they are: to take a table out of a result costs the proof of a function minutes, and here it costs none.
+fn all_four<T: Drop>(
+    zero: Result<T, Refusal>,
+    one: Result<T, Refusal>,
+    two: Result<T, Refusal>,
+    three: Result<T, Refusal>,
+) -> Result<Four<T>, Refusal>
+    ensures zero { IfOk result (λ four. IsOkAnd zero (λ x. x ≡ four.zero)) }
+    ensures one { IfOk result (λ four. IsOkAnd one (λ x. x ≡ four.one)) }
+    ensures two { IfOk result (λ four. IsOkAnd two (λ x. x ≡ four.two)) }
+    ensures three { IfOk result (λ four. IsOkAnd three (λ x. x ≡ four.three)) }
+    ensures refused { IfErr result (λ e. IsErrOf zero e ⊎ IsErrOf one e ⊎ IsErrOf two e ⊎ IsErrOf three e) }
+{
+    Ok(Four {
+        zero: zero?,
+        one: one?,
+        two: two?,
+        three: three?,
+    })
 }
 
 /// Four empty tables with their gauges, and four cells that have no name yet. Contracts see which cell each stripe has.
@@ -33,7 +56,7 @@ pub struct Frames<S: FarTickets> {
 pub struct Made<N: Naming, S: FarTickets> {
     sessions: u64,
     cells: far_sessions::Made<N>,
-    frames: Frames<S>,
+    frames: Four<Frame<S>>,
 }
 
 impl<N: Naming, S: FarTickets> Model for Made<N, S> {
@@ -58,23 +81,19 @@ fn open_frame<S: FarTickets>(alloc: Global, plan: &Plan, number: u32) -> Result<
 }
 
 /// Four such tables. Refused with `NoMemory` (1) alone.
-fn open_frames<S: FarTickets>(alloc: Global, plan: &Plan) -> Result<Frames<S>, Refusal>
+fn open_frames<S: FarTickets>(alloc: Global, plan: &Plan) -> Result<Four<Frame<S>>, Refusal>
     ensures zero { IfOk result (λ frames. IsEmpty S.is_of plan.now frames.zero) }
     ensures one { IfOk result (λ frames. IsEmpty S.is_of plan.now frames.one) }
     ensures two { IfOk result (λ frames. IsEmpty S.is_of plan.now frames.two) }
     ensures three { IfOk result (λ frames. IsEmpty S.is_of plan.now frames.three) }
     ensures memory { IfErr result (λ e. e ≡ Refusal.NoMemory) }
 {
-    let zero = open_frame(alloc, plan, 0)?;
-    let one = open_frame(alloc, plan, 1)?;
-    let two = open_frame(alloc, plan, 2)?;
-    let three = open_frame(alloc, plan, 3)?;
-    Ok(Frames {
-        zero,
-        one,
-        two,
-        three,
-    })
+    all_four(
+        open_frame(alloc, plan, 0),
+        open_frame(alloc, plan, 1),
+        open_frame(alloc, plan, 2),
+        open_frame(alloc, plan, 3),
+    )
 }
 
 /// An empty table under its lock, beside what keeps its empty history.
@@ -88,6 +107,40 @@ fn under_lock<N: Naming, B: Site, S: FarTickets, const I: usize>(
     RwLock::new(Stripe { frame, keeper })
 }
 
+/// Four empty tables under their locks, each beside what keeps its empty history, and the cells.
+fn share<N: Naming, B: Site, S: FarTickets>(
+    alloc: Global,
+    sessions: u64,
+    frames: Four<Frame<S>>,
+    cells: Cells<N, B>,
+    keepers: Keepers<N, B>,
+) -> Shared<N, B, S>
+    requires zero { IsEmpty S.is_of N.plan frames.zero × (keepers.zero ≡ []) }
+    requires one { IsEmpty S.is_of N.plan frames.one × (keepers.one ≡ []) }
+    requires two { IsEmpty S.is_of N.plan frames.two × (keepers.two ≡ []) }
+    requires three { IsEmpty S.is_of N.plan frames.three × (keepers.three ≡ []) }
+    requires sessions { sessions ≡ N.plan.sessions }
+{
+    let Keepers {
+        zero,
+        one,
+        two,
+        three,
+    } = keepers;
+    Shared {
+        alloc,
+        zero: under_lock(frames.zero, zero),
+        one: under_lock(frames.one, one),
+        two: under_lock(frames.two, two),
+        three: under_lock(frames.three, three),
+        cells,
+        count: Count {
+            sessions,
+            of: PhantomData,
+        },
+    }
+}
+
 impl Plan {
     /// Makes the four tables, each with the gauge as its aggregate 0, and the four cells. Refused with `NoMemory` (1) alone; what was
     /// made is then dropped.
@@ -95,8 +148,12 @@ impl Plan {
         requires { self ≡ N.plan }
         ensures memory { IfErr result (λ e. e ≡ Refusal.NoMemory) }
     {
-        let frames = open_frames(alloc, &self)?;
-        let cells = far_sessions::Made::<N>::make(alloc)?;
+        let Ok(frames) = open_frames(alloc, &self) else {
+            return Err(Refusal::NoMemory);
+        };
+        let Ok(cells) = far_sessions::Made::<N>::make(alloc) else {
+            return Err(Refusal::NoMemory);
+        };
         Ok(Made {
             sessions: self.sessions,
             cells,
@@ -120,29 +177,15 @@ impl<N: Naming, S: FarTickets> Made<N, S> {
             cells,
             frames,
         } = self;
+        let Ok(opened) = cells.open::<B>(alloc, count) else {
+            return Err(Refusal::NoMemory);
+        };
         let Opened {
             keepers,
             cells,
             sessions,
-        } = cells.open::<B>(alloc, count)?;
-        let Keepers {
-            zero,
-            one,
-            two,
-            three,
-        } = keepers;
-        let shared = Shared {
-            alloc,
-            count: Count {
-                sessions: count,
-                of: PhantomData,
-            },
-            cells,
-            zero: under_lock(frames.zero, zero),
-            one: under_lock(frames.one, one),
-            two: under_lock(frames.two, two),
-            three: under_lock(frames.three, three),
-        };
+        } = opened;
+        let shared = share(alloc, count, frames, cells, keepers);
         Ok((shared, sessions))
     }
 }
