@@ -1,8 +1,9 @@
 -- Row groups that are built in change no row, and how that is refused.
-use Rattle.std.proofs.Common.{◌≡◌, ◌≢◌, ℕ, zero, suc, ◌+◌, Bool, true, false, not, List, [], ◌∷◌, ap, sym, ◌∙◌, subst, refl, Option, None, Some, IsSomeAnd, Result, IfOk, IfErr}
+use Rattle.std.proofs.Common.{◌≡◌, ◌≢◌, ℕ, zero, suc, ◌+◌, Bool, true, false, not, List, [], ◌∷◌, length, ap, sym, ◌∙◌, subst, refl, Option, None, Some, IsSomeAnd, Result, IfOk, IfErr}
 use Rattle.std.specs.declared.result.Result.TheVariants.{Ok, Err}
 use Rattle.std.specs.Prelude.{slice_get, slice_set, nat_lt}
 use Rattle.std.specs.List.{AllByRecursion}
+use Rattle.std.proofs.lemmas.List.{length-set}
 use Rattle.far_types.specs.declared.refusal.Refusal.{Refusal}
 use Rattle.far_types.specs.declared.refusal.Refusal.TheVariants as refusal
 use Rattle.far_types.specs.declared.spec.Spec.{Spec}
@@ -29,6 +30,7 @@ same-keeps old new e = record {
   limits = ap (λ (t : Table). t.limits) e;
   places = ap (λ (t : Table). t.places) e;
   edits = ap (λ (t : Table). t.edits) e;
+  aggregates = ap (λ (t : Table). length t.aggregates) e;
   built = λ a none. ap (λ (t : Table). aggregate_at t a) e;
 }
 
@@ -51,6 +53,7 @@ scanned-keeps t b g h = record {
   limits = refl;
   places = refl;
   edits = refl;
+  aggregates = length-set t.aggregates b _;
   built = λ a none. ap joined (get-set_other t.aggregates b a _ (λ e. some-left (aggregate_at t b) g h (ap (λ n. left_in (aggregate_at t n)) (sym e) ∙ none)));
 }
 

@@ -1,5 +1,10 @@
+pub mod Applying
+pub mod Asking
+pub mod Closing
 pub mod Fours
 pub mod Lines
+pub mod Opening
 pub mod Plans
 pub mod Stripes
+pub mod Watching
 pub mod Works

@@ -1,5 +1,5 @@
 -- What lies under the lock of a stripe.
-use Rattle.std.specs.Prelude.{◌≡◌, List, [], Some}
+use Rattle.std.specs.Prelude.{◌≡◌, List, [], length, Some}
 use Rattle.far_types.specs.declared.spec.Spec.{Spec}
 use Rattle.far_types.specs.Table.{Table, Registered}
 use Rattle.far_table.specs.Watching.{aggregate_at}
@@ -19,4 +19,5 @@ pub record IsStripe (p : Planned) (log : List Entry) (table : Table) : Type 0 wh
   pub limits : table.limits ≡ p.limits
   pub places : table.places ≡ (replay p log).places
   pub edits : table.edits ≡ (replay p log).edits
+  pub aggregates : length table.aggregates ≡ 32
   pub gauge : aggregate_at table 0 ≡ Some (first_registered p.gauge)

@@ -1,20 +1,29 @@
 #![tactic(auto)]
-//! Tables that threads share. What stands is the plan of one, the answers over its four tables, and what is done in the background
-//! under their locks; its opening and its edits are to come.
+//! Tables that threads share: four of them, each under a lock with what keeps its history, and a cell beside each. Beside their edits and
+//! what they are asked, work is done in the background under their locks.
 
+pub mod asking;
+pub mod background;
+pub mod closing;
+mod editing;
 pub mod four;
 mod locked;
 mod merging;
+pub mod opening;
 pub mod plan;
 pub mod shared;
 mod shared_work;
 pub mod stripe;
 mod stripe_work;
+pub mod watching;
 pub mod work;
 mod working;
 
+pub use asking::Scope;
+pub use background::Background;
 pub use four::answer_four;
+pub use opening::{Four, Made};
 pub use plan::Plan;
 pub use shared::Shared;
-pub use stripe::{Site, Stripe};
+pub use stripe::{Applied, Site, Stripe};
 pub use work::{Building, Report, Work};

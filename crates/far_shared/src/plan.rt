@@ -10,10 +10,10 @@ use std::marker::Model;
 /// use it. Contracts see these four.
 #[derive(Drop)]
 pub struct Plan {
-    schema: Schema,
-    limits: Limits,
-    gauge: Spec,
-    sessions: u64,
+    pub(crate) schema: Schema,
+    pub(crate) limits: Limits,
+    pub(crate) gauge: Spec,
+    pub(crate) sessions: u64,
 }
 
 impl Model for Plan {

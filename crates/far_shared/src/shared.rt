@@ -1,12 +1,28 @@
-// Four tables under locks.
-use crate::stripe::{Site, Stripe};
-use far_history::Naming;
-use far_sessions::Cells;
-use far_store::FarTickets;
-use std::alloc::Global;
-use std::sync::RwLock;
+// Four stripes that threads share.
+ghost use Rattle.std.specs.Prelude.{◌≡◌, ◌≢◌, ◌<◌, ◌≤◌, ℕ, IfOk, IfErr, OnOk};
+ghost use Rattle.far_sessions.specs.Known.{at};
+ghost use Rattle.far_shared.specs.Applying.{Extends, IsRefused};
 
-/// Tables that threads share: four stripes, each a table under its lock, and the cells beside them.
+use crate::stripe::{Applied, Site, Stripe};
+use far_history::Naming;
+use far_sessions::{Cells, Counter, Place, Session};
+use far_store::FarTickets;
+use far_types::{Edit, Refusal};
+use std::alloc::Global;
+use std::marker::PhantomData;
+use std::sync::{RwLock, Wait};
+
+/// How many sessions a shared table has.
+#[derive(Drop)]
+pub(crate) struct Count<N: Naming> {
+    pub(crate) sessions: u64,
+    pub(crate) of: PhantomData<N>,
+    ghost is: { sessions ≡ N.plan.sessions },
+}
+
+/// Four stripes, each a table under its lock, and the cells beside them. Session s has the home stripe s mod 4, and may use all.
+///
+/// A session is used with the shared table that made it: its type says which.
 #[derive(Drop)]
 pub struct Shared<N: Naming, B: Site, S: FarTickets> {
     pub(crate) alloc: Global,
@@ -15,4 +31,54 @@ pub struct Shared<N: Naming, B: Site, S: FarTickets> {
     pub(crate) two: RwLock<Stripe<N, B, S, 2>>,
     pub(crate) three: RwLock<Stripe<N, B, S, 3>>,
     pub(crate) cells: Cells<N, B>,
+    pub(crate) count: Count<N>,
+}
+
+/// Makes an edit on the stripe under this lock.
+fn apply_under<N: Naming, B: Site, S: FarTickets, const I: usize, R: Wait>(
+    rt: &R,
+    lock: &RwLock<Stripe<N, B, S, I>>,
+    counter: &Counter<N, B, I>,
+    me: &mut Place<B, I>,
+    edit: Edit,
+) -> Result<Applied, Refusal>
+    ensures ok { IfOk result (Extends N.plan me.old edit me.new) }
+    ensures refused { IfErr result (IsRefused N.plan me.old edit me.new) }
+{
+    lock.write(rt).apply(rt, counter, me, edit)
+}
+
+impl<N: Naming, B: Site, S: FarTickets> Shared<N, B, S> {
+    /// The four cells, and no lock.
+    pub fn cells(&self) -> &Cells<N, B> {
+        &self.cells
+    }
+
+    /// Makes an edit on a stripe, as this session, under the stripe's write lock. The session has then seen the stripe's history
+    /// up to the edit; at the other stripes it stays as it was.
+    ///
+    /// Refused with `OutOfRange` (14) where there is no such stripe; the session is then as it was. Else refused as `Frame`'s call of
+    /// the edit is, and the session has then seen the history so far.
+    pub fn apply<R: Wait>(
+        &self,
+        rt: &R,
+        me: &mut Session<B>,
+        stripe: u32,
+        edit: Edit,
+    ) -> Result<Applied, Refusal>
+        ensures stripe { OnOk result (stripe < 4) }
+        ensures ok { IfOk result (Extends N.plan (at me.old stripe) edit (at me.new stripe)) }
+        ensures refused { IfErr result (λ e. stripe < 4 → IsRefused N.plan (at me.old stripe) edit (at me.new stripe) e) }
+        ensures unknown { IfErr result (λ e. 4 ≤ stripe → (e ≡ Refusal.OutOfRange) × (me.new ≡ me.old)) }
+        ensures others { (k : ℕ) → k < 4 → k ≢ stripe → at me.new k ≡ at me.old k }
+    {
+        let cells = &self.cells;
+        match stripe {
+            0 => apply_under(rt, &self.zero, cells.zero(), &mut me.zero, edit),
+            1 => apply_under(rt, &self.one, cells.one(), &mut me.one, edit),
+            2 => apply_under(rt, &self.two, cells.two(), &mut me.two, edit),
+            3 => apply_under(rt, &self.three, cells.three(), &mut me.three, edit),
+            _ => Err(Refusal::OutOfRange),
+        }
+    }
 }

@@ -1,9 +1,19 @@
 // What lies under the lock of a stripe.
+ghost use Rattle.std.specs.Prelude.{◌≡◌, ◌++◌, ◌∷◌, [], length, IfOk, IfErr, OnOk, OnErr};
+ghost use mathlib.Core.List.{IsPrefix};
+ghost use Rattle.far_history.specs.Histories.{replay, by_session, IsLegal};
+ghost use Rattle.far_history.specs.Rule.{entry};
+ghost use Rattle.far_shared.specs.Applying.{place_of, WhyNot, Extends, IsRefused};
+
+use crate::editing::change;
 use far_frame::Frame;
 use far_history::Naming;
-use far_sessions::{Keeper, Rooms};
+use far_sessions::{Counter, Keeper, Place, Rooms};
 use far_store::FarTickets;
+use far_types::{Edit, Refusal};
 use std::marker::{Brand, Model};
+use std::snapshot::Snapshot;
+use std::sync::Wait;
 
 /// Names the store to which the objects of four tables go, beside their cells.
 pub trait Site: Rooms {
@@ -16,6 +26,15 @@ impl Site for Brand {
     ghost use Rattle.std.specs.Prelude.{[]};
 
     ghost store = { [] };
+}
+
+/// What an accepted edit tells.
+#[derive(Clone, Copy, Debug, PartialEq, Eq)]
+pub struct Applied {
+    /// How many edits the stripe has accepted then, this one included.
+    pub number: u64,
+    /// The place of the row that was appended, or the one that the edit names.
+    pub place: u32,
 }
 
 /// A table and what keeps its history. It lies under the lock of stripe I.
@@ -38,4 +57,35 @@ impl<N: Naming, B: Site, S: FarTickets, const I: usize> Model for Stripe<N, B, S
     ghost view = { λ s. s.keeper };
 
     ghost invariant = { λ s. IsStripe N.plan s.keeper s.frame.table × AreAt S.is_of B.store s.frame.rows };
+}
+
+impl<N: Naming, B: Site, S: FarTickets, const I: usize> Stripe<N, B, S, I> {
+    /// Makes an edit, as the session of this place. Refused as `Frame`'s call of that edit is.
+    pub fn apply<R: Wait>(
+        &mut self,
+        rt: &R,
+        counter: &Counter<N, B, I>,
+        me: &mut Place<B, I>,
+        edit: Edit,
+    ) -> Result<Applied, Refusal>
+        ensures prefix { IsPrefix me.old.seen self.old }
+        ensures by { me.new.by ≡ me.old.by }
+        ensures own { by_session me.new.by me.new.seen ≡ me.new.mine }
+        ensures legal { IsLegal N.plan me.new.seen }
+        ensures whole { me.new.seen ≡ self.new }
+        ensures ok { OnOk result ((self.new ≡ self.old ++ entry me.old.by edit ∷ []) × (me.new.mine ≡ me.old.mine ++ entry me.old.by edit ∷ [])) }
+        ensures number { IfOk result (λ applied. applied.number ≡ length self.new) }
+        ensures place { IfOk result (λ applied. applied.place ≡ place_of (replay N.plan self.old) edit) }
+        ensures refused { OnErr result ((self.new ≡ self.old) × (me.new.mine ≡ me.old.mine)) }
+        ensures why { IfErr result (WhyNot (replay N.plan self.old) edit) }
+    {
+        let before = self.keeper.look(rt, counter, me);
+        let told = Snapshot::of(&edit);
+        let changed = change::<N, S>(&mut self.frame, before.edits, edit)?;
+        self.keeper.add(rt, counter, me, changed.after, told);
+        Ok(Applied {
+            number: changed.after.edits,
+            place: changed.place,
+        })
+    }
 }

@@ -1,0 +1,65 @@
+-- Why the plain table refuses an edit that a table over objects refuses.
+use Rattle.std.proofs.Common.{◌≡◌, ◌⊎◌, inl, inr, ℕ, ◌+◌, Bool, true, false, List, [], ◌∷◌, ◌++◌, Option, None, Some, refl, sym, subst, ◌∙◌}
+use Rattle.std.specs.Prelude.{length, Result, IfOk, IfErr, OnOk, OnErr}
+use Rattle.std.specs.declared.result.Result.TheVariants.{Ok, Err}
+use Rattle.far_types.specs.declared.cell.Cell.{Cell}
+use Rattle.far_types.specs.declared.edit.Edit.{Edit}
+use Rattle.far_types.specs.declared.edit.Edit.TheVariants as edit
+use Rattle.far_types.specs.declared.refusal.Refusal.{Refusal}
+use Rattle.far_types.specs.declared.refusal.Refusal.TheVariants as refusal
+use Rattle.far_types.specs.Edits.{edited, edit_faults, edit_refusal}
+use Rattle.far_types.specs.Table.{Table}
+use Rattle.far_types.specs.FirstOf.{first_of}
+use Rattle.far_types.specs.MayRefuse.{MayRefuse}
+use Rattle.far_rows.specs.declared.slot.Slot.{Slot}
+use Rattle.far_rows.specs.Rows.{Rows}
+use Rattle.far_rows.specs.Refusing.{absents, absents_from}
+use Rattle.far_table.specs.Edits.{edit_due, group_of, no_room}
+use Rattle.far_table.specs.State.{State}
+use Rattle.far_frame.specs.Changes.{Accepts, Refuses}
+use Rattle.far_frame.specs.State.{State as Whole, live}
+use Rattle.far_frame.specs.declared.step.Reply.{Reply}
+use Rattle.far_frame.specs.declared.step.Reply.TheVariants as reply
+use Rattle.far_frame.specs.declared.step.Step.TheVariants as step
+use Rattle.far_shared.specs.Applying.{IsOfObjects, WhyNot, place_of}
+use Rattle.far_shared.proofs.FirstLaws.{AllTell, free-plain, found-plain}
+
+absents-tell : {K : Type 0} (r : Rows K) (g n : ℕ) (slots : List Slot) → AllTell IsOfObjects (absents_from r g n slots)
+absents-tell r g n [] = tt
+absents-tell r g n (s ∷ slots) = (tt, absents-tell r g (n + 1) slots)
+
+module _ {K : Type 0} (s : State K) where
+  room-tells : (e : Edit) → AllTell IsOfObjects (no_room s e)
+  room-tells (edit.Insert row) = (tt, (tt, tt))
+  room-tells (edit.Set p c cell) = (tt, tt)
+  room-tells (edit.Remove p) = tt
+
+  -- what a table over objects accepts, the plain table accepts
+  pub plain-accepts : (e : Edit) → edit_due s e ≡ None → edit_refusal s.table e ≡ None
+  plain-accepts e free = free-plain (edit_faults s.table.schema s.table.limits s.table.places e) (absents s.rows (group_of s e)) (no_room s e) _ _ free
+
+  pub plain-refuses : (e : Edit) (given : Refusal) → MayRefuse (edit_due s e) true given → WhyNot s.table e given
+  plain-refuses e given may = by (edit_due s e) refl may
+    where
+      by : (due : Option Refusal) → edit_due s e ≡ due → MayRefuse due true given → WhyNot s.table e given
+      by None is may = inr (inr (plain-accepts e is, may.0))
+      by (Some due) is may =
+          let found : edit_due s e ≡ Some given = rw may is in
+          told (found-plain IsOfObjects (edit_faults s.table.schema s.table.limits s.table.places e) (absents s.rows (group_of s e)) (no_room s e) _ _ given (absents-tell s.rows (group_of s e) 0 s.rows.slots) (room-tells e) found)
+        where
+          told : (edit_refusal s.table e ≡ Some given) ⊎ ((first_of (edit_faults s.table.schema s.table.limits s.table.places e) ≡ None) × IsOfObjects given) → WhyNot s.table e given
+          told (inl plain) = inl plain
+          told (inr objects) = inr (inl objects)
+
+module _ {K : Type 0} (content : K → List ℕ) (old new : Whole K) where
+  pub made-free : (e : Edit) (given : Reply) → Accepts content old (step.Edit e) given new → edit_refusal old.table e ≡ None
+  made-free e given h = plain-accepts (live old) e h.1.changed.due
+
+  pub made-table : (e : Edit) (given : Reply) → Accepts content old (step.Edit e) given new → new.table ≡ edited e old.table
+  made-table e given h = h.1.changed.table
+
+  pub made-place : (row : List Cell) (place : ℕ) → Accepts content old (step.Edit (edit.Insert row)) (reply.Place place) new → place ≡ length old.table.places
+  made-place row place h = (let is : reply.Place place ≡ reply.Place (length old.table.places) = h.0 in cc)
+
+  pub made-refused : (e : Edit) (given : Refusal) → Refuses old (step.Edit e) given new → WhyNot old.table e given
+  made-refused e given h = plain-refuses (live old) e given h.1

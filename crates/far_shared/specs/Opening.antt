@@ -1,0 +1,23 @@
+-- What a shared table begins with.
+use Rattle.std.specs.Prelude.{◌≡◌, ℕ, List, []}
+use Rattle.atomic_table.specs.Seated.{TableId}
+use Rattle.far_rows.specs.Jobs.{AreAt}
+use Rattle.far_frame.specs.State.{State}
+use Rattle.far_history.specs.Histories.{Planned}
+use Rattle.far_shared.specs.Stripes.{IsStripe}
+
+-- the cells of the four stripes
+pub record CellIds : Type 0 where
+  pub zeroth : TableId
+  pub first : TableId
+  pub second : TableId
+  pub third : TableId
+
+-- the four cells have these names
+abbrev pub AreNamed : CellIds → (ℕ → TableId) → Type 0
+AreNamed ids names = (ids.zeroth ≡ names 0) × (ids.first ≡ names 1) × (ids.second ≡ names 2) × (ids.third ≡ names 3)
+
+-- the table of an empty history, with its gauge. It has no tickets, so they are all of any store
+pub record IsEmpty {K : Type 0} (is_of : K → List ℕ → Type 0) (p : Planned) (s : State K) : Type 0 where
+  pub stripe : IsStripe p [] s.table
+  pub here : (name : List ℕ) → AreAt is_of name s.rows

@@ -1,0 +1,103 @@
+// What the four stripes are asked together, and how one is read.
+ghost use Rattle.std.specs.Prelude.{◌≡◌, ◌<◌, ◌≤◌, IfOk, IfErr, OnOk};
+ghost use Rattle.far_shared.specs.Asking.{IsAnswer, IsAskRefusal, IsLeft};
+
+use crate::four::answer_four;
+use crate::shared::Shared;
+use crate::stripe::{Site, Stripe};
+use far_frame::View;
+use far_history::Naming;
+use far_store::FarTickets;
+use far_types::{Answer, Refusal};
+use std::alloc::Global;
+use std::sync::{RwLockReadGuard, Wait};
+
+/// A stripe under its read lock. No edit, and no movement of an object, is made there while it is held.
+#[derive(Drop)]
+pub enum Scope<'a, N: Naming, B: Site, S: FarTickets> {
+    /// Stripe 0.
+    Zero(RwLockReadGuard<'a, Stripe<N, B, S, 0>>),
+    /// Stripe 1.
+    One(RwLockReadGuard<'a, Stripe<N, B, S, 1>>),
+    /// Stripe 2.
+    Two(RwLockReadGuard<'a, Stripe<N, B, S, 2>>),
+    /// Stripe 3.
+    Three(RwLockReadGuard<'a, Stripe<N, B, S, 3>>),
+}
+
+impl<N: Naming, B: Site, S: FarTickets, const I: usize> Stripe<N, B, S, I> {
+    /// The rows, lent in place. They are what a legal history leaves.
+    fn view(&self) -> View<'_, S>
+        ensures { IsLeft N.plan result.table }
+    {
+        self.keeper.known();
+        self.frame.scope()
+    }
+}
+
+impl<'a, N: Naming, B: Site, S: FarTickets> Scope<'a, N, B, S> {
+    /// The rows of the stripe, lent in place. They are what a legal history leaves.
+    pub fn view(&self) -> View<'_, S>
+        ensures { IsLeft N.plan result.table }
+    {
+        match self {
+            Scope::Zero(stripe) => stripe.view(),
+            Scope::One(stripe) => stripe.view(),
+            Scope::Two(stripe) => stripe.view(),
+            Scope::Three(stripe) => stripe.view(),
+        }
+    }
+}
+
+/// What an aggregate answers over the rows of four stripes.
+fn answer_stripes<N: Naming, B: Site, S: FarTickets>(
+    alloc: Global,
+    zero: &Stripe<N, B, S, 0>,
+    one: &Stripe<N, B, S, 1>,
+    two: &Stripe<N, B, S, 2>,
+    three: &Stripe<N, B, S, 3>,
+    a: u32,
+) -> Result<Answer, Refusal>
+    ensures answer { IfOk result (IsAnswer N.plan a) }
+    ensures refused { IfErr result IsAskRefusal }
+    ensures gauge { a ≡ 0 → IfErr result (λ e. e ≡ Refusal.NoMemory) }
+{
+    zero.keeper.known();
+    one.keeper.known();
+    two.keeper.known();
+    three.keeper.known();
+    answer_four(alloc, &zero.frame, &one.frame, &two.frame, &three.frame, a)
+}
+
+impl<N: Naming, B: Site, S: FarTickets> Shared<N, B, S> {
+    /// A stripe under its read lock. Refused with `OutOfRange` (14) exactly where there is no such stripe.
+    pub fn scope<R: Wait>(&self, rt: &R, stripe: u32) -> Result<Scope<'_, N, B, S>, Refusal>
+        ensures ok { OnOk result (stripe < 4) }
+        ensures refused { IfErr result (λ e. (e ≡ Refusal.OutOfRange) × (4 ≤ stripe)) }
+    {
+        match stripe {
+            0 => Ok(Scope::Zero(self.zero.read(rt))),
+            1 => Ok(Scope::One(self.one.read(rt))),
+            2 => Ok(Scope::Two(self.two.read(rt))),
+            3 => Ok(Scope::Three(self.three.read(rt))),
+            _ => Err(Refusal::OutOfRange),
+        }
+    }
+
+    /// What an aggregate that the four stripes have under one number answers over the rows of the four, one stripe after the other.
+    /// Holds all four read locks.
+    ///
+    /// Refused with `NoAggregate` (12), `Building` (15) and `NoMemory` (1), as `answer_four` is; the gauge, whose number is 0, with
+    /// `NoMemory` alone.
+    pub fn ask_all<R: Wait>(&self, rt: &R, a: u32) -> Result<Answer, Refusal>
+        ensures answer { IfOk result (IsAnswer N.plan a) }
+        ensures refused { IfErr result IsAskRefusal }
+        ensures gauge { a ≡ 0 → IfErr result (λ e. e ≡ Refusal.NoMemory) }
+    {
+        let zero = self.zero.read(rt);
+        let one = self.one.read(rt);
+        let two = self.two.read(rt);
+        let three = self.three.read(rt);
+        answer_stripes(self.alloc, &zero, &one, &two, &three, a)
+    }
+}

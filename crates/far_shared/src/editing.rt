@@ -1,0 +1,81 @@
+// Edits of the table of a stripe, and what its gauge reads then.
+ghost use Rattle.std.specs.Prelude.{◌≡◌, ◌+◌, ◌<◌, ◌^◌, ℕ, List, Some, None, IfOk, IfErr, OnOk, OnErr};
+ghost use Rattle.far_types.specs.Edits.{edited, edit_refusal};
+ghost use Rattle.far_rows.specs.Jobs.{AreAt};
+ghost use Rattle.far_table.specs.Watching.{aggregate_at};
+ghost use Rattle.far_history.specs.Histories.{folded};
+ghost use Rattle.far_shared.specs.Applying.{place_of, WhyNot};
+ghost use Rattle.far_shared.specs.Plans.{IsPlan};
+ghost use Rattle.far_shared.specs.Stripes.{first_registered};
+
+use far_frame::Frame;
+use far_history::{Naming, Reading};
+use far_store::FarTickets;
+use far_types::{Edit, Refusal};
+
+/// What an accepted edit leaves: the place of the row that it appended, or the one that it names, and what the gauge reads then.
+#[derive(Drop)]
+pub(crate) struct Changed {
+    pub(crate) place: u32,
+    pub(crate) after: Reading,
+}
+
+/// Makes an edit. Gives the place of the row that it appends, or the one that it names.
+fn make<S: FarTickets>(frame: &mut Frame<S>, edit: Edit) -> Result<u32, Refusal>
+    ensures may { OnOk result (edit_refusal frame.old.table edit ≡ None) }
+    ensures made { OnOk result (frame.new.table ≡ edited edit frame.old.table) }
+    ensures place { IfOk result (λ place. place ≡ place_of frame.old.table edit) }
+    ensures refused { IfErr result (WhyNot frame.old.table edit) }
+    ensures err { OnErr result (frame.new ≡ frame.old) }
+    ensures here { (name : List ℕ) → AreAt S.is_of name frame.old.rows → AreAt S.is_of name frame.new.rows }
+{
+    match edit {
+        Edit::Insert(row) => frame.insert(row),
+        Edit::Set {
+            place,
+            column,
+            cell,
+        } => {
+            frame.set(place, column, cell)?;
+            Ok(place)
+        }
+        Edit::Remove(place) => {
+            frame.remove(place)?;
+            Ok(place)
+        }
+    }
+}
+
+/// What the gauge of a table reads after so many edits.
+fn gauged<N: Naming, S: FarTickets>(frame: &Frame<S>, edits: u64) -> Reading
+    requires plan { IsPlan N.plan }
+    requires gauge { aggregate_at frame.now.table 0 ≡ Some (first_registered N.plan.gauge) }
+    ensures { result ≡ record { edits = edits; count = (folded N.plan.gauge frame.now.table.places).0; sum = (folded N.plan.gauge frame.now.table.places).1 } }
+{
+    let Some((count, sum)) = frame.plain(0) else {
+        unreachable!()
+    };
+    Reading { edits, count, sum }
+}
+
+/// Makes an edit after so many others.
+pub(crate) fn change<N: Naming, S: FarTickets>(
+    frame: &mut Frame<S>,
+    edits: u64,
+    edit: Edit,
+) -> Result<Changed, Refusal>
+    requires plan { IsPlan N.plan }
+    requires gauge { aggregate_at frame.old.table 0 ≡ Some (first_registered N.plan.gauge) }
+    requires few { edits < 2 ^ 63 }
+    ensures may { OnOk result (edit_refusal frame.old.table edit ≡ None) }
+    ensures made { OnOk result (frame.new.table ≡ edited edit frame.old.table) }
+    ensures place { IfOk result (λ changed. changed.place ≡ place_of frame.old.table edit) }
+    ensures after { IfOk result (λ changed. changed.after ≡ record { edits = edits + 1; count = (folded N.plan.gauge frame.new.table.places).0; sum = (folded N.plan.gauge frame.new.table.places).1 }) }
+    ensures refused { IfErr result (WhyNot frame.old.table edit) }
+    ensures err { OnErr result (frame.new ≡ frame.old) }
+    ensures here { (name : List ℕ) → AreAt S.is_of name frame.old.rows → AreAt S.is_of name frame.new.rows }
+{
+    let place = make(frame, edit)?;
+    let after = gauged::<N, S>(frame, edits + 1);
+    Ok(Changed { place, after })
+}
