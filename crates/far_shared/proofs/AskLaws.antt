@@ -1,5 +1,5 @@
 -- What four stripes answer together.
-use Rattle.std.proofs.Common.{◌≡◌, ◌≢◌, ◌⊎◌, inl, inr, ℕ, ◌+◌, List, Option, None, Some, IfSome, IfOk, IfErr, OnOk, Result, refl, sym, ap, subst, ◌∙◌}
+use Rattle.std.proofs.Common.{◌≡◌, inl, inr, ℕ, List, Option, Some, IfSome, IfOk, IfErr, OnOk, Result, refl, sym, ap, subst, ◌∙◌}
 use Rattle.std.specs.Prelude.{option_map}
 use Rattle.std.specs.declared.result.Result.TheVariants.{Ok, Err}
 use Rattle.far_types.specs.declared.answer.Answer.{Answer}
@@ -7,13 +7,12 @@ use Rattle.far_types.specs.declared.refusal.Refusal.{Refusal}
 use Rattle.far_types.specs.declared.refusal.Refusal.TheVariants as refusal
 use Rattle.far_types.specs.declared.spec.Spec.{Spec}
 use Rattle.far_types.specs.Answers.{answer_over}
-use Rattle.far_types.specs.Table.{Place, Table, Registered, rows_of}
-use Rattle.far_table.specs.Watching.{aggregate_at}
+use Rattle.far_types.specs.Table.{Table, Registered}
 use Rattle.far_history.specs.Histories.{Planned, IsLegal, replay}
 use Rattle.far_history.specs.declared.view.Entry.{Entry}
 use Rattle.far_shared.specs.Asking.{IsAnswer, IsAskRefusal}
-use Rattle.far_shared.specs.Fours.{AreLike, AreAlike, FourRefusal, LeftRefusal, all_rows, left_in, left_in_all, spec_at}
-use Rattle.far_shared.specs.Stripes.{IsStripe, first_registered}
+use Rattle.far_shared.specs.Fours.{AreLike, AreAlike, FourRefusal, all_rows, left_in_all, spec_at}
+use Rattle.far_shared.specs.Stripes.{IsStripe}
 use Rattle.far_shared.proofs.NumberLaws.{if-err}
 
 -- what is told of four tables that do not answer

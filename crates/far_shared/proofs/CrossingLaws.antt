@@ -113,6 +113,6 @@ module _ (N B S T : RattleType) (b : Cellars B.Denot) (n : Names N.Denot) (at : 
   lock_sync : (I : RattleType) → IsSend T → IsSync T → IsSync (lock.the_field (stripe.the_row N B S I T n at b g)).row
   lock_sync I s t = locked.the_field_sync (stripe.the_row N B S I T n at b g) (stripe_send I s) (stripe_sync I t)
 
-  pub shared_sync : IsSend T → IsSync T → IsSync (shared.the_row N B S T b n at g)
-  shared_sync s t = struct_syncs (shared.the_type N B S T b n at g)
+  pub shared_sync : IsSend T → IsSync T → IsSync (shared.the_row N B S T n b at g)
+  shared_sync s t = struct_syncs (shared.the_type N B S T n b at g)
       (global.the_field_sync, (lock_sync (number 0) s t, (lock_sync (number 1) s t, (lock_sync (number 2) s t, (lock_sync (number 3) s t, (cells.the_field_sync N B b n, (count.the_field_sync N n, tt)))))))

@@ -1,14 +1,11 @@
 -- Why the plain table refuses an edit that a table over objects refuses.
-use Rattle.std.proofs.Common.{◌≡◌, ◌⊎◌, inl, inr, ℕ, ◌+◌, Bool, true, false, List, [], ◌∷◌, ◌++◌, Option, None, Some, refl, sym, subst, ◌∙◌}
-use Rattle.std.specs.Prelude.{length, Result, IfOk, IfErr, OnOk, OnErr}
-use Rattle.std.specs.declared.result.Result.TheVariants.{Ok, Err}
+use Rattle.std.proofs.Common.{◌≡◌, ◌⊎◌, inl, inr, ℕ, ◌+◌, true, List, [], ◌∷◌, Option, None, Some, refl}
+use Rattle.std.specs.Prelude.{length}
 use Rattle.far_types.specs.declared.cell.Cell.{Cell}
 use Rattle.far_types.specs.declared.edit.Edit.{Edit}
 use Rattle.far_types.specs.declared.edit.Edit.TheVariants as edit
 use Rattle.far_types.specs.declared.refusal.Refusal.{Refusal}
-use Rattle.far_types.specs.declared.refusal.Refusal.TheVariants as refusal
 use Rattle.far_types.specs.Edits.{edited, edit_faults, edit_refusal}
-use Rattle.far_types.specs.Table.{Table}
 use Rattle.far_types.specs.FirstOf.{first_of}
 use Rattle.far_types.specs.MayRefuse.{MayRefuse}
 use Rattle.far_rows.specs.declared.slot.Slot.{Slot}
@@ -21,7 +18,7 @@ use Rattle.far_frame.specs.State.{State as Whole, live}
 use Rattle.far_frame.specs.declared.step.Reply.{Reply}
 use Rattle.far_frame.specs.declared.step.Reply.TheVariants as reply
 use Rattle.far_frame.specs.declared.step.Step.TheVariants as step
-use Rattle.far_shared.specs.Applying.{IsOfObjects, WhyNot, place_of}
+use Rattle.far_shared.specs.Applying.{IsOfObjects, WhyNot}
 use Rattle.far_shared.proofs.FirstLaws.{AllTell, free-plain, found-plain}
 
 absents-tell : {K : Type 0} (r : Rows K) (g n : ℕ) (slots : List Slot) → AllTell IsOfObjects (absents_from r g n slots)

@@ -5,6 +5,7 @@ mod EditLaws
 mod FirstLaws
 mod MergeLaws
 mod NumberLaws
+mod OpenLaws
 mod RegisterLaws
 mod ReportLaws
 mod StripeLaws

@@ -1,5 +1,5 @@
 -- What the table of a stripe shares with the replay of its history.
-use Rattle.std.proofs.Common.{◌≡◌, ℕ, ◌+◌, ◌<◌, ◌≤◌, ◌^◌, Bool, true, false, List, [], ◌∷◌, ◌++◌, length, Option, None, Some, refl, sym, ap, subst, ◌∙◌, arith}
+use Rattle.std.proofs.Common.{◌≡◌, ℕ, ◌+◌, ◌<◌, ◌^◌, Bool, true, false, List, [], ◌∷◌, ◌++◌, length, Option, None, Some, refl, sym, ap, subst, ◌∙◌, arith}
 use Rattle.std.proofs.lemmas.List.{length-append}
 use Rattle.std.specs.Prelude.{ℤ, cond, ◌&&◌, ◌||◌, ◌==◌, nat_lt}
 use Rattle.far_types.specs.declared.edit.Edit.{Edit}
@@ -14,7 +14,6 @@ use Rattle.far_types.specs.Bounds.{spec_refusal}
 use Rattle.far_types.specs.Edits.{edited, edit_refusal, places_after}
 use Rattle.far_types.specs.Table.{Place, Table, empty_table}
 use Rattle.far_aggregates.specs.Readings.{plain_in}
-use Rattle.far_table.specs.Watching.{aggregate_at}
 use Rattle.far_history.specs.declared.reading.Reading.{Reading}
 use Rattle.far_history.specs.declared.view.Entry.{Entry}
 use Rattle.far_history.specs.Histories.{Planned, IsLegal, replay, folded, gauge_of}
@@ -22,7 +21,7 @@ use Rattle.far_history.specs.Rule.{entry}
 use Rattle.far_history.proofs.Histories.{replay_on-push}
 use Rattle.far_history.proofs.Legal.{schema_stays, limits_stay, few_edits}
 use Rattle.far_shared.specs.Applying.{WhyNot, place_of}
-use Rattle.far_shared.specs.Plans.{IsPlan, is_plain, or_else, gauge_refusal, plan_refusal}
+use Rattle.far_shared.specs.Plans.{IsPlan, is_plain, or_else}
 use Rattle.far_shared.specs.Stripes.{IsStripe, first_registered}
 
 alike : (one other : Table) (e : Edit) → one.schema ≡ other.schema → one.limits ≡ other.limits → one.places ≡ other.places → one.edits ≡ other.edits → edit_refusal one e ≡ edit_refusal other e

@@ -1,5 +1,5 @@
 -- What a stripe is once an aggregate was registered or forgotten beside its gauge, or that was refused.
-use Rattle.std.proofs.Common.{◌≡◌, ◌≢◌, ◌⊎◌, inl, inr, ℕ, ◌<◌, List, None, Some, sym, ap, subst, ◌∙◌, Result, IfOk, IfErr, OnOk}
+use Rattle.std.proofs.Common.{◌≡◌, ◌≢◌, inl, inr, ℕ, ◌<◌, List, None, Some, sym, ap, subst, ◌∙◌, Result, IfOk, IfErr, OnOk}
 use Rattle.std.specs.declared.result.Result.TheVariants.{Ok, Err}
 use Rattle.far_types.specs.declared.cell.Kind.{Kind}
 use Rattle.far_types.specs.declared.refusal.Refusal.{Refusal}

@@ -9,7 +9,7 @@ use Rattle.far_types.specs.declared.refusal.Refusal.TheVariants as refusal
 use Rattle.far_types.specs.declared.spec.Spec.{Spec}
 use Rattle.far_types.specs.FirstOf.{first_of}
 use Rattle.far_types.specs.MayRefuse.{MayRefuse}
-use Rattle.far_types.specs.Table.{Table, Registered, left, is_unbuilt}
+use Rattle.far_types.specs.Table.{Table, Registered, is_unbuilt}
 use Rattle.far_aggregates.specs.Aggregates.{is_left, joined}
 use Rattle.far_aggregates.proofs.BuiltLaws.{none_left}
 use Rattle.far_rows.specs.declared.slot.Slot.{Slot}

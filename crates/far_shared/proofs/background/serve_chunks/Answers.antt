@@ -1,7 +1,6 @@
 use denote.Param.{param}
 use Rattle.far_shared.proofs.CrossingLaws.{shared_sync}
-use Rattle.std.proofs.Common.{◌≡◌, ◌+◌, ◌≤◌, ◌<◌, length, sum_by, get_or, arith, rules}
-use Rattle.std.specs.Fork.{slice_chunk}
+use Rattle.std.proofs.Common.{◌≡◌, length, sum_by, arith, rules}
 use Rattle.far_shared.specs.Works.{works_in}
 use Rattle.far_shared.proofs.ReportLaws.{counts-all}
 use Rattle.far_shared.proofs.background.serve_chunks.Goals as goal

@@ -1,7 +1,6 @@
-use Rattle.std.proofs.Common.{◌≡◌, None, rules}
+use Rattle.std.proofs.Common.{rules}
 use Rattle.std.proofs.lemmas.Result.{IfOk-weaker}
 use Rattle.far_types.specs.declared.edit.Edit.TheVariants as edit
-use Rattle.far_types.specs.Edits.{edited, edit_refusal}
 use Rattle.far_frame.specs.declared.step.Reply.TheVariants as reply
 use Rattle.far_shared.proofs.EditLaws.{made-free, made-table, made-place, made-refused}
 use Rattle.far_shared.proofs.NumberLaws.{if-err}

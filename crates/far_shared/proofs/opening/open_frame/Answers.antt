@@ -1,4 +1,4 @@
-use Rattle.std.proofs.Common.{◌≡◌, rules}
+use Rattle.std.proofs.Common.{rules}
 use Rattle.far_history.specs.Histories.{Planned}
 use Rattle.far_shared.proofs.WatchLaws.{opened-empty, opened-refused}
 use Rattle.far_shared.proofs.opening.open_frame.Goals as goal
