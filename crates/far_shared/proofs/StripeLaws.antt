@@ -1,7 +1,7 @@
 -- What the table of a stripe shares with the replay of its history.
 use Rattle.std.proofs.Common.{◌≡◌, ℕ, ◌+◌, ◌<◌, ◌≤◌, ◌^◌, Bool, true, false, List, [], ◌∷◌, ◌++◌, length, Option, None, Some, refl, sym, ap, subst, ◌∙◌, arith}
 use Rattle.std.proofs.lemmas.List.{length-append}
-use Rattle.std.specs.Prelude.{cond, ◌&&◌, ◌||◌, ◌==◌, nat_lt}
+use Rattle.std.specs.Prelude.{ℤ, cond, ◌&&◌, ◌||◌, ◌==◌, nat_lt}
 use Rattle.far_types.specs.declared.edit.Edit.{Edit}
 use Rattle.far_types.specs.declared.edit.Edit.TheVariants as edit
 use Rattle.far_types.specs.declared.refusal.Refusal.{Refusal}
@@ -63,6 +63,16 @@ plain-read spec places plain = by (is_plain spec) plain
     by : (b : Bool) → b ≡ true → cond (b && true) (Some (folded spec places)) None ≡ Some (folded spec places)
     by true is = refl
     by false is = absurd cc
+
+abbrev pub reading : ℕ → ℕ × ℤ → Reading
+reading edits x = record { edits = edits; count = x.0; sum = x.1 }
+
+-- a reader gives one thing
+pub same-read : (read : Option (ℕ × ℤ)) (x y : ℕ × ℤ) → read ≡ Some x → read ≡ Some y → x ≡ y
+same-read read x y one other = (let both : Some x ≡ Some y = sym one ∙ other in cc)
+
+pub reads-as : (edits : ℕ) (x y : ℕ × ℤ) → x ≡ y → reading edits x ≡ reading edits y
+reads-as edits x y same = ap (reading edits) same
 
 module _ (p : Planned) (log : List Entry) (table : Table) (is : IsStripe p log table) where
   -- the table and the replay differ in their aggregates alone

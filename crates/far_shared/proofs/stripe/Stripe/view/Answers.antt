@@ -2,7 +2,7 @@ use Rattle.std.proofs.Common.{sym, ap, subst}
 use Rattle.far_types.specs.Table.{Table}
 use Rattle.far_table.specs.State.{State}
 use Rattle.far_shared.specs.Stripes.{IsStripe}
-use Rattle.far_shared.proofs.asking.Stripe.view.Goals as goal
+use Rattle.far_shared.proofs.stripe.Stripe.view.Goals as goal
 
 pub returns : goal.returns
 returns g c =

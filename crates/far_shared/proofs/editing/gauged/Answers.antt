@@ -1,0 +1,20 @@
+use Rattle.std.proofs.Common.{◌≡◌, Some, ap, ◌∙◌}
+use Rattle.far_aggregates.specs.Readings.{plain_in}
+use Rattle.far_history.specs.Histories.{folded}
+use Rattle.far_shared.proofs.StripeLaws.{plan-plain, plain-read, same-read, reads-as}
+use Rattle.far_shared.proofs.editing.gauged.Goals as goal
+
+pub unreachable-requires : goal.unreachable-requires
+unreachable-requires g c =
+    let p = g.N.Naming.plan in
+    let places = c.args.frame.now.table.places in
+    let read : c.plain.result ≡ Some (folded p.gauge places) = c.plain.ensures ∙ ap (plain_in places) c.requires.gauge ∙ plain-read p.gauge places (plan-plain p c.requires.plan) in
+    let d = c.in_default in
+    ?
+
+pub returns : goal.returns
+returns g c =
+    let p = g.N.Naming.plan in
+    let places = c.args.frame.now.table.places in
+    let read : c.plain.result ≡ Some (folded p.gauge places) = c.plain.ensures ∙ ap (plain_in places) c.requires.gauge ∙ plain-read p.gauge places (plan-plain p c.requires.plan) in
+    reads-as c.args.edits (c.in-Some.count, c.in-Some.sum) (folded p.gauge places) (same-read c.plain.result _ _ c.in-Some.is read)
