@@ -21,9 +21,9 @@ pub const LIMITS: Limits = Limits {
 // The kinds of the columns of a table.
 fn kinds_of(alloc: Global, table: Table) -> Result<Vec<Kind>, AllocError> {
     match table {
-        Table::Numbers => Vec::from_array(alloc, [Kind::Int]),
-        Table::NumbersAboveZero => Vec::from_array(alloc, [Kind::Int]),
-        Table::NumbersWithTexts => Vec::from_array(alloc, [Kind::Int, Kind::Text]),
+        Table::Numbers => Ok(Vec::from_array(alloc, [Kind::Int])?),
+        Table::NumbersAboveZero => Ok(Vec::from_array(alloc, [Kind::Int])?),
+        Table::NumbersWithTexts => Ok(Vec::from_array(alloc, [Kind::Int, Kind::Text])?),
     }
 }
 
@@ -31,7 +31,7 @@ fn kinds_of(alloc: Global, table: Table) -> Result<Vec<Kind>, AllocError> {
 fn tests_of(alloc: Global, table: Table) -> Result<Vec<Test>, AllocError> {
     match table {
         Table::Numbers => Ok(Vec::new(alloc)),
-        Table::NumbersAboveZero => Vec::from_array(alloc, [above_zero()]),
+        Table::NumbersAboveZero => Ok(Vec::from_array(alloc, [above_zero()])?),
         Table::NumbersWithTexts => Ok(Vec::new(alloc)),
     }
 }
