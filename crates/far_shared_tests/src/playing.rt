@@ -26,6 +26,14 @@ pub struct Played<B: Site> {
     pub left: Result<Left, Refusal>,
 }
 
+// What all sessions of a scene have beside the table and its store.
+#[derive(Drop)]
+struct Stage {
+    alloc: Global,
+    bells: Bells,
+    scene: Scene,
+}
+
 // What a call answers, made a second time where the first found no memory.
 fn serve_at_last<N: Naming, B: Site, S: FarStore + Gated, R: Threads + Wait + Sync>(
     rt: &R,
@@ -101,17 +109,15 @@ fn role_of(scene: &Scene, number: u64) -> Role {
 // Plays the role of a session.
 fn play<N: Naming, B: Site, S: FarStore + Gated, R: Threads + Wait + Sync>(
     rt: &R,
-    alloc: Global,
     shared: &Shared<N, B, S>,
     store: &S,
-    bells: &Bells,
+    stage: &Stage,
     mut me: Session<B>,
-    scene: &Scene,
 ) -> Played<B>
     requires store { S.name store.now ≡ B.store }
 {
-    let role = role_of(scene, me.number());
-    let left = play_role(rt, alloc, shared, store, bells, &mut me, role);
+    let role = role_of(&stage.scene, me.number());
+    let left = play_role(rt, stage.alloc, shared, store, &stage.bells, &mut me, role);
     Played { session: me, left }
 }
 
@@ -123,19 +129,16 @@ fn play_all<
     R: Threads + Wait + Sync,
 >(
     rt: &R,
-    alloc: Global,
     shared: &Shared<N, B, S>,
     store: &S,
+    stage: &Stage,
     sessions: Vec<Session<B>>,
-    scene: &Scene,
 ) -> Result<Vec<Played<B>>, AllocError>
     requires store { S.name store.now ≡ B.store }
 {
-    let bells = Bells::new();
-    let both = &bells;
     let play_one = |me: Session<B>| -> Played<B>
         requires { S.name store.now ≡ B.store }
-    { play(rt, alloc, shared, store, both, me, scene) };
+    { play(rt, shared, store, stage, me) };
     thread::map_vec(rt, sessions, &play_one)
 }
 
@@ -155,7 +158,12 @@ pub fn play_scene<
 ) -> Result<bool, Refusal>
     requires store { S.name store.now ≡ B.store }
 {
-    match play_all(rt, alloc, &shared, store, sessions, scene) {
+    let stage = Stage {
+        alloc,
+        bells: Bells::new(),
+        scene: *scene,
+    };
+    match play_all(rt, &shared, store, &stage, sessions) {
         Ok(played) => ends(rt, alloc, shared, played, scene.end),
         Err(_) => Err(Refusal::NoMemory),
     }
