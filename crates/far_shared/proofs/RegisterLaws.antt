@@ -4,8 +4,11 @@ use Rattle.std.specs.Prelude.{◌==◌, ◌/◌, is_none, replicate, slice_get, 
 use Rattle.std.specs.Option.{option_or}
 use Rattle.std.proofs.Math.Nat.{div-eq_of_lt}
 use Rattle.std.proofs.lemmas.List.{length-set}
+use Rattle.std.specs.Prelude.{Result, IfOk, IfErr, OnOk}
+use Rattle.std.specs.declared.result.Result.TheVariants.{Ok, Err}
 use Rattle.far_types.specs.declared.refusal.Refusal.{Refusal}
 use Rattle.far_types.specs.declared.refusal.Refusal.TheVariants as refusal
+use Rattle.far_types.specs.declared.cell.Kind.{Kind}
 use Rattle.far_types.specs.declared.spec.Spec.{Spec}
 use Rattle.far_types.specs.Bounds.{spec_refusal}
 use Rattle.far_types.specs.FirstOf.{first_of}
@@ -72,6 +75,17 @@ module _ (p : Planned) (log : List Entry) (table : Table) (is : IsStripe p log t
           aggregates = with.aggregates;
           gauge = with.gauge;
         }
+
+module _ (p : Planned) (log : List Entry) (table : Table) (is : IsStripe p log table) (kinds : List Kind) (spec : Spec) (same : kinds ≡ table.schema) where
+  -- what is said over the table's schema is said over the plan's
+  pub check-allowed : spec_refusal kinds spec ≡ None → spec_refusal p.schema spec ≡ None
+  check-allowed free = subst (λ schema. spec_refusal schema spec ≡ None) (same ∙ is.schema) free
+
+  pub check-why : (given : Refusal) → spec_refusal kinds spec ≡ Some given → WatchRefusal p.schema spec given
+  check-why given due = inl (subst (λ schema. spec_refusal schema spec ≡ Some given) (same ∙ is.schema) due)
+
+  pub memory-why : (given : Refusal) → spec_refusal kinds spec ≡ None → given ≡ refusal.NoMemory → WatchRefusal p.schema spec given
+  memory-why given free memory = inr (check-allowed free, inr memory)
 
 -- an empty table has no row groups
 no-groups : (size : ℕ) → 0 < size → groups size 0 ≡ 0
@@ -155,6 +169,17 @@ module _ {K : Type 0} (content : K → List ℕ) (old new : State K) where
     pub stripe-unwatched : (a : ℕ) (given : Reply) → a ≢ 0 → Accepts content old (step.Unwatch a) given new → IsStripe p log new.table
     stripe-unwatched a given ne h =
         subst (IsStripe p log) (sym (ap (λ (s : LiveState K). s.table) h.1.changed.state)) (stripe-with p log old.table is a ne None)
+
+    -- whether it is registered or not, the stripe holds
+    pub held-watch : (is_of : K → List ℕ → Type 0) (name : List ℕ) → AreAt is_of name old.rows → (spec : Spec) (r : Result ℕ Refusal)
+        → IfOk r (λ a. Accepts content old (step.Watch spec) (reply.Aggregate a) new) → IfErr r (λ e. Refuses old (step.Watch spec) e new) → IsStripe p log new.table × AreAt is_of name new.rows
+    held-watch is_of name here spec (Ok a) done refused = (stripe-watched spec (reply.Aggregate a) done, watched-here is_of name here spec (reply.Aggregate a) done)
+    held-watch is_of name here spec (Err e) done refused = (subst (λ (s : State K). IsStripe p log s.table) (sym refused.0) is, subst (λ (s : State K). AreAt is_of name s.rows) (sym refused.0) here)
+
+    pub held-unwatch : (is_of : K → List ℕ → Type 0) (name : List ℕ) → AreAt is_of name old.rows → (a : ℕ) → a ≢ 0 → (r : Result Unit Refusal)
+        → OnOk r (Accepts content old (step.Unwatch a) reply.Done new) → IfErr r (λ e. Refuses old (step.Unwatch a) e new) → IsStripe p log new.table × AreAt is_of name new.rows
+    held-unwatch is_of name here a ne (Ok x) done refused = (stripe-unwatched a reply.Done ne done, unwatched-here is_of name here a reply.Done done)
+    held-unwatch is_of name here a ne (Err e) done refused = (subst (λ (s : State K). IsStripe p log s.table) (sym refused.0) is, subst (λ (s : State K). AreAt is_of name s.rows) (sym refused.0) here)
 
     -- why it is not registered
     pub refused-watched : (spec : Spec) (given : Refusal) → Refuses old (step.Watch spec) given new → WatchRefusal p.schema spec given

@@ -1,5 +1,5 @@
 -- Work in the background: how it begins and ends, and what it keeps.
-use Rattle.std.specs.Prelude.{◌≡◌, ◌<◌, ◌≤◌, ℕ, true, false, List, [], ◌∷◌, length, Option, None, Some, is_none, IsSomeAnd, IfSome, Result, IsErrOf}
+use Rattle.std.specs.Prelude.{◌≡◌, ◌+◌, ◌<◌, ◌≤◌, ℕ, true, false, List, [], ◌∷◌, length, Option, None, Some, is_none, IsSomeAnd, IfSome, Result, IsErrOf}
 use Rattle.far_types.specs.declared.refusal.Refusal.{Refusal}
 use Rattle.far_types.specs.declared.refusal.Refusal.TheVariants as refusal
 use Rattle.far_types.specs.MayRefuse.{MayRefuse}
@@ -17,6 +17,7 @@ use Rattle.far_frame.specs.State.{State, live}
 use Rattle.far_shared.specs.Fours.{left_in}
 use Rattle.far_shared.specs.declared.work.Building.{Building}
 use Rattle.far_shared.specs.declared.work.Building.TheVariants as building
+use Rattle.far_shared.specs.declared.work.Report.{Report}
 use Rattle.far_shared.specs.declared.work.Work.{Work}
 use Rattle.far_shared.specs.declared.work.Work.TheVariants as work
 
@@ -43,6 +44,16 @@ abbrev pub job_refusals : JobKind → List ℕ
 job_refusals kind.Evac = 21 ∷ 22 ∷ 20 ∷ 19 ∷ 1 ∷ []
 job_refusals kind.Fetch = 21 ∷ 20 ∷ 17 ∷ 1 ∷ []
 job_refusals kind.Offload = 21 ∷ 12 ∷ 20 ∷ 1 ∷ []
+
+-- the numbers of those that a work may meet as a whole
+abbrev pub work_refusals : Work → List ℕ
+work_refusals (work.Evacuate stripe) = 21 ∷ 22 ∷ 20 ∷ 19 ∷ 1 ∷ []
+work_refusals (work.Fetch stripe name) = 4 ∷ 14 ∷ 20 ∷ 21 ∷ 17 ∷ 1 ∷ []
+work_refusals (work.Build stripe) = 14 ∷ 12 ∷ 20 ∷ 16 ∷ 21 ∷ 1 ∷ []
+
+-- how many works a report is of
+abbrev pub works_in : Report → ℕ
+works_in report = report.done + report.refused
 
 -- there are four stripes: of an unknown one a call is refused with 14, and of the others by these numbers
 pub record RefusedAt {A : Type 0} (stripe : ℕ) (numbers : List ℕ) (result : Result A Refusal) : Type 0 where

@@ -3,6 +3,7 @@
 //! what they are asked, work is done in the background under their locks.
 
 pub mod asking;
+pub mod background;
 pub mod closing;
 mod editing;
 pub mod four;
@@ -19,6 +20,7 @@ pub mod work;
 mod working;
 
 pub use asking::Scope;
+pub use background::Background;
 pub use four::answer_four;
 pub use opening::{Frames, Made};
 pub use plan::Plan;

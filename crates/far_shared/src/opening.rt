@@ -1,5 +1,5 @@
 // How a shared table begins.
-ghost use Rattle.std.specs.Prelude.{◌≡◌, IfOk, IfErr};
+ghost use Rattle.std.specs.Prelude.{◌≡◌, [], IfOk, IfErr};
 ghost use Rattle.far_sessions.specs.Known.{newcomers};
 ghost use Rattle.far_shared.specs.Opening.{AreNamed, IsEmpty};
 
@@ -8,7 +8,7 @@ use crate::shared::{Count, Shared};
 use crate::stripe::{Site, Stripe};
 use far_frame::Frame;
 use far_history::Naming;
-use far_sessions::{Keepers, Opened, Session};
+use far_sessions::{Keeper, Keepers, Opened, Session};
 use far_store::FarTickets;
 use far_types::Refusal;
 use std::alloc::Global;
@@ -57,6 +57,37 @@ fn open_frame<S: FarTickets>(alloc: Global, plan: &Plan, number: u32) -> Result<
     Ok(frame)
 }
 
+/// Four such tables. Refused with `NoMemory` (1) alone.
+fn open_frames<S: FarTickets>(alloc: Global, plan: &Plan) -> Result<Frames<S>, Refusal>
+    ensures zero { IfOk result (λ frames. IsEmpty S.is_of plan.now frames.zero) }
+    ensures one { IfOk result (λ frames. IsEmpty S.is_of plan.now frames.one) }
+    ensures two { IfOk result (λ frames. IsEmpty S.is_of plan.now frames.two) }
+    ensures three { IfOk result (λ frames. IsEmpty S.is_of plan.now frames.three) }
+    ensures memory { IfErr result (λ e. e ≡ Refusal.NoMemory) }
+{
+    let zero = open_frame(alloc, plan, 0)?;
+    let one = open_frame(alloc, plan, 1)?;
+    let two = open_frame(alloc, plan, 2)?;
+    let three = open_frame(alloc, plan, 3)?;
+    Ok(Frames {
+        zero,
+        one,
+        two,
+        three,
+    })
+}
+
+/// An empty table under its lock, beside what keeps its empty history.
+fn under_lock<N: Naming, B: Site, S: FarTickets, const I: usize>(
+    frame: Frame<S>,
+    keeper: Keeper<N, B, I>,
+) -> RwLock<Stripe<N, B, S, I>>
+    requires table { IsEmpty S.is_of N.plan frame }
+    requires history { keeper ≡ [] }
+{
+    RwLock::new(Stripe { frame, keeper })
+}
+
 impl Plan {
     /// Makes the four tables, each with the gauge as its aggregate 0, and the four cells. Refused with `NoMemory` (1) alone; what was
     /// made is then dropped.
@@ -64,12 +95,7 @@ impl Plan {
         requires { self ≡ N.plan }
         ensures memory { IfErr result (λ e. e ≡ Refusal.NoMemory) }
     {
-        let frames = Frames {
-            zero: open_frame(alloc, &self, 0)?,
-            one: open_frame(alloc, &self, 1)?,
-            two: open_frame(alloc, &self, 2)?,
-            three: open_frame(alloc, &self, 3)?,
-        };
+        let frames = open_frames(alloc, &self)?;
         let cells = far_sessions::Made::<N>::make(alloc)?;
         Ok(Made {
             sessions: self.sessions,
@@ -112,22 +138,10 @@ impl<N: Naming, S: FarTickets> Made<N, S> {
                 of: PhantomData,
             },
             cells,
-            zero: RwLock::new(Stripe {
-                frame: frames.zero,
-                keeper: zero,
-            }),
-            one: RwLock::new(Stripe {
-                frame: frames.one,
-                keeper: one,
-            }),
-            two: RwLock::new(Stripe {
-                frame: frames.two,
-                keeper: two,
-            }),
-            three: RwLock::new(Stripe {
-                frame: frames.three,
-                keeper: three,
-            }),
+            zero: under_lock(frames.zero, zero),
+            one: under_lock(frames.one, one),
+            two: under_lock(frames.two, two),
+            three: under_lock(frames.three, three),
         };
         Ok((shared, sessions))
     }

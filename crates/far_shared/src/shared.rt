@@ -26,12 +26,12 @@ pub(crate) struct Count<N: Naming> {
 #[derive(Drop)]
 pub struct Shared<N: Naming, B: Site, S: FarTickets> {
     pub(crate) alloc: Global,
-    pub(crate) count: Count<N>,
-    pub(crate) cells: Cells<N, B>,
     pub(crate) zero: RwLock<Stripe<N, B, S, 0>>,
     pub(crate) one: RwLock<Stripe<N, B, S, 1>>,
     pub(crate) two: RwLock<Stripe<N, B, S, 2>>,
     pub(crate) three: RwLock<Stripe<N, B, S, 3>>,
+    pub(crate) cells: Cells<N, B>,
+    pub(crate) count: Count<N>,
 }
 
 /// Makes an edit on the stripe under this lock.

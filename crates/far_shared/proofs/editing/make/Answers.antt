@@ -25,16 +25,16 @@ returns-in-Insert-clause-refused g c =
 
 pub returns-in_err-set-in-Set-clause-refused : goal.returns-in_err-set-in-Set-clause-refused
 returns-in_err-set-in-Set-clause-refused g c =
-    rw c.in-Set.is (let why = made-refused g.S.FarTickets.content c.args.frame.now c.set.new.self (edit.Set c.in-Set.place c.in-Set.column c.in-Set.cell) _ c.in_err-set.ensures.err in search rules)
+    rw c.in-Set.is (let why = made-refused g.S.FarTickets.content c.args.frame.now c.set.new.self (edit.Set c.in-Set.place c.in-Set.column c.in-Set.cell) _ c.in_err-set-in-Set.ensures.err in search rules)
 
 pub returns-in_err-remove-in-Remove-clause-refused : goal.returns-in_err-remove-in-Remove-clause-refused
 returns-in_err-remove-in-Remove-clause-refused g c =
-    rw c.in-Remove.is (let why = made-refused g.S.FarTickets.content c.args.frame.now c.remove.new.self (edit.Remove c.in-Remove.place) _ c.in_err-remove.ensures.err in search rules)
+    rw c.in-Remove.is (let why = made-refused g.S.FarTickets.content c.args.frame.now c.remove.new.self (edit.Remove c.in-Remove.place) _ c.in_err-remove-in-Remove.ensures.err in search rules)
 
 pub returns-in_ok-set-in-Set-clause-may : goal.returns-in_ok-set-in-Set-clause-may
 returns-in_ok-set-in-Set-clause-may g c =
-    rw c.in-Set.is (made-free g.S.FarTickets.content c.args.frame.now c.set.new.self (edit.Set c.in-Set.place c.in-Set.column c.in-Set.cell) reply.Done c.in_ok-set.ensures.ok)
+    rw c.in-Set.is (made-free g.S.FarTickets.content c.args.frame.now c.set.new.self (edit.Set c.in-Set.place c.in-Set.column c.in-Set.cell) reply.Done c.in_ok-set-in-Set.ensures.ok)
 
 pub returns-in_ok-remove-in-Remove-clause-may : goal.returns-in_ok-remove-in-Remove-clause-may
 returns-in_ok-remove-in-Remove-clause-may g c =
-    rw c.in-Remove.is (made-free g.S.FarTickets.content c.args.frame.now c.remove.new.self (edit.Remove c.in-Remove.place) reply.Done c.in_ok-remove.ensures.ok)
+    rw c.in-Remove.is (made-free g.S.FarTickets.content c.args.frame.now c.remove.new.self (edit.Remove c.in-Remove.place) reply.Done c.in_ok-remove-in-Remove.ensures.ok)

@@ -1,29 +1,44 @@
-use Rattle.std.proofs.Common.{◌≡◌, ◌<◌, ◌^◌, None, sym, subst, ◌∙◌}
-use Rattle.far_types.specs.Edits.{edit_refusal}
-use Rattle.far_history.specs.Histories.{IsLegal, replay}
+use Rattle.std.proofs.Common.{◌<◌, ◌^◌, sym, subst, ◌∙◌, arith, rules}
+use Rattle.far_history.specs.Histories.{IsLegal}
 use Rattle.far_history.specs.declared.reading.Reading.{Reading}
-use Rattle.far_shared.proofs.StripeLaws.{few, reads-edited, same-refusal, same-place, same-why, stripe-made}
+use Rattle.far_shared.proofs.StripeLaws.{few, reads-edited, same-refusal, same-why, stripe-made}
 use Rattle.far_shared.proofs.stripe.Stripe.apply.Goals as goal
 
-pub change-requires : goal.change-requires
-change-requires g c =
-    let p = g.N.Naming.plan in
+pub change-requires-clause-few : goal.change-requires-clause-few
+change-requires-clause-few g c κs inside =
     let s = c.self.inside in
-    let is = c.self.invariant.0 in
     let look = c.look-before.ensures in
-    let legal = subst (IsLegal p) look.whole look.seen.legal in record {
-      plan = is.plan;
-      gauge = is.gauge;
-      few = subst (λ (r : Reading). r.edits < 2 ^ 63) (sym look.reading) (few p s.keeper s.frame.table is legal);
-    }
+    let legal = subst (IsLegal g.N.Naming.plan) look.whole look.seen.legal in
+    subst (λ (r : Reading). r.edits < 2 ^ 63) (sym look.reading) (few g.N.Naming.plan s.keeper s.frame.table c.self.invariant.0 legal)
 
 pub add-requires : goal.add-requires
 add-requires g c =
-    let p = g.N.Naming.plan in
     let s = c.self.inside in
-    let is = c.self.invariant.0 in
-    let look = c.look-before.ensures in
-    let made = c.in_ok-changed.ensures in record {
-      may = rw (look.history, c.of-told.ensures) (same-refusal p s.keeper s.frame.table is c.args.edit ∙ made.may);
-      reading = rw (look.history, c.of-told.ensures) (reads-edited p s.keeper s.frame.table is _ c.args.edit c.look-before.result _ _ look.reading made.made made.after);
-    }
+    let made = c.in_ok-changed.ensures in (
+      omega arith,
+      (
+        omega arith,
+        (
+          omega arith,
+          (
+            rw (c.look-before.ensures.history, c.of-told.ensures) (same-refusal g.N.Naming.plan s.keeper s.frame.table c.self.invariant.0 c.args.edit ∙ made.may),
+            rw (c.look-before.ensures.history, c.of-told.ensures)
+                (reads-edited g.N.Naming.plan s.keeper s.frame.table c.self.invariant.0 _ c.args.edit c.look-before.result _ _ c.look-before.ensures.reading made.made made.after),
+          ),
+        ),
+      ),
+    )
+
+pub returns-in_err-changed-clause-why : goal.returns-in_err-changed-clause-why
+returns-in_err-changed-clause-why g c =
+    let s = c.self.inside in
+    rw (← c.self.view_is) (let why = same-why g.N.Naming.plan s.keeper s.frame.table c.self.invariant.0 c.args.edit _ c.in_err-changed.ensures.refused in search rules)
+
+pub invariant_of-self-2 : goal.invariant_of-self-2
+invariant_of-self-2 g c =
+    let s = c.self.inside in
+    let made = c.in_ok-changed.ensures in
+    let longer = rw (c.look-before.ensures.history, c.of-told.ensures) at c.add.ensures.history in (
+      stripe-made g.N.Naming.plan s.keeper s.frame.table c.self.invariant.0 _ c.args.edit _ _ longer made.made,
+      made.here g.B.Site.store c.self.invariant.1,
+    )

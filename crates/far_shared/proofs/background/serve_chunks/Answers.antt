@@ -1,0 +1,34 @@
+use denote.Param.{param}
+use Rattle.far_shared.proofs.CrossingLaws.{shared_sync}
+use Rattle.std.proofs.Common.{◌≡◌, ◌+◌, ◌≤◌, ◌<◌, length, sum_by, get_or, arith, rules}
+use Rattle.std.specs.Fork.{slice_chunk}
+use Rattle.far_shared.specs.Works.{works_in}
+use Rattle.far_shared.proofs.ReportLaws.{counts-all}
+use Rattle.far_shared.proofs.background.serve_chunks.Goals as goal
+use Rattle.far_shared.proofs.background.serve_chunks.Goals.{After-deref}
+
+-- the reports of the chunks are of all works
+all-counted : (g : _) (c : After-deref g) → sum_by works_in c.deref.result.now ≡ length c.args.works.now
+all-counted g c =
+    counts-all works_in c.chunk_for-size.result c.args.works.now c.deref.result.now (record { done = 0; refused = 0 }) c.chunk_for-size.ensures.some (search rules)
+    (λ n lt. let k = (c.in_ok-reports.ensures.each n (record { done = 0; refused = 0 }) (omega (arith, lt, c.deref.ensures.len, c.deref.ensures.value))).1 in search rules)
+
+pub sum_of-requires : goal.sum_of-requires
+sum_of-requires g c = let e = all-counted g c in search rules
+
+pub returns : goal.returns
+returns g c = let e = all-counted g (goal.at.returns g c).After-deref in search rules
+
+-- the closure holds a `&` to the runtime, to the four tables and to the store
+pub map_chunks-requires-sync-F : goal.map_chunks-requires-sync-F
+map_chunks-requires-sync-F g c κs within =
+    let all = shared_sync (param 0 g.row.N) (param 1 g.row.B) (param 2 g.row.S) (param 4 g.row.S-Ticket) g.B.Rooms g.N.Naming g.B.Site g.S.FarTickets c.type_bounds.send-S-Ticket c.type_bounds.sync-S-Ticket in
+    record {
+      shared = λ x b o κ. (
+        (
+          ((λ q. tt), c.type_bounds.sync-R.shared x.0.now x.0.ref_ptr.0 x.0.ref_ptr.1 _),
+          (((λ q. tt), all.shared x.1.now x.1.ref_ptr.0 x.1.ref_ptr.1 _), (((λ q. tt), c.type_bounds.sync-S.shared x.2.now x.2.ref_ptr.0 x.2.ref_ptr.1 _), tt)),
+        ),
+        λ q. tt,
+      );
+    }

@@ -1,0 +1,154 @@
+// Works that several threads do.
+ghost use Rattle.std.specs.Prelude.{◌≡◌, ◌+◌, ◌<◌, ◌≤◌, ◌^◌, ◌⊎◌, length, vec_len, sum_by, IfOk, IfErr, OnOk};
+ghost use Rattle.std.specs.Int.{div_ceil};
+ghost use Rattle.far_shared.specs.Works.{RefusedAt, stripe_of, work_refusals, works_in};
+
+use crate::shared::Shared;
+use crate::stripe::Site;
+use crate::work::{Report, Work};
+use far_history::Naming;
+use far_store::{FarStore, Meter};
+use far_types::Refusal;
+use std::alloc::AllocError;
+use std::sync::Wait;
+use std::thread::{self, Threads};
+
+// Does one work.
+fn serve<N: Naming, B: Site, S: FarStore, R: Wait>(
+    rt: &R,
+    shared: &Shared<N, B, S>,
+    store: &S,
+    work: &Work,
+) -> Result<(), Refusal>
+    requires store { S.name store.now ≡ B.store }
+    ensures refused { RefusedAt (stripe_of work.now) (work_refusals work.now) result }
+{
+    let mut meter = Meter::new();
+    match work {
+        Work::Evacuate(stripe) => {
+            shared.evacuate_once(rt, *stripe, store, &mut meter)?;
+            Ok(())
+        }
+        Work::Fetch(stripe, name) => shared.fetch(
+            rt,
+            *stripe,
+            name.column,
+            name.group,
+            store,
+            &mut meter,
+        ),
+        Work::Build(stripe) => {
+            shared.build_once(rt, *stripe, store, &mut meter)?;
+            Ok(())
+        }
+    }
+}
+
+// Does some works, one after the other.
+fn serve_all<N: Naming, B: Site, S: FarStore, R: Wait>(
+    rt: &R,
+    shared: &Shared<N, B, S>,
+    store: &S,
+    works: &[Work],
+) -> Report
+    requires store { S.name store.now ≡ B.store }
+    ensures all { works_in result ≡ length works.now }
+{
+    let mut report = Report {
+        done: 0,
+        refused: 0,
+    };
+    for work in works {
+        match serve(rt, shared, store, work) {
+            Ok(()) => report.done += 1,
+            Err(_) => report.refused += 1,
+        }
+    }
+    report
+}
+
+// How many works a thread is given where at most so many threads do them all.
+fn chunk_for(count: usize, workers: u32) -> usize
+    requires { 0 < workers }
+    ensures some { 0 < result }
+    ensures few { div_ceil count result ≤ workers }
+{
+    count.div_ceil(workers as usize).max(1)
+}
+
+// The reports of all threads in one.
+fn sum_of(reports: &[Report]) -> Report
+    requires { sum_by works_in reports.now < 2 ^ 64 }
+    ensures { works_in result ≡ sum_by works_in reports.now }
+{
+    let mut sum = Report {
+        done: 0,
+        refused: 0,
+    };
+    for report in reports {
+        sum.done += report.done;
+        sum.refused += report.refused;
+    }
+    sum
+}
+
+// Does works on so many threads at most, each of which is given consecutive ones.
+fn serve_chunks<
+    N: Naming + Send + Sync,
+    B: Site + Send + Sync,
+    S: FarStore,
+    R: Threads + Wait + Sync,
+>(
+    rt: &R,
+    shared: &Shared<N, B, S>,
+    store: &S,
+    workers: u32,
+    works: &[Work],
+) -> Result<Report, AllocError>
+    requires store { S.name store.now ≡ B.store }
+    requires some { 0 < workers }
+    ensures all { IfOk result (λ report. works_in report ≡ length works.now) }
+{
+    let size = chunk_for(works.len(), workers);
+    let serve_some = |_: usize, chunk: &[Work]| -> Report
+        requires { S.name store.now ≡ B.store }
+        ensures { works_in result ≡ length chunk.now }
+    { serve_all(rt, shared, store, chunk) };
+    let reports = thread::map_chunks(rt, shared.alloc, works, size, &serve_some)?;
+    Ok(sum_of(&reports))
+}
+
+/// Threads that do work in the background.
+#[derive(Clone, Copy, Debug)]
+pub struct Background {}
+
+impl Background {
+    /// Does works on at most so many threads, each of which is given consecutive ones. The report counts each of them, as done or as
+    /// refused; a work for which there was nothing to do is done. No row changes.
+    ///
+    /// Refused with `OutOfRange` (14) unless there are 1 to 8 workers, before any work, and with `NoMemory` (1) where the threads or
+    /// their reports find none.
+    pub fn run<
+        N: Naming + Send + Sync,
+        B: Site + Send + Sync,
+        S: FarStore,
+        R: Threads + Wait + Sync,
+    >(
+        rt: &R,
+        shared: &Shared<N, B, S>,
+        store: &S,
+        workers: u32,
+        works: Vec<Work>,
+    ) -> Result<Report, Refusal>
+        requires store { S.name store.now ≡ B.store }
+        ensures all { IfOk result (λ report. report.done + report.refused ≡ vec_len works) }
+        ensures workers { OnOk result ((1 ≤ workers) × (workers ≤ 8)) }
+        ensures refused { IfErr result (λ e. ((e ≡ Refusal.OutOfRange) × ((workers ≡ 0) ⊎ (8 < workers))) ⊎ ((e ≡ Refusal.NoMemory) × ((1 ≤ workers) × (workers ≤ 8)))) }
+    {
+        if workers < 1 || workers > 8 {
+            return Err(Refusal::OutOfRange);
+        }
+        let report = serve_chunks(rt, shared, store, workers, &works)?;
+        Ok(report)
+    }
+}
