@@ -29,4 +29,6 @@ mod serving;
 #[cfg(test)]
 mod together;
 #[cfg(test)]
+mod workers;
+#[cfg(test)]
 mod working;

@@ -35,7 +35,12 @@ struct Stage {
 }
 
 // What a call answers, made a second time where the first found no memory.
-fn serve_at_last<N: Naming, B: Site, S: FarStore + Gated, R: Threads + Wait + Sync>(
+fn serve_at_last<
+    N: Naming + Send + Sync,
+    B: Site + Send + Sync,
+    S: FarStore + Gated,
+    R: Threads + Wait + Sync,
+>(
     rt: &R,
     alloc: Global,
     shared: &Shared<N, B, S>,
@@ -53,7 +58,12 @@ fn serve_at_last<N: Naming, B: Site, S: FarStore + Gated, R: Threads + Wait + Sy
 }
 
 // Whether calls are answered as is due, one after another.
-fn play_lines<N: Naming, B: Site, S: FarStore + Gated, R: Threads + Wait + Sync>(
+fn play_lines<
+    N: Naming + Send + Sync,
+    B: Site + Send + Sync,
+    S: FarStore + Gated,
+    R: Threads + Wait + Sync,
+>(
     rt: &R,
     alloc: Global,
     shared: &Shared<N, B, S>,
@@ -72,7 +82,12 @@ fn play_lines<N: Naming, B: Site, S: FarStore + Gated, R: Threads + Wait + Sync>
 }
 
 // What a session leaves on its home stripe. Refused with `OutOfRange` where its role does not come out.
-fn play_role<N: Naming, B: Site, S: FarStore + Gated, R: Threads + Wait + Sync>(
+fn play_role<
+    N: Naming + Send + Sync,
+    B: Site + Send + Sync,
+    S: FarStore + Gated,
+    R: Threads + Wait + Sync,
+>(
     rt: &R,
     alloc: Global,
     shared: &Shared<N, B, S>,
@@ -107,7 +122,12 @@ fn role_of(scene: &Scene, number: u64) -> Role {
 }
 
 // Plays the role of a session.
-fn play<N: Naming, B: Site, S: FarStore + Gated, R: Threads + Wait + Sync>(
+fn play<
+    N: Naming + Send + Sync,
+    B: Site + Send + Sync,
+    S: FarStore + Gated,
+    R: Threads + Wait + Sync,
+>(
     rt: &R,
     shared: &Shared<N, B, S>,
     store: &S,

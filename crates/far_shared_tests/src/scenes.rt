@@ -1,4 +1,5 @@
 // What is played on a shared table, as data.
+use far_shared::Work;
 use far_types::{Name, Refusal};
 
 // A table that is made for a scene.
@@ -48,6 +49,8 @@ pub enum Step {
     Build(u32),
     // Begins to send the coldest object of a stripe away, carries the job and ends it.
     EvacuateByHand(u32),
+    // Lets so many threads do these works.
+    Run(u32, &'static [Work]),
     // Waits until a put has come to the gate.
     AwaitPut,
     // Opens the gate.
@@ -73,6 +76,8 @@ pub enum Reply {
     Applied(u64, u32),
     // The edits, the count and the sum that a gauge reads.
     Reading(u64, u64, i128),
+    // How many works were done, and how many refused.
+    Worked(u64, u64),
     // The object that was sent away.
     Object(Name),
     // The number that was lent.

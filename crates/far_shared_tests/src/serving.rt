@@ -6,6 +6,7 @@ use crate::bells::Bells;
 use crate::gates::{Gated, awaits_put};
 use crate::plans::{all_numbers, row_of};
 use crate::scenes::{Replied, Reply, Step};
+use crate::workers::run;
 use far_frame::{Job, View};
 use far_history::Naming;
 use far_sessions::{Cells, Session};
@@ -14,6 +15,7 @@ use far_store::{FarStore, FarTickets, Meter};
 use far_types::{Answer, Cell, Edit, Fold};
 use std::alloc::Global;
 use std::sync::Wait;
+use std::thread::Threads;
 
 // What the gauge of a stripe reads.
 pub fn gauge<N: Naming, B: Site, R: Wait>(
@@ -266,7 +268,12 @@ fn wait_or_tell<N: Naming, B: Site, S: FarTickets + Gated, R: Wait>(
 }
 
 // What a call answers.
-pub fn serve<N: Naming, B: Site, S: FarStore + Gated, R: Wait>(
+pub fn serve<
+    N: Naming + Send + Sync,
+    B: Site + Send + Sync,
+    S: FarStore + Gated,
+    R: Threads + Wait + Sync,
+>(
     rt: &R,
     alloc: Global,
     shared: &Shared<N, B, S>,
@@ -291,6 +298,7 @@ pub fn serve<N: Naming, B: Site, S: FarStore + Gated, R: Wait>(
         Step::EvacuateByHand(stripe) => {
             complete_work(rt, alloc, shared, store, Work::Evacuate(stripe))
         }
+        Step::Run(workers, works) => run(rt, alloc, shared, store, workers, works),
         other => wait_or_tell(rt, shared, store, bells, other),
     }
 }
