@@ -127,13 +127,7 @@ fn play<
     B: Site + Send + Sync,
     S: FarStore + Gated,
     R: Threads + Wait + Sync,
->(
-    rt: &R,
-    shared: &Shared<N, B, S>,
-    store: &S,
-    stage: &Stage,
-    mut me: Session<B>,
-) -> Played<B>
+>(rt: &R, shared: &Shared<N, B, S>, store: &S, stage: &Stage, mut me: Session<B>) -> Played<B>
     requires store { S.name store.now ≡ B.store }
 {
     let role = role_of(&stage.scene, me.number());
