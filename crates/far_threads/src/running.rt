@@ -138,10 +138,11 @@ pub(crate) fn run_shared<
     ensures gauges { IfOk result (λ o. AreReadings N.plan edits o.gauges.items) }
     ensures answer { IfOk result (λ o. IsAnswer N.plan 0 o.answer) }
 {
-    let (worked, evacuated) = thread::join(
+    // Only the first goes to another thread, and it holds nothing but references.
+    let (evacuated, worked) = thread::join(
         rt,
-        || work_all(rt, alloc, shared, store, sessions, edits),
         || evacuate_all(rt, shared, store, edits),
+        || work_all(rt, alloc, shared, store, sessions, edits),
     );
     evacuated?;
     let gauges = read_gauges(rt, alloc, shared.cells(), worked?, edits)?;
