@@ -30,12 +30,14 @@ if-input fault.BadStart P Q f h = tt
 if-input fault.Input P Q f h = f h
 if-input fault.Output P Q f h = tt
 if-input fault.Memory P Q f h = tt
+if-input fault.Turns P Q f h = tt
 
 pub not-input : (why : ShellFault) (P : Type 0) → (why ≡ fault.Input → ⊥) → IfInput why P
 not-input fault.BadStart P other = tt
 not-input fault.Input P other = absurd (other refl)
 not-input fault.Output P other = tt
 not-input fault.Memory P other = tt
+not-input fault.Turns P other = tt
 
 starts-known : (known left : Option (List ℕ)) (came a bytes b : List ℕ) → Consumes known left came → a ++ came ≡ bytes ++ b → IfSome known (λ coming. a ++ coming ≡ bytes ++ (b ++ unwrap_or left []))
 starts-known None left came a bytes b p e = tt

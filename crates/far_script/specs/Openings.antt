@@ -1,5 +1,5 @@
 -- The first line of a script.
-use Rattle.std.specs.Prelude.{ℕ, max, nat_le, ◌&&◌, List, [], ◌∷◌, Option, None, Some, option_map, option_and_then, is_none, codes, if◌then◌else◌}
+use Rattle.std.specs.Prelude.{ℕ, ◌≤◌, ⊤, max, nat_le, ◌&&◌, List, [], ◌∷◌, Option, None, Some, option_map, option_and_then, is_none, codes, if◌then◌else◌}
 use Rattle.std.specs.List.{slice_split}
 use Rattle.far_types.specs.declared.cell.Kind.{Kind}
 use Rattle.far_types.specs.declared.cell.Kind.TheVariants as kind
@@ -61,6 +61,11 @@ pub data Start : Type 0 where
 abbrev pub start_of : FirstLine → Start
 start_of (line.Schema opening) = Schema (opening.kinds.items, opening.limits)
 start_of (line.Threads sessions edits) = Threads sessions edits
+
+-- there are as many sessions as may be, and each makes as many edits as it may
+abbrev pub IsWithin : Start → Type 0
+IsWithin (Schema opened) = ⊤
+IsWithin (Threads sessions edits) = (1 ≤ sessions) × (sessions ≤ 4) × (1 ≤ edits) × (edits ≤ 1000)
 
 -- a number from one to another
 abbrev pub between : ℕ → ℕ → Option ℕ → Option ℕ

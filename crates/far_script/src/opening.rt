@@ -1,8 +1,8 @@
 // The first line of a script.
-ghost use Rattle.std.specs.Prelude.{◌≡◌, ◌++◌, IfOk, IfErr, option_map, option_and_then, Some, None};
+ghost use Rattle.std.specs.Prelude.{◌≡◌, ◌≤◌, ◌++◌, IfOk, IfErr, IfSome, option_map, option_and_then, Some, None};
 ghost use Rattle.std.specs.List.{slice_split};
 ghost use Rattle.far_script.specs.OneRecord.{is_comma};
-ghost use Rattle.far_script.specs.Openings.{kind_named, kinds_named, kinds_of, usual_limits, given_limits, limits_of, opening_in, between, threads_in, start_in, start_of};
+ghost use Rattle.far_script.specs.Openings.{kind_named, kinds_named, kinds_of, usual_limits, given_limits, limits_of, opening_in, between, threads_in, start_in, start_of, IsWithin};
 
 use super::words::Words;
 use far_types::{Kind, Limits, Refusal};
@@ -141,7 +141,8 @@ fn read_opening(alloc: Global, mut words: Words) -> Result<Option<Opening>, Refu
 
 /// The number, where it is from one to another.
 fn between(least: u32, most: u32, number: Option<u32>) -> Option<u32>
-    ensures { result ≡ between least most number }
+    ensures number { result ≡ between least most number }
+    ensures within { IfSome result (λ n. (least ≤ n) × (n ≤ most)) }
 {
     let number = number?;
     if least <= number && number <= most {
@@ -153,7 +154,8 @@ fn between(least: u32, most: u32, number: Option<u32>) -> Option<u32>
 
 /// `SESSIONS EDITS`
 fn read_threads(mut words: Words) -> Option<FirstLine>
-    ensures { option_map start_of result ≡ threads_in words.entry }
+    ensures threads { option_map start_of result ≡ threads_in words.entry }
+    ensures within { IfSome result (λ first. IsWithin (start_of first)) }
 {
     let sessions = between(1, MAX_SESSIONS, words.number())?;
     let edits = between(1, MAX_EDITS, words.last_number())?;
@@ -163,6 +165,7 @@ fn read_threads(mut words: Words) -> Option<FirstLine>
 /// What the first line of a script says, or `None` where it is no such line. Refused with `NoMemory` (1) alone.
 pub fn first_line(alloc: Global, line: &str) -> Result<Option<FirstLine>, Refusal>
     ensures start { IfOk result (λ found. option_map start_of found ≡ start_in line.now) }
+    ensures within { IfOk result (λ found. IfSome found (λ first. IsWithin (start_of first))) }
     ensures memory { IfErr result (λ e. e ≡ Refusal.NoMemory) }
 {
     let mut words = Words::new(line);
