@@ -7,8 +7,8 @@ use Rattle.far_script.specs.declared.fault.ShellFault.{ShellFault}
 use Rattle.far_script.specs.declared.fault.ShellFault.TheVariants as fault
 use Rattle.far_script.specs.declared.input.Input.{Input}
 use Rattle.far_script.specs.Faults.{IfInput}
-use Rattle.far_script.specs.Flow.{Counts, Gives, IsSpent, Reads, StartsWith, Stops, unread}
-use Rattle.far_script.proofs.FlowLaws.{spent-nothing, spent-stays}
+use Rattle.far_script.specs.Flow.{Counts, Gives, IsFrontOf, IsSpent, Reads, StartsWith, Stops, unread}
+use Rattle.far_script.proofs.FlowLaws.{few-bytes, spent-nothing, spent-stays}
 
 -- a fault that is handed on
 pub handed-on : {T : Type 0} (r : Result T ShellFault) (why : ShellFault) (Q : ShellFault → Type 0) → IsErrAnd r (λ given. given ≡ why) → Q why → IfErr r Q
@@ -130,3 +130,8 @@ module _ {R : Type 0} (read : Ghosts R) where
   gives-known input new reader why bytes rest is none g =
       subst (λ (r : R). IfSome (read.remaining r) (λ script. script ≡ bytes ++ rest)) is
       (subst (λ (z : List ℕ). IfSome (read.remaining input.source.reader) (λ script. z ++ script ≡ bytes ++ rest)) none g.0.0)
+
+  -- what was taken of a script of which nothing was read before
+  pub front-read : (input new : Input R read) (reader : R) (bytes : List ℕ) → Reads read input bytes new → input.source.reader ≡ reader → unread read input ≡ [] → IsFrontOf (read.remaining reader) bytes (coming read new)
+  front-read input new reader bytes p is none =
+      (gives-known input new reader fault.Memory bytes (coming read new) is none (starts read input new bytes p, tt), few-bytes read input new bytes p)

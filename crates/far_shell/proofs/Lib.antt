@@ -6,3 +6,4 @@ pub mod PieceLaws
 pub mod LoadLaws
 pub mod BreakLaws
 pub mod RenewLaws
+pub mod SessionLaws

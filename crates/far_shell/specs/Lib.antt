@@ -3,6 +3,7 @@ pub mod Recounts
 pub mod Renewals
 pub mod Replies
 pub mod Scripts
+pub mod Sessions
 pub mod Breaks
 pub mod Listings
 pub mod Pieces
