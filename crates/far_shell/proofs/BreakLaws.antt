@@ -187,7 +187,6 @@ module _ {R : Type 0} (read : Ghosts R) {S K : Type 0} (tickets : Tickets S K) w
   breaks-line first before mid new a b c d h k l m old at line raw bytes text fault.Memory p q r one stripped s t u v =
       within-line first before mid new a b c d h k l m old at raw bytes text u.0 fault.Memory tt
       (one, front-more (λ said. Lists at line said) (ListsNext at raw) u.0 (λ said n. inr (subst (λ (z : List ℕ). Lists at z said) stripped n)) u.2) p q r s t u.1
-
   breaks-line first before mid new a b c d h k l m old at line raw bytes text fault.Turns p q r one stripped s t u v = absurd u.2
 
   -- within the answer to the last line
