@@ -40,9 +40,9 @@ cut-stopped why sessions edits (inl memory) = rw memory refl
 cut-stopped why sessions edits (inr turns) = rw turns refl
 
 -- a write failed
-pub cut-unwritten : (old mid new : Option (List ℕ)) (sessions edits : ℕ) (text page left : List ℕ) → TellsOutcome sessions edits text → page ≡ text → Prints old page [] new left
+pub cut-unwritten : (old new : Option (List ℕ)) (sessions edits : ℕ) (text page left : List ℕ) → TellsOutcome sessions edits text → page ≡ text → Prints old page [] new left
     → (sent : List ℕ) × CutOutcome fault.Output sessions edits sent × Appends old new sent
-cut-unwritten old mid new sessions edits text page left told is p =
+cut-unwritten old new sessions edits text page left told is p =
     (p.0, (left, subst (λ (z : List ℕ). TellsOutcome sessions edits z) (sym is ∙ sym (append-nil page) ∙ p.2) told), p.1)
 
 either : {A B C D : Type 0} → (A → B) → (C → D) → A ⊎ C → B ⊎ D

@@ -26,5 +26,5 @@ returns-in_err-flush-clause-err g c =
     let s = c.in_ok-print_sessions.ensures.ok in
     let f = c.in_err-flush.ensures in
     handed-on c.from_residual-in_err-flush.result fault.Output _ (rw f.fault at c.from_residual-in_err-flush.ensures.1)
-    (cut-unwritten (g.W.Write.contents c.args.writer.now) (g.W.Write.contents c.args.writer.now) (g.W.Write.contents c.flush.new.writer) c.args.sessions c.args.edits s.0 c.print_sessions.new.output.page c.flush.new.self.page
+    (cut-unwritten (g.W.Write.contents c.args.writer.now) (g.W.Write.contents c.flush.new.writer) c.args.sessions c.args.edits s.0 c.print_sessions.new.output.page c.flush.new.self.page
     s.1 (rw c.new-output.ensures at s.2) f.printed)
