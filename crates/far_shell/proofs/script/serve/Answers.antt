@@ -11,6 +11,16 @@ use Rattle.far_shell.proofs.script.serve.Goals as goal
 pub serve_lines-requires-clause-first : goal.serve_lines-requires-clause-first
 serve_lines-requires-clause-first g c κs within = c.in_ok-progress-in-Schema.ensures.ok.1
 
+pub print_sessions-requires-clause-sessions : goal.print_sessions-requires-clause-sessions
+print_sessions-requires-clause-sessions g c =
+    let w = rw c.in-Threads.is at c.in_ok-first_command.ensures.within in
+    (w.0, w.1)
+
+pub print_sessions-requires-clause-edits : goal.print_sessions-requires-clause-edits
+print_sessions-requires-clause-edits g c =
+    let w = rw c.in-Threads.is at c.in_ok-first_command.ensures.within in
+    (w.2, w.3)
+
 pub returns-in_ok-serve_lines-in-Schema-clause-ok : goal.returns-in_ok-serve_lines-in-Schema-clause-ok
 returns-in_ok-serve_lines-in-Schema-clause-ok g c =
     let f = c.in_ok-first_command.ensures in
