@@ -1,6 +1,6 @@
-use Rattle.std.proofs.Common.{◌≡◌, ℕ, ◌-◌, sym, ap, subst, ◌∙◌}
+use Rattle.std.proofs.Common.{◌-◌, sym, ap, subst, ◌∙◌}
 use Rattle.std.proofs.lemmas.Result.{on_ok_weaker}
-use Rattle.far_types.specs.Answers.{Totals, totals}
+use Rattle.far_types.specs.Answers.{totals}
 use Rattle.far_types.specs.Changes.{joined_totals}
 use Rattle.far_groups.specs.Live.{CanJoin}
 use Rattle.far_aggregates.specs.Kept.{pairs_here}
