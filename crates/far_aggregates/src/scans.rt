@@ -58,8 +58,9 @@ pub fn merge_in(kept: &mut Kept, number: u32, partial: PartialDone) -> Result<()
     }
 }
 
-/// The rows of a row group come into totals. Refused with `NoMemory` (1) alone, and then these stay the same.
-fn scan_totals<G: LendGroup>(
+/// The rows of a row group come into totals in which a row group is left. Refused with `NoMemory` (1) alone, and then
+/// these stay the same.
+pub fn scan_totals<G: LendGroup>(
     alloc: Global,
     live: &mut LiveTotals,
     spec: &Spec,

@@ -1,5 +1,8 @@
 // Which of some values are missing.
-ghost use Rattle.std.specs.Prelude.{◌≡◌, ◌<◌, length, slice_index_or, false};
+ghost use Rattle.std.specs.Prelude.{◌≡◌, ◌<◌, length, slice_index_or, slice_set, is_none, false};
+ghost use Rattle.std.specs.List.{list_any};
+ghost use Rattle.far_codec.specs.FarForm.{some_missing};
+ghost use Rattle.far_codec.specs.Reading.{flags_of};
 
 use crate::head::is_set;
 
@@ -18,6 +21,34 @@ pub(crate) trait Flags {
     fn is_missing(&self, i: usize) -> bool
         requires { i < length (flags self.now) }
         ensures { result ≡ slice_index_or (flags self.now) i false };
+
+    /// Whether one is missing.
+    fn any_missing(&self) -> bool
+        ensures { result ≡ some_missing (flags self.now) };
+}
+
+/// Whether a value other than value `i` is missing. Where there is no mask, none is: then no flag is looked at. Else the
+/// first one ends the search.
+pub(crate) fn other_missing(mask: &[u8], count: usize, i: usize) -> bool
+    ensures { result ≡ some_missing (slice_set (flags_of mask.now count) i false) }
+{
+    if mask.is_empty() {
+        return false;
+    }
+    for j in 0..count {
+        let missing = (j != i) & is_set(mask, j);
+        if missing {
+            return true;
+        }
+    }
+    false
+}
+
+/// Whether a value is missing.
+fn any_none<T>(values: &[Option<T>]) -> bool
+    ensures { result ≡ list_any is_none values.now }
+{
+    values.iter().any(|value| value.is_none())
 }
 
 impl<T> Flags for &[Option<T>] {
@@ -31,6 +62,10 @@ impl<T> Flags for &[Option<T>] {
 
     fn is_missing(&self, i: usize) -> bool {
         self[i].is_none()
+    }
+
+    fn any_missing(&self) -> bool {
+        any_none(self)
     }
 }
 
@@ -59,5 +94,12 @@ impl<'a> Flags for ChangedFlags<'a> {
         } else {
             is_set(self.mask, i)
         }
+    }
+
+    fn any_missing(&self) -> bool {
+        if self.missing && self.i < self.count {
+            return true;
+        }
+        other_missing(self.mask, self.count, self.i)
     }
 }

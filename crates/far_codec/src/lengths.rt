@@ -1,29 +1,13 @@
 // How long a far form of texts becomes when one text changes, before it is made.
-ghost use Rattle.std.specs.Prelude.{◌≡◌, ◌++◌, ◌∷◌, ◌+◌, ◌*◌, ◌/◌, ◌<◌, ◌≤◌, ◌^◌, [], cond, false, length, slice_set};
+ghost use Rattle.std.specs.Prelude.{◌≡◌, ◌++◌, ◌∷◌, ◌+◌, ◌*◌, ◌/◌, ◌<◌, ◌≤◌, ◌^◌, [], cond, length, slice_set};
 ghost use Rattle.std.specs.Option.{option_copied};
 ghost use Rattle.far_types.specs.FormLengths.{texts_length};
-ghost use Rattle.far_codec.specs.FarForm.{some_missing};
-ghost use Rattle.far_codec.specs.Reading.{flags_of};
 ghost use Rattle.far_codec.specs.TextForm.{bytes_of, texts_meaning, IsTextsForm};
 
-use crate::head::is_set;
+use crate::flags::other_missing;
 use crate::text_forms::{bytes_in, known_parts};
 use crate::texts::text_in;
 use far_types::Text;
-
-/// Whether a value other than value `i` is missing. Where there is no mask, none is: then no flag is looked at.
-fn other_missing(mask: &[u8], count: usize, i: usize) -> bool
-    ensures { result ≡ some_missing (slice_set (flags_of mask.now count) i false) }
-{
-    if mask.is_empty() {
-        return false;
-    }
-    let mut missing = false;
-    for j in 0..count {
-        missing |= (j != i) & is_set(mask, j);
-    }
-    missing
-}
 
 /// How many bytes a text has that is lent; none where it is missing.
 fn lent_length(text: Option<&str>) -> usize

@@ -8,22 +8,11 @@ use crate::flags::Flags;
 use crate::head::has_bit;
 use std::alloc::AllocError;
 
-/// Whether a value is missing.
-fn any_missing<F: Flags>(flags: &F) -> bool
-    ensures { result ≡ some_missing (F.flags flags.now) }
-{
-    let mut missing = false;
-    for i in 0..flags.count() {
-        missing |= flags.is_missing(i);
-    }
-    missing
-}
-
 /// How many bytes the mask of values has.
 pub(crate) fn mask_length<T>(values: &[Option<T>]) -> usize
     ensures { result ≡ mask_length values.now }
 {
-    if any_missing(&values) {
+    if (&values).any_missing() {
         values.len().div_ceil(8)
     } else {
         0
@@ -66,7 +55,7 @@ pub(crate) fn push_head<F: Flags>(form: &mut Vec<u8>, kind: u8, flags: &F) -> Re
     ensures { OnOk result (form.new.items ≡ form.old.items ++ head kind (F.flags flags.now)) }
 {
     let count = flags.count().to_le_bytes();
-    let masked = any_missing(flags);
+    let masked = flags.any_missing();
     form.extend_from_slice(&[
         version(masked),
         kind,

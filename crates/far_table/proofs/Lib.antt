@@ -26,3 +26,4 @@ mod Away
 mod MixedReads
 mod PieceLaws
 mod Recounted
+mod TotalRuns

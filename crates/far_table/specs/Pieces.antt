@@ -1,5 +1,5 @@
 -- internal: pieces of a table that are folded apart and put together.
-use Rattle.std.specs.Prelude.{◌≡◌, ℕ, ◌-◌, ◌*◌, ◌≤◌, min, List, [], ◌∷◌, ◌++◌, IfOk, IsOk}
+use Rattle.std.specs.Prelude.{◌≡◌, ℕ, ◌-◌, ◌*◌, ◌≤◌, min, List, [], ◌∷◌, ◌++◌, take, drop, IfOk, IsOk}
 use Rattle.std.specs.List.{AllByRecursion}
 use Rattle.std.specs.Option.{option_map_or}
 use Rattle.std.specs.Result.{result_ok}
@@ -13,6 +13,10 @@ use Rattle.far_table.specs.declared.piece.Piece.{Piece}
 -- where the i-th of pieces of so many row groups begins, and the one before it ends
 abbrev pub begin_of : ℕ → ℕ → ℕ → ℕ
 begin_of count long i = min (i * long) count
+
+-- the places of the row groups from one up to another
+abbrev pub run_of : ℕ → ℕ → ℕ → List Place → List Place
+run_of size from to places = take ((to - from) * size) (drop (from * size) places)
 
 -- a piece that was folded: what each row group from one up to another comes to, in order, or a refusal; its meter tells which
 pub record IsPiece (spec : Spec) (size : ℕ) (places : List Place) (from to : ℕ) (piece : Piece) : Type 0 where

@@ -13,6 +13,7 @@ mod piece;
 mod recounting;
 mod row_group;
 mod table_rows;
+mod totals;
 
 pub use live_table::LiveTable;
 pub use offload_build::{OffloadBuild, OffloadCarried};

@@ -1,5 +1,5 @@
 // Pieces of a table that are folded apart, on threads, and put together.
-ghost use Rattle.std.specs.Prelude.{◌≡◌, ◌+◌, ◌*◌, ◌<◌, ◌≤◌, ◌^◌, ◌++◌, ℕ, length, IfOk, IfErr, IsOk, OnOk, slice_index_or};
+ghost use Rattle.std.specs.Prelude.{◌≡◌, ◌+◌, ◌*◌, ◌<◌, ◌≤◌, ◌^◌, ◌++◌, ℕ, length, max, IfOk, IfErr, IsOk, OnOk, slice_index_or};
 ghost use Rattle.far_rows.specs.Jobs.{AreAt};
 ghost use Rattle.far_rows.specs.Places.{places_in};
 ghost use Rattle.far_table.specs.MixedGroups.{MayFold};
@@ -26,6 +26,8 @@ pub(crate) fn cut_for(count: u32, workers: u32) -> Cut
     requires some { 0 < workers }
     ensures few { result.pieces ≤ workers }
     ensures all { count ≤ result.pieces * result.long }
+    ensures some { 0 < result.long }
+    ensures short { result.long ≤ max count 1 }
 {
     let long = count.div_ceil(workers).max(1);
     Cut {
@@ -34,8 +36,8 @@ pub(crate) fn cut_for(count: u32, workers: u32) -> Cut
     }
 }
 
-// Where a piece begins, and the one before it ends.
-fn begin_of(count: u32, long: u32, piece: usize) -> u32
+/// Where a piece begins, and the one before it ends.
+pub(crate) fn begin_of(count: u32, long: u32, piece: usize) -> u32
     requires { piece ≤ 64 }
     ensures { result ≡ begin_of count long piece }
 {

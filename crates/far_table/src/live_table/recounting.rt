@@ -5,10 +5,11 @@ ghost use Rattle.far_table.specs.Recounting.{recount_refusal, IsAnswerNow, Recou
 
 use super::LiveTable;
 use crate::recounting::{cut_for, fold_pieces, gather};
+use crate::totals::total_answer;
 use far_aggregates::laws::an_aggregate_is_served_by_the_columns_of_its_schema;
 use far_aggregates::{answer_of, group_count};
 use far_store::{FarRead, Meter};
-use far_types::{Answer, Refusal};
+use far_types::{Answer, Fold, Refusal};
 use std::thread::Threads;
 
 impl<S: FarRead> LiveTable<S> {
@@ -43,6 +44,9 @@ impl<S: FarRead> LiveTable<S> {
         an_aggregate_is_served_by_the_columns_of_its_schema();
         let held = self.rows.held();
         let size = self.rows.limits().group;
+        if let Fold::Totals = spec.fold {
+            return total_answer(rt, self.alloc, held, store, meter, spec, size, workers);
+        }
         let places = self.rows.len();
         let count = group_count(size, places) as u32;
         let pieces = fold_pieces(

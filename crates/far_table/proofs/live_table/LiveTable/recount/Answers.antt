@@ -6,6 +6,7 @@ use Rattle.far_types.specs.declared.spec.Spec.{Spec}
 use Rattle.far_types.specs.Answers.{answer_over}
 use Rattle.far_types.specs.Bounds.{spec_refusal}
 use Rattle.far_types.specs.Table.{groups, rows_of}
+use Rattle.far_rows.specs.Places.{places_in}
 use Rattle.far_rows.specs.Rows.{Rows, cells_of}
 use Rattle.far_aggregates.specs.Aggregates.{aggregate_in}
 use Rattle.far_aggregates.specs.Kept.{registered_of}
@@ -67,3 +68,36 @@ returns-clause-answer g c =
     subst (λ (s : State g.row.S-Ticket.Denot). IsAnswerNow s.table c.args.a answer) c.self.view_is
     (subst (λ o. IsSomeAnd o (λ aggregate. answer ≡ answer_over aggregate.spec (rows_of t.places))) (sym found.is)
     (told t.places (sym c.len-places.ensures.len) whole ∙ ap (λ s. answer_over s (rows_of t.places)) (sym found.same)))) c.answer_of.ensures.answer
+
+pub total_answer-requires-clause-may_fold : goal.total_answer-requires-clause-may_fold
+total_answer-requires-clause-may_fold g c κs within =
+    let t = c.self.inside.rows in
+    let slots = c.self.inside.aggregates in
+    let spec = c.in-Some.spec.now in
+    let law = c.an_aggregate_is_served_by_the_columns_of_its_schema.ensures in
+    let found = an-aggregate (aggregate_in slots c.args.a) spec c.in-Some.ensures in
+    let checked = subst (IsChecked t.schema) found.is (checked-at t.schema (registered_of slots) c.args.a c.self.invariant.checked) in
+    let right = ap (λ (s : Spec). spec_refusal t.schema s) (sym found.same) ∙ checked in
+    subst (λ (r : Rows g.row.S-Ticket.Denot). MayFold r spec) (sym c.held-held.ensures.held) record {
+      tests = (law t.schema spec (λ c. true) right (λ c within. refl)).tests;
+      columns = needed-below law t.held t.schema c.held-held.ensures.kinds spec right;
+    }
+
+pub total_answer-requires-clause-size : goal.total_answer-requires-clause-size
+total_answer-requires-clause-size g c κs within =
+    ap (λ (l : Limits). l.group) c.limits.ensures.same ∙ sym c.held-held.ensures.size ∙ ap (λ (r : Rows g.row.S-Ticket.Denot). r.size) (sym c.held-held.ensures.held)
+
+pub returns-in-Totals-clause-answer : goal.returns-in-Totals-clause-answer
+returns-in-Totals-clause-answer g c =
+    let content = g.S.FarTickets.content in
+    let t = c.self.inside.rows in
+    let slots = c.self.inside.aggregates in
+    let spec = c.in-Some.spec.now in
+    let found = an-aggregate (aggregate_in slots c.args.a) spec c.in-Some.ensures in
+    IfOk-weaker c.total_answer.result _ _ (λ answer told.
+    subst (λ (s : State g.row.S-Ticket.Denot). IsAnswerNow s.table c.args.a answer) c.self.view_is
+    (subst (λ o. IsSomeAnd o (λ aggregate. answer ≡ answer_over aggregate.spec (rows_of t.places))) (sym found.is)
+    (told
+    ∙ ap (λ (r : Rows g.row.S-Ticket.Denot). answer_over spec (rows_of (places_in content r))) c.held-held.ensures.held
+    ∙ ap (λ ps. answer_over spec (rows_of ps)) (sym c.held-held.ensures.places)
+    ∙ ap (λ s. answer_over s (rows_of t.places)) (sym found.same)))) c.total_answer.ensures.answer
