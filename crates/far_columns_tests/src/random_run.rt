@@ -7,6 +7,8 @@ use crate::script::Layout;
 use crate::stage::Stage;
 use far_random::Draws;
 use far_store::{AgentStore, FarStore, FaultyStore};
+use far_texts::TextColumn;
+use far_texts::laws::columns_stay_together;
 use far_types::Refusal;
 use model::{Model, step};
 use plain::Faults;
