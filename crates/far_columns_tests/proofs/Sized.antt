@@ -5,9 +5,9 @@ use Rattle.std.specs.declared.result.Result.TheVariants.{Ok, Err}
 use Rattle.std.proofs.lemmas.List.Elements.{All-cons, All-head, All-tail, All-map}
 use Rattle.far_vector.specs.Vector.{Vector}
 use Rattle.far_vector.specs.Effects.{unpushed}
-use Rattle.far_columns.specs.Texts.{Texts}
-use Rattle.far_columns.specs.Changes as text
-use Rattle.far_columns.specs.Together as texts
+use Rattle.far_texts.specs.Texts.{Texts}
+use Rattle.far_texts.specs.Changes as text
+use Rattle.far_texts.specs.Together as texts
 use Rattle.far_columns.specs.NumbersTogether as numbers
 use Rattle.far_columns.proofs.NumbersTogether.{pushed-size}
 

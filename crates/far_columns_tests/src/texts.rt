@@ -1,7 +1,7 @@
 // Columns of texts of one table with their objects, and calls on them.
 ghost use Rattle.std.specs.Prelude.{◌≡◌, ◌<◌, ◌≤◌, All, IfOk};
-ghost use Rattle.far_columns.specs.Texts.{Lists, lists_of, IsTextColumn};
-ghost use Rattle.far_columns.specs.Columns.{AreTextColumns};
+ghost use Rattle.far_texts.specs.Texts.{Lists, lists_of, IsTextColumn};
+ghost use Rattle.far_texts.specs.Columns.{AreTextColumns};
 
 mod all;
 mod one;
@@ -10,8 +10,9 @@ use crate::cell::Cell;
 use crate::lending::lend_texts;
 use crate::script::{Call, Layout, WRONG, found};
 use all::{may_push_all, push_all};
-use far_columns::laws::columns_stay_together;
-use far_columns::{Alive, TextColumn};
+use far_texts::laws::columns_stay_together;
+use far_columns::Alive;
+use far_texts::TextColumn;
 use far_fixtures::no_objects;
 use far_scopes::Objects;
 use far_store::{FarStore, FarTickets};
@@ -32,8 +33,8 @@ pub struct TextColumns<'a, S: FarStore> {
 impl<'a, S: FarStore> Model for TextColumns<'a, S> {
     ghost use Rattle.std.specs.Prelude.{◌≡◌, ℕ, All};
     ghost use Rattle.far_scopes.specs.Movement.{Movement, AreHere};
-    ghost use Rattle.far_columns.specs.Texts.{lists_of};
-    ghost use Rattle.far_columns.specs.Columns.{AreTextColumns};
+    ghost use Rattle.far_texts.specs.Texts.{lists_of};
+    ghost use Rattle.far_texts.specs.Columns.{AreTextColumns};
 
     ghost Value = { Movement ℕ S.Ticket };
 

@@ -1,12 +1,12 @@
 // Two columns of texts get a text each.
 ghost use Rattle.std.specs.Prelude.{◌≡◌, ℕ, List, length, All, IsTrue};
 ghost use Rattle.far_scopes.specs.Movement.{AreHere};
-ghost use Rattle.far_columns.specs.Texts.{lists_of};
-ghost use Rattle.far_columns.specs.Columns.{AreTextColumns};
-ghost use Rattle.far_columns.specs.Together.{AreColumns};
+ghost use Rattle.far_texts.specs.Texts.{lists_of};
+ghost use Rattle.far_texts.specs.Columns.{AreTextColumns};
+ghost use Rattle.far_texts.specs.Together.{AreColumns};
 
 use crate::script::WRONG;
-use far_columns::{TextColumn, may_push_texts, push_texts};
+use far_texts::{TextColumn, may_push_texts, push_texts};
 use far_scopes::Objects;
 use far_store::FarTickets;
 use far_types::{Refusal, Text};

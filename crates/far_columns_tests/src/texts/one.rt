@@ -1,13 +1,13 @@
 // Calls on one of several columns of texts that share their objects.
 ghost use Rattle.std.specs.Prelude.{◌≡◌, ◌<◌, ◌^◌, ℕ, List, length, All};
 ghost use Rattle.far_scopes.specs.Movement.{AreHere};
-ghost use Rattle.far_columns.specs.Texts.{lists_of, IsTextColumn};
-ghost use Rattle.far_columns.specs.Columns.{AreTextColumns, ChangesColumn};
+ghost use Rattle.far_texts.specs.Texts.{lists_of, IsTextColumn};
+ghost use Rattle.far_texts.specs.Columns.{AreTextColumns, ChangesColumn};
 
 use crate::moving::{bring_texts_back, send_texts_away};
 use crate::script::{Call, WRONG};
-use far_columns::TextColumn;
-use far_columns::laws::columns_stay_together;
+use far_texts::TextColumn;
+use far_texts::laws::columns_stay_together;
 use far_scopes::Objects;
 use far_store::FarStore;
 use far_types::{Refusal, Text};

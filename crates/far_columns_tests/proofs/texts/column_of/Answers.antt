@@ -1,5 +1,5 @@
 use Rattle.std.proofs.Common.{sym, subst, arith}
-use Rattle.far_columns.specs.Texts.{lists_of, IsTextColumn}
+use Rattle.far_texts.specs.Texts.{lists_of, IsTextColumn}
 use Rattle.far_columns_tests.proofs.texts.column_of.Goals as goal
 
 pub returns : goal.returns

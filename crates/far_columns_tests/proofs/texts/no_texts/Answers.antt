@@ -1,8 +1,8 @@
 use Rattle.std.proofs.Common.{◌≡◌, sym, ap, subst}
 use Rattle.std.specs.Prelude.{All}
 use Rattle.std.proofs.lemmas.List.Elements.{All-push}
-use Rattle.far_columns.specs.Texts.{Texts}
-use Rattle.far_columns.specs.Columns.{AreTextColumns}
+use Rattle.far_texts.specs.Texts.{Texts}
+use Rattle.far_texts.specs.Columns.{AreTextColumns}
 use Rattle.far_columns_tests.proofs.texts.no_texts.Goals as goal
 
 pub loop-k-preserved : goal.loop-k-preserved

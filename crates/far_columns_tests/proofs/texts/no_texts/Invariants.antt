@@ -1,7 +1,7 @@
 use Rattle.std.proofs.Common.{◌≡◌, ℕ}
 use Rattle.std.specs.Prelude.{All}
-use Rattle.far_columns.specs.Texts.{Lists}
-use Rattle.far_columns.specs.Columns.{AreTextColumns}
+use Rattle.far_texts.specs.Texts.{Lists}
+use Rattle.far_texts.specs.Columns.{AreTextColumns}
 use Rattle.far_columns_tests.proofs.texts.no_texts.Given as goal
 
 abbrev pub invariant-loop-k : goal.invariant-loop-k

@@ -1,6 +1,6 @@
 use Rattle.std.proofs.Common.{◌≡◌, sym, subst}
 use Rattle.std.specs.Prelude.{All}
-use Rattle.far_columns.specs.Texts.{Texts}
+use Rattle.far_texts.specs.Texts.{Texts}
 use Rattle.far_columns_tests.proofs.Sized.{either-way, sized-texts}
 use Rattle.far_columns_tests.proofs.texts.all.push_all.Goals as goal
 
