@@ -5,7 +5,7 @@ use Rattle.std.specs.Option.{option_map, option_or}
 use Rattle.far_codec.specs.TextForm.{IsTextsForm}
 use Rattle.far_scopes.specs.Memory.{list_in}
 use Rattle.far_scopes.specs.Movement.{Movement, AreTracked, meant, ticket_of}
-use Rattle.far_texts.specs.Texts.{Texts, Lists, IsTextColumn, IsGroupForm, lists_of}
+use Rattle.far_texts.specs.Texts.{Texts, IsTextColumn, IsGroupForm, lists_of}
 use Rattle.far_texts.proofs.InUse.{in-use}
 
 with-list : (list : Option (List ℕ)) (P : List ℕ → Type 0) (R : Type 0) → IsSomeAnd list P → ((bytes : List ℕ) → list ≡ Some bytes → R) → R

@@ -6,9 +6,9 @@ ghost use Rattle.far_texts.specs.Columns.{AreTextColumns};
 ghost use Rattle.far_texts.specs.Together.{AreColumns};
 
 use crate::script::WRONG;
-use far_texts::{TextColumn, may_push_texts, push_texts};
 use far_scopes::Objects;
 use far_store::FarTickets;
+use far_texts::{TextColumn, may_push_texts, push_texts};
 use far_types::{Refusal, Text};
 use std::alloc::Global;
 

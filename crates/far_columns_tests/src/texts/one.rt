@@ -6,10 +6,10 @@ ghost use Rattle.far_texts.specs.Columns.{AreTextColumns, ChangesColumn};
 
 use crate::moving::{bring_texts_back, send_texts_away};
 use crate::script::{Call, WRONG};
-use far_texts::TextColumn;
-use far_texts::laws::columns_stay_together;
 use far_scopes::Objects;
 use far_store::FarStore;
+use far_texts::TextColumn;
+use far_texts::laws::columns_stay_together;
 use far_types::{Refusal, Text};
 use std::alloc::Global;
 

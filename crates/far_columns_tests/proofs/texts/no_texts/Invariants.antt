@@ -1,4 +1,4 @@
-use Rattle.std.proofs.Common.{◌≡◌, ℕ}
+use Rattle.std.proofs.Common.{◌≡◌}
 use Rattle.std.specs.Prelude.{All}
 use Rattle.far_texts.specs.Texts.{Lists}
 use Rattle.far_texts.specs.Columns.{AreTextColumns}

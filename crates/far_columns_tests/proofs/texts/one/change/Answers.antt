@@ -1,4 +1,4 @@
-use Rattle.std.proofs.Common.{length, get_or, arith}
+use Rattle.std.proofs.Common.{get_or, arith}
 use Rattle.std.proofs.lemmas.Option.{slice_get-get_or}
 use Rattle.far_texts.specs.Texts.{lists_of}
 use Rattle.far_columns_tests.proofs.texts.one.change.Goals as goal
