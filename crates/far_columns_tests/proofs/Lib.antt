@@ -1,2 +1,2 @@
 mod Walking
-mod KeptColumns
+mod Sized

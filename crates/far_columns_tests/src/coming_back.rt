@@ -1,6 +1,9 @@
 // Columns whose objects go away and come back, row group by row group. After each step every place whose object is local
 // reads as before, and every other answers the refusal that names its object.
-use crate::script::{Line, PairCall};
+use crate::cell::Cell;
+use crate::script::Call;
+use crate::stage::Stage;
+use far_store::FarStore;
 use far_types::Refusal;
 use std::alloc::Global;
 
@@ -43,64 +46,76 @@ fn here(k: usize, group: usize, local: &str) -> Result<(), Refusal> {
 
 /// The refusal that names the first of three objects that is away.
 fn all_here(k: usize, local: &str) -> Result<(), Refusal> {
-    here(k, 0, local)?;
-    here(k, 1, local)?;
-    here(k, 2, local)
-}
-
-/// A script of pushes and moves, with the cells that each place has, to be played on two columns in row groups of three places.
-pub fn script<C: Copy>(alloc: Global, cells: &[[C; 2]]) -> Result<Vec<Line<PairCall<C>>>, Refusal> {
-    let mut lines = Vec::new(alloc);
-    add_pushes(&mut lines, cells)?;
-    add_moves(&mut lines, cells)?;
-    Ok(lines)
-}
-
-/// Reads all, and once more after each move.
-fn add_moves<C: Copy>(lines: &mut Vec<Line<PairCall<C>>>, cells: &[[C; 2]]) -> Result<(), Refusal> {
-    add_reads(lines, cells, ["+++", "+++"])?;
-    for (step, local) in &STEPS {
-        lines.push((call_of(*step), Ok(())))?;
-        add_reads(lines, cells, *local)?;
-    }
-    Ok(())
-}
-
-fn call_of<C>(step: Move) -> PairCall<C> {
-    match step {
-        Move::Away(k, group) => PairCall::Away(k, group),
-        Move::Back(k, group) => PairCall::Back(k, group),
-    }
-}
-
-/// Pushes all cells, and clears some places.
-fn add_pushes<C: Copy>(
-    lines: &mut Vec<Line<PairCall<C>>>,
-    cells: &[[C; 2]],
-) -> Result<(), Refusal> {
-    for pair in cells {
-        lines.push((PairCall::Push(pair[0], pair[1]), Ok(())))?;
-    }
-    for place in CLEARED {
-        lines.push((PairCall::Clear(place), Ok(())))?;
-    }
-    Ok(())
-}
-
-/// Reads both columns, of which these objects are local, place by place, and lends each whole.
-fn add_reads<C: Copy>(
-    lines: &mut Vec<Line<PairCall<C>>>,
-    cells: &[[C; 2]],
-    local: [&str; 2],
-) -> Result<(), Refusal> {
-    for (place, pair) in cells.iter().enumerate() {
-        for k in 0..2usize {
-            let found = here(k, place / 3, local[k]);
-            lines.push((PairCall::Cell(k, place, pair[k]), found))?;
+    for group in 0..3usize {
+        if here(k, group, local).is_err() {
+            return here(k, group, local);
         }
     }
-    for k in 0..2usize {
-        lines.push((PairCall::Lend(k), all_here(k, local[k])))?;
-    }
     Ok(())
+}
+
+fn call_of(step: Move) -> Call {
+    match step {
+        Move::Away(k, group) => Call::Away(k, group),
+        Move::Back(k, group) => Call::Back(k, group),
+    }
+}
+
+/// Pushes these cells to two columns in row groups of three places and plays the steps: the first, counted from 1, after which
+/// something is not as it should be; 0 where that is so before them.
+pub fn first_wrong<S: FarStore>(
+    alloc: Global,
+    stage: &mut Stage<'_, S>,
+    cells: &[[Cell; 2]],
+) -> Option<usize> {
+    if !push_all(alloc, stage, cells) {
+        return Some(0);
+    }
+    for (index, (step, local)) in STEPS.iter().enumerate() {
+        let reply = stage.last_reply(alloc, call_of(*step));
+        if reply != Ok(()) || !reads(alloc, stage, cells, *local) {
+            return Some(index.saturating_add(1));
+        }
+    }
+    None
+}
+
+// Pushes all cells, clears some places, and reads all: whether it went well.
+fn push_all<S: FarStore>(alloc: Global, stage: &mut Stage<'_, S>, cells: &[[Cell; 2]]) -> bool {
+    for (place, pair) in cells.iter().enumerate() {
+        let reply = stage.last_reply(alloc, Call::PushAll(pair[0], pair[1]));
+        if reply != Ok(()) || !clear(alloc, stage, place) {
+            return false;
+        }
+    }
+    reads(alloc, stage, cells, ["+++", "+++"])
+}
+
+// Clears a place in both columns, if it is one of those that are cleared.
+fn clear<S: FarStore>(alloc: Global, stage: &mut Stage<'_, S>, place: usize) -> bool {
+    !CLEARED.contains(&place)
+        || (stage.last_reply(alloc, Call::Clear(0, place)) == Ok(())
+            && stage.last_reply(alloc, Call::Clear(1, place)) == Ok(()))
+}
+
+// Reads both columns, of which these objects are local, place by place, and lends each whole.
+fn reads<S: FarStore>(
+    alloc: Global,
+    stage: &mut Stage<'_, S>,
+    cells: &[[Cell; 2]],
+    local: [&str; 2],
+) -> bool {
+    for k in 0..2usize {
+        for (place, pair) in cells.iter().enumerate() {
+            let reply = stage.last_reply(alloc, Call::Find(k, place, pair[k]));
+            if reply != here(k, place / 3, local[k]) {
+                return false;
+            }
+        }
+        let reply = stage.last_reply(alloc, Call::Lend(k, 0, cells.len()));
+        if reply != all_here(k, local[k]) {
+            return false;
+        }
+    }
+    true
 }

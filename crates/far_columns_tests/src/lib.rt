@@ -3,7 +3,11 @@
 //! calls agree with plain lists.
 
 #[cfg(test)]
-mod alive;
+mod cases;
+#[cfg(test)]
+mod cell;
+#[cfg(test)]
+mod columns;
 #[cfg(test)]
 mod coming_back;
 #[cfg(test)]
@@ -11,16 +15,12 @@ mod lending;
 #[cfg(test)]
 mod moving;
 #[cfg(test)]
-mod number_column;
-#[cfg(test)]
-mod number_columns;
+mod numbers;
 #[cfg(test)]
 mod random_run;
 #[cfg(test)]
 mod script;
 #[cfg(test)]
-mod text_column;
+mod stage;
 #[cfg(test)]
-mod text_columns;
-#[cfg(test)]
-mod words;
+mod texts;

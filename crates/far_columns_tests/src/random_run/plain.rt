@@ -1,18 +1,12 @@
-// Columns as plain lists, and why a call on one is refused.
-use super::{CHANGES, LEAVINGS, SIZE};
+// A column as a plain list, and why a call on it is refused. It has no memory of its own.
+use super::drawn::{bytes_of, form_length};
+use super::{CHANGES, GROUPS, LEAVINGS, LIMIT, PLACES, SIZE};
+use crate::cell::Cell;
+use crate::script::Call;
 use far_types::Refusal;
-use std::alloc::Global;
-
-/// What is known of a row group's object.
-#[derive(Clone, Copy)]
-struct Group {
-    local: bool,
-    changes: u32,
-    leavings: u32,
-}
 
 /// Which put and which get of a store fails, counted from 1, and how many there were.
-#[derive(Clone, Copy)]
+#[derive(Drop)]
 pub struct Faults {
     failing_put: u64,
     failing_get: u64,
@@ -30,222 +24,300 @@ impl Faults {
         }
     }
 
-    fn put(&mut self) -> Result<(), Refusal> {
+    fn put_fails(&mut self) -> bool {
         self.puts = self.puts.saturating_add(1);
-        if self.puts == self.failing_put {
-            return Err(Refusal::FarFault);
-        }
-        Ok(())
+        self.puts == self.failing_put
     }
 
-    fn get(&mut self) -> Result<(), Refusal> {
+    fn get_fails(&mut self) -> bool {
         self.gets = self.gets.saturating_add(1);
-        if self.gets == self.failing_get {
-            return Err(Refusal::FarFault);
-        }
-        Ok(())
+        self.gets == self.failing_get
     }
 }
 
-/// A list of cells, whether each is alive, and what is known of the objects of its row groups.
+/// What is known of a row group's object, by its number.
+#[derive(Clone, Copy)]
+pub struct Group {
+    pub object: u32,
+    local: bool,
+    changes: u32,
+    leavings: u32,
+}
+
+const NO_GROUP: Group = Group {
+    object: 0,
+    local: false,
+    changes: 0,
+    leavings: 0,
+};
+
+// Why a list of this length is not placed.
+fn late(length: usize, fits: bool) -> Option<Refusal> {
+    if length > LIMIT {
+        Some(Refusal::ChunkFull)
+    } else if !fits {
+        Some(Refusal::RegionFull)
+    } else {
+        None
+    }
+}
+
+/// Cells, whether each is alive, and what is known of the objects of their row groups.
 #[derive(Drop)]
-pub struct Plain<X> {
+pub struct Plain {
     column: u32,
-    cells: Vec<X>,
-    alive: Vec<bool>,
-    groups: Vec<Group>,
+    // Whether it is a column of texts: each that is written makes another list of its row group.
+    has_texts: bool,
+    pub len: usize,
+    pub cells: [Cell; PLACES],
+    pub alive: [bool; PLACES],
+    pub groups: [Group; GROUPS],
 }
 
-// The refusal, if there is one.
-fn refuse(refusal: Option<Refusal>) -> Result<(), Refusal> {
-    match refusal {
-        Some(refusal) => Err(refusal),
-        None => Ok(()),
-    }
-}
-
-impl<X: Drop> Plain<X> {
-    pub fn new(alloc: Global, column: u32) -> Plain<X> {
+impl Plain {
+    /// No cell.
+    pub fn new(column: u32, has_texts: bool) -> Plain {
         Plain {
             column,
-            cells: Vec::new(alloc),
-            alive: Vec::new(alloc),
-            groups: Vec::new(alloc),
+            has_texts,
+            len: 0,
+            cells: [Cell::Missing; PLACES],
+            alive: [false; PLACES],
+            groups: [NO_GROUP; GROUPS],
         }
-    }
-
-    pub fn cells(&self) -> &[X] {
-        &self.cells
-    }
-
-    pub fn alive(&self) -> &[bool] {
-        &self.alive
-    }
-
-    /// How many row groups there are.
-    pub fn groups(&self) -> usize {
-        self.groups.len()
-    }
-
-    /// Whether the next place begins a row group.
-    pub fn begins_group(&self) -> bool {
-        self.cells.len() % SIZE == 0
     }
 
     /// The cells of a row group.
-    pub fn cells_of(&self, group: usize) -> &[X] {
-        let from = group.saturating_mul(SIZE).min(self.cells.len());
-        let to = from.saturating_add(SIZE).min(self.cells.len());
+    pub fn cells_of(&self, group: usize) -> &[Cell] {
+        let from = group.saturating_mul(SIZE);
+        let to = from.saturating_add(SIZE).min(self.len);
         self.cells.get(from..to).unwrap_or(&[])
     }
 
     /// Whether the object of a row group is local.
-    pub fn here(&self, group: usize) -> Result<(), Refusal> {
-        match self.groups.get(group) {
-            Some(Group { local: true, .. }) => Ok(()),
-            _ => Err(Refusal::Absent {
-                column: self.column,
-                group: u32::try_from(group).unwrap_or(u32::MAX),
-            }),
+    pub fn is_local(&self, group: usize) -> bool {
+        match self.group(group) {
+            Some(known) => known.local,
+            None => false,
         }
     }
 
-    /// A cell more. `early` is why no cell like it is taken, and `late` why its row group has no room for it.
-    pub fn push(
-        &mut self,
-        cell: X,
-        early: Option<Refusal>,
-        late: Option<Refusal>,
-    ) -> Result<(), Refusal> {
-        refuse(early)?;
-        if self.begins_group() {
-            refuse(late)?;
-            self.groups.push(Group {
-                local: true,
-                changes: 0,
-                leavings: 0,
-            })?;
+    /// Why no cell is found past the end.
+    pub fn past(&self) -> Refusal {
+        if self.has_texts {
+            Refusal::NoRow
         } else {
-            let last = self.cells.len() / SIZE;
-            self.write(last, late)?;
+            Refusal::OutOfRange
         }
-        self.cells.push(cell)?;
-        self.alive.push(true)?;
-        Ok(())
     }
 
-    /// Another cell at a place.
-    pub fn set(
-        &mut self,
-        place: usize,
-        cell: X,
-        early: Option<Refusal>,
-        late: Option<Refusal>,
-    ) -> Result<(), Refusal> {
-        refuse(early)?;
-        if place >= self.cells.len() {
-            return Err(Refusal::OutOfRange);
+    /// The refusal that names the object of a row group.
+    pub fn absent(&self, group: usize) -> Refusal {
+        Refusal::Absent {
+            column: self.column,
+            group: u32::try_from(group).unwrap_or(u32::MAX),
         }
-        self.write(place / SIZE, late)?;
-        if let Some(old) = self.cells.get_mut(place) {
-            *old = cell;
-        }
-        Ok(())
     }
 
-    // The object of a row group is written.
-    fn write(&mut self, group: usize, late: Option<Refusal>) -> Result<(), Refusal> {
-        self.here(group)?;
-        refuse(late)?;
-        let Some(group) = self.groups.get_mut(group) else {
-            return Err(Refusal::NoRow);
-        };
-        if group.changes >= CHANGES {
-            return Err(Refusal::EditsUsedUp);
+    // What is known of the object of a row group, if there is one.
+    fn group(&self, group: usize) -> Option<Group> {
+        if group < self.len.div_ceil(SIZE) {
+            self.groups.get(group).copied()
+        } else {
+            None
         }
-        group.changes = group.changes.saturating_add(1);
-        Ok(())
     }
 
-    /// Takes the last cell back, where it is alone in its row group, whose object is local.
-    pub fn unpush(&mut self) -> Result<(), Refusal> {
-        let len = self.cells.len();
-        if len % SIZE != 1 || self.here(len / SIZE).is_err() {
-            return Err(Refusal::StaleJob);
+    // How long the list of a row group is, once a cell of it, or the one behind them, is this.
+    fn length_with(&self, place: usize, cell: Cell) -> usize {
+        if self.has_texts {
+            form_length(self.cells_of(place / SIZE), place % SIZE, cell)
+        } else {
+            SIZE
         }
-        self.cells.pop();
-        self.alive.pop();
-        self.groups.pop();
-        Ok(())
     }
 
-    /// A place is not alive from now on.
-    pub fn clear(&mut self, place: usize) -> Result<(), Refusal> {
-        let Some(alive) = self.alive.get_mut(place) else {
-            return Err(Refusal::NoRow);
-        };
-        *alive = false;
-        Ok(())
+    /// How long the list of an object is that a call is to place; 0 where it places none.
+    pub fn length(&self, call: Call) -> usize {
+        match call {
+            Call::Push(_, cell) => self.length_with(self.len, cell),
+            Call::Set(_, place, cell) => self.length_with(place, cell),
+            Call::Back(_, group) => {
+                let first = (group as usize).saturating_mul(SIZE);
+                match self.cells.get(first) {
+                    Some(cell) if first < self.len => self.length_with(first, *cell),
+                    _ => 0,
+                }
+            }
+            _ => 0,
+        }
     }
 
-    /// Sends the object of a row group away.
-    pub fn send_away(&mut self, group: usize, faults: &mut Faults) -> Result<(), Refusal> {
-        if group >= self.groups.len() {
-            return Err(Refusal::NoRow);
-        }
-        self.here(group)?;
-        let Some(group) = self.groups.get_mut(group) else {
-            return Err(Refusal::NoRow);
-        };
-        if group.leavings >= LEAVINGS {
-            return Err(Refusal::EditsUsedUp);
-        }
-        faults.put()?;
-        group.leavings = group.leavings.saturating_add(1);
-        group.local = false;
-        Ok(())
-    }
-
-    /// Brings the object of a row group back; `fits` says whether there is room for it.
-    pub fn bring_back(
-        &mut self,
-        group: usize,
+    /// Why a call is refused that is to place a list of this length; `fits` says whether there is room for it, and `last` is
+    /// the number of the last object.
+    pub fn refusal(
+        &self,
+        call: Call,
+        length: usize,
         fits: bool,
+        last: Option<u32>,
         faults: &mut Faults,
-    ) -> Result<(), Refusal> {
-        let Some(group) = self.groups.get_mut(group) else {
-            return Err(Refusal::NoRow);
-        };
-        if group.local {
-            return Err(Refusal::StaleJob);
+    ) -> Option<Refusal> {
+        match call {
+            Call::Push(_, cell) => self.push_refusal(cell, late(length, fits)),
+            Call::Set(_, place, cell) => self.set_refusal(place, cell, late(length, fits)),
+            Call::Unpush(_) => self.unpush_refusal(last),
+            Call::Away(_, group) => self.leave_refusal(group as usize, faults),
+            Call::Back(_, group) => self.come_refusal(group as usize, fits, faults),
+            Call::Lend(_, from, to) => self.lend_refusal(from, to),
+            Call::Clear(_, place) => self.clear_refusal(place),
+            _ => None,
         }
-        faults.get()?;
-        if !fits {
-            return Err(Refusal::RegionFull);
-        }
-        group.local = true;
-        Ok(())
     }
 
-    /// The cell of a place, or `past` where there is none.
-    pub fn cell(&self, place: usize, past: Refusal) -> Result<&X, Refusal> {
-        if place >= self.cells.len() {
-            return Err(past);
+    fn push_refusal(&self, cell: Cell, late: Option<Refusal>) -> Option<Refusal> {
+        if bytes_of(cell) > 4_096 {
+            Some(Refusal::TextTooLong)
+        } else if self.len % SIZE == 0 {
+            late
+        } else {
+            self.write_refusal(self.len / SIZE, late)
         }
-        self.here(place / SIZE)?;
-        Ok(&self.cells[place])
     }
 
-    /// Whether a part may be lent.
-    pub fn may_lend(&self, from: usize, to: usize) -> Result<(), Refusal> {
-        if from > to || to > self.cells.len() {
-            return Err(Refusal::OutOfRange);
+    fn set_refusal(&self, place: usize, cell: Cell, late: Option<Refusal>) -> Option<Refusal> {
+        if bytes_of(cell) > 4_096 {
+            Some(Refusal::TextTooLong)
+        } else if place >= self.len {
+            Some(Refusal::OutOfRange)
+        } else {
+            self.write_refusal(place / SIZE, late)
+        }
+    }
+
+    fn clear_refusal(&self, place: usize) -> Option<Refusal> {
+        if place >= self.len {
+            Some(Refusal::NoRow)
+        } else {
+            None
+        }
+    }
+
+    // Why the object of a row group is not written, where `late` says why a new list is not placed.
+    fn write_refusal(&self, group: usize, late: Option<Refusal>) -> Option<Refusal> {
+        match self.group(group) {
+            Some(known) if !known.local => Some(self.absent(group)),
+            Some(_) if self.has_texts && late.is_some() => late,
+            Some(known) if known.changes >= CHANGES => Some(Refusal::EditsUsedUp),
+            Some(_) => None,
+            None => Some(self.absent(group)),
+        }
+    }
+
+    // Why the last cell is not taken back: it has to be alone in its row group, whose object is local and the last.
+    fn unpush_refusal(&self, last: Option<u32>) -> Option<Refusal> {
+        match self.group(self.len / SIZE) {
+            Some(known) if self.len % SIZE == 1 && known.local && last == Some(known.object) => {
+                None
+            }
+            _ => Some(Refusal::StaleJob),
+        }
+    }
+
+    fn leave_refusal(&self, group: usize, faults: &mut Faults) -> Option<Refusal> {
+        match self.group(group) {
+            None => Some(Refusal::NoRow),
+            Some(known) if !known.local => Some(self.absent(group)),
+            Some(known) if known.leavings >= LEAVINGS => Some(Refusal::EditsUsedUp),
+            Some(_) if faults.put_fails() => Some(Refusal::FarFault),
+            Some(_) => None,
+        }
+    }
+
+    fn come_refusal(&self, group: usize, fits: bool, faults: &mut Faults) -> Option<Refusal> {
+        match self.group(group) {
+            None => Some(Refusal::NoRow),
+            Some(known) if known.local => Some(Refusal::StaleJob),
+            Some(_) if faults.get_fails() => Some(Refusal::FarFault),
+            Some(_) if !fits => Some(Refusal::RegionFull),
+            Some(_) => None,
+        }
+    }
+
+    fn lend_refusal(&self, from: usize, to: usize) -> Option<Refusal> {
+        if from > to || to > self.len {
+            return Some(Refusal::OutOfRange);
         }
         for group in from / SIZE..to.div_ceil(SIZE) {
-            if from < to {
-                self.here(group)?;
+            if from < to && !self.is_local(group) {
+                return Some(self.absent(group));
             }
         }
-        Ok(())
+        None
+    }
+
+    /// What a call that is not refused changes; `object` is the number of the next object.
+    pub fn apply(&mut self, call: Call, object: u32) {
+        match call {
+            Call::Push(_, cell) => self.push(cell, object),
+            Call::Set(_, place, cell) => self.set(place, cell),
+            Call::Unpush(_) => self.len = self.len.saturating_sub(1),
+            Call::Away(_, group) => self.send_away(group as usize),
+            Call::Back(_, group) => self.bring_back(group as usize),
+            Call::Clear(_, place) => {
+                if let Some(alive) = self.alive.get_mut(place) {
+                    *alive = false;
+                }
+            }
+            _ => {}
+        }
+    }
+
+    fn push(&mut self, cell: Cell, object: u32) {
+        let place = self.len;
+        self.len = place.saturating_add(1);
+        if place % SIZE == 0 {
+            if let Some(group) = self.groups.get_mut(place / SIZE) {
+                *group = Group {
+                    object,
+                    local: true,
+                    ..NO_GROUP
+                };
+            }
+        } else {
+            self.written(place / SIZE);
+        }
+        if let Some(there) = self.cells.get_mut(place) {
+            *there = cell;
+        }
+        if let Some(alive) = self.alive.get_mut(place) {
+            *alive = true;
+        }
+    }
+
+    fn set(&mut self, place: usize, cell: Cell) {
+        self.written(place / SIZE);
+        if let Some(there) = self.cells.get_mut(place) {
+            *there = cell;
+        }
+    }
+
+    fn written(&mut self, group: usize) {
+        if let Some(group) = self.groups.get_mut(group) {
+            group.changes = group.changes.saturating_add(1);
+        }
+    }
+
+    fn send_away(&mut self, group: usize) {
+        if let Some(group) = self.groups.get_mut(group) {
+            group.local = false;
+            group.leavings = group.leavings.saturating_add(1);
+        }
+    }
+
+    fn bring_back(&mut self, group: usize) {
+        if let Some(group) = self.groups.get_mut(group) {
+            group.local = true;
+        }
     }
 }
