@@ -1,6 +1,6 @@
 #![tactic(auto)]
 //! Tests of the table: steps that are repeated after memory was refused, objects that go away and come back, and random runs
-//! against plain lists. What a script shows stands in far_examples.
+//! against plain lists. What a script shows stands in examples/.
 
 #[cfg(test)]
 mod answers;

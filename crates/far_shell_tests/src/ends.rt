@@ -1,4 +1,4 @@
-//! Scripts whose reader or writer ends them. What a script of its own shows stands in far_examples.
+//! Scripts whose reader or writer ends them. What a script of its own shows stands in examples/.
 use far_shell::{ShellFault, run_script};
 use std::cell::RefCell;
 use std::io::{self, Read, Write};

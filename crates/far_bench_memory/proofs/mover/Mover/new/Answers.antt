@@ -1,4 +1,0 @@
-use Rattle.far_bench_memory.proofs.mover.Mover.new.Goals as goal
-
-pub invariant_of-result : goal.invariant_of-result
-invariant_of-result g c = (c.in_ok-no_objects.ensures.here _, c.in_ok-no_objects.ensures.clean)
