@@ -9,9 +9,10 @@ use std::thread::Threads;
 use std::{fs, io};
 
 /// Scripts that are run to their end.
-const WHOLE: [&str; 62] = [
+const WHOLE: [&str; 65] = [
     "first_run",
     "bakery",
+    "threads",
     "a_key_gets_the_extremes_of_the_rows_left",
     "a_key_without_rows_goes",
     "a_line_that_is_no_command",
@@ -31,6 +32,7 @@ const WHOLE: [&str; 62] = [
     "a_second_opening",
     "a_sum_wider_than_a_cell",
     "a_table_goes_on_with_a_new_store",
+    "a_table_has_no_sessions",
     "a_text_object_fits_a_segment",
     "a_wrong_kind_comes_before_a_wrong_width",
     "aggregates_of_all_kinds_are_offloaded",
@@ -64,6 +66,7 @@ const WHOLE: [&str; 62] = [
     "refusals_of_edits",
     "row_groups_are_proposed",
     "segments_are_compacted",
+    "sessions_are_a_whole_script",
     "texts_are_measured_by_their_far_form",
     "texts_of_a_row_are_placed_together",
     "the_fill_of_a_segment_stays_until_it_is_empty",
@@ -74,15 +77,17 @@ const WHOLE: [&str; 62] = [
     "words_behind_one_space",
 ];
 
-/// Scripts whose first line opens no table.
-const BAD_STARTS: [&str; 9] = [
+/// Scripts whose first line opens no table and asks for no sessions.
+const BAD_STARTS: [&str; 11] = [
     "a_byte_order_mark",
     "a_command_before_the_table",
     "a_space_behind_the_kinds",
     "an_unknown_kind",
     "empty_lines_alone",
+    "five_sessions",
     "no_line",
     "row_groups_without_a_place",
+    "sessions_without_an_edit",
     "seventeen_columns",
     "some_limits_alone",
 ];
