@@ -1,4 +1,6 @@
 // The table of a script, and how many commands it had.
+ghost use Rattle.std.specs.Prelude.{◌≡◌, ◌≤◌};
+
 use far_frame::World;
 use far_store::FarStore;
 use std::marker::Model;
@@ -7,8 +9,8 @@ use std::marker::Model;
 /// fault of the store at most.
 #[derive(Drop)]
 pub struct Progress<S: FarStore> {
-    pub world: World<S>,
-    pub number: u32,
+    pub(crate) world: World<S>,
+    pub(crate) number: u32,
 }
 
 impl<S: FarStore> Model for Progress<S> {
@@ -20,4 +22,14 @@ impl<S: FarStore> Model for Progress<S> {
     ghost view = { λ progress. record { world = progress.world; number = progress.number } };
 
     ghost invariant = { λ progress. progress.world.faults ≤ progress.number };
+}
+
+impl<S: FarStore> Progress<S> {
+    /// A script behind its first command, which opened this table.
+    pub fn new(world: World<S>) -> Progress<S>
+        requires few { world.faults ≤ 1 }
+        ensures { result ≡ record { world = world; number = 1 } }
+    {
+        Progress { world, number: 1 }
+    }
 }

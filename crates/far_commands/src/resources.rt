@@ -32,6 +32,7 @@ pub struct Agents<R> {
 }
 
 impl<R> Agents<R> {
+    /// What a script is run with that has this runtime and this memory.
     pub fn new(rt: R, alloc: Global) -> Agents<R> {
         Agents { rt, alloc }
     }

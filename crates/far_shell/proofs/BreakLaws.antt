@@ -16,6 +16,7 @@ use Rattle.far_script.specs.Flow.{Counts, Gives, IsSpent, Prints, Reads, StartsW
 use Rattle.far_commands.specs.Progress.{At}
 use Rattle.far_script.specs.Lines.{Blank, IsOneLine}
 use Rattle.far_script.specs.Openings.{Opened, Schema, start_in}
+use Rattle.far_commands.proofs.CutLaws.{front-more}
 use Rattle.far_shell.specs.Scripts.{Answers, Begins, Opens}
 use Rattle.far_shell.specs.Sessions.{IsAnswered}
 use Rattle.far_script.proofs.FlowLaws.{no-first, prints, prints-then, prints-nothing-then, prints-then-nothing, reads-none}

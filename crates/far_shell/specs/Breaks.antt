@@ -1,18 +1,12 @@
 -- What was printed of a script that a fault ends early.
-use Rattle.std.specs.Prelude.{◌≡◌, ◌⊎◌, ◌<◌, ℕ, List, [], ◌∷◌, ◌++◌, length, take, Option, None, Some, IsUtf8, codes}
+use Rattle.std.specs.Prelude.{◌≡◌, ◌⊎◌, ℕ, List, [], ◌∷◌, ◌++◌, Option, None, Some, IsUtf8, codes}
 use Rattle.std.specs.Io.KnownBytes.{Appends}
-use Rattle.far_types.specs.declared.cell.Kind.{Kind}
 use Rattle.far_types.specs.declared.refusal.Refusal.TheVariants as refusal
 use Rattle.far_types.specs.Bounds.{IsSchema, AreLimits}
 use Rattle.far_store.specs.declared.store.FarTickets.{Ghosts as Tickets}
 use Rattle.far_script.specs.declared.fault.ShellFault.{ShellFault}
 use Rattle.far_script.specs.declared.fault.ShellFault.TheVariants as fault
-use Rattle.far_commands.specs.declared.command.Command.{Command}
-use Rattle.far_commands.specs.declared.command.Command.TheVariants as command
-use Rattle.far_frame.specs.State.{live}
-use Rattle.far_commands.specs.Commands.{command_of}
-use Rattle.far_script.specs.Flow.{Prints}
-use Rattle.far_commands.specs.Listings.{listing_of}
+use Rattle.far_commands.specs.Cuts.{Fails, IsFront, Lists}
 use Rattle.far_script.specs.Openings.{Opened, Schema, start_in}
 use Rattle.far_script.specs.Printing.{refusal_text}
 use Rattle.far_commands.specs.Progress.{At}

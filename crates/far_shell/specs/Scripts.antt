@@ -1,15 +1,12 @@
 -- What the lines of a script are answered, and a whole script.
-use Rattle.std.specs.Prelude.{◌≡◌, ◌⊎◌, ℕ, ◌+◌, List, [], ◌∷◌, ◌++◌, Some, codes, IsUtf8}
+use Rattle.std.specs.Prelude.{◌≡◌, ◌⊎◌, ℕ, List, [], ◌∷◌, ◌++◌, Some, codes}
 use Rattle.std.specs.List.{flat_map}
-use Rattle.far_types.specs.Bounds.{IsSchema, AreLimits}
 use Rattle.far_store.specs.declared.store.FarTickets.{Ghosts as Tickets}
-use Rattle.far_frame.specs.State.{empty_state}
-use Rattle.far_frame.specs.Worlds.{World}
 use Rattle.far_script.specs.Lines.{Blank, IsOneLine, without_return}
 use Rattle.far_script.specs.Openings.{Opened, Schema, start_in}
-use Rattle.far_commands.specs.Commands.{command_of}
 use Rattle.far_commands.specs.Progress.{At}
-use Rattle.far_commands.specs.Replies.{ServesLine}
+use Rattle.far_commands.specs.Replies.{AnswersLine}
+use Rattle.far_commands.specs.Tables.{IsEmpty}
 
 -- one line of a script without its line feed, the bytes behind it that belong to it, and what is printed for it
 pub record Turn : Type 0 where

@@ -7,11 +7,8 @@ ghost use Rattle.far_script.specs.Openings.{IsWithin, start_in, start_of};
 ghost use Rattle.far_shell.specs.Scripts.{Begins, Ends, IsNew};
 ghost use Rattle.far_shell.specs.Sessions.{IsAnswered};
 
-use super::opening::open_table;
-use super::progress::Progress;
-use super::resources::{Agents, Resources};
-use super::serve::answer_line;
 use super::threads::print_sessions;
+use far_commands::{Agents, Progress, Resources, answer_line, open_table};
 use far_script::bounded::MAX_BYTES;
 use far_script::opening::first_line;
 use far_script::print::refused;
@@ -121,7 +118,7 @@ fn open<S: FarStore>(
     match open_table(alloc, store, opening) {
         Ok(world) => {
             output.page.text("ok\n")?;
-            Ok(Progress { world, number: 1 })
+            Ok(Progress::new(world))
         }
         Err(Refusal::NoMemory) => Err(ShellFault::Memory),
         Err(refusal) => {
