@@ -1,5 +1,5 @@
 -- What is read and printed, one part after another.
-use Rattle.std.proofs.Common.{◌≡◌, ◌+◌, ◌-◌, ◌≤◌, ◌<◌, ℕ, suc, List, [], ◌∷◌, ◌++◌, length, take, drop, slice_index, slice_range, Option, Some, None, append_assoc, append-nil, length-append, take-append-drop, ◌∙◌, refl, sym, ap, subst, arith}
+use Rattle.std.proofs.Common.{◌≡◌, ◌+◌, ◌-◌, ◌≤◌, ◌<◌, ℕ, suc, List, [], ◌∷◌, ◌++◌, length, take, drop, slice_index, slice_range, Option, append_assoc, append-nil, length-append, take-append-drop, ◌∙◌, refl, sym, ap, subst, arith}
 use Rattle.std.proofs.Math.Seq.{take-add, drop-cons}
 use Rattle.std.proofs.lemmas.List.{take_rest, length-take, length-take-le, take-take}
 use Rattle.std.proofs.lemmas.List.Folds.{drop_split}
