@@ -9,8 +9,7 @@ use Rattle.far_script.specs.Flow.{Prints, Reads, unread, IsSpent}
 use Rattle.far_commands.specs.Progress.{At}
 use Rattle.std.specs.Prelude.{codes, IsUtf8}
 use Rattle.std.specs.Io.BufRead.{strip_last}
-use Rattle.far_commands.specs.Commands.{command_of}
-use Rattle.far_commands.specs.Replies.{ServesLine, AnswersLine}
+use Rattle.far_commands.specs.Replies.{AnswersLine}
 use Rattle.far_script.specs.Lines.{Blank, without_return}
 use Rattle.far_shell.specs.Sessions.{IsAnswered}
 use Rattle.far_shell.specs.Scripts.{Turn, bytes_of, text_of, IsTurn, AreTurns, Answers, Begins, Ends, Opens, IsScript}

@@ -11,17 +11,13 @@ use Rattle.far_script.specs.declared.fault.ShellFault.TheVariants as fault
 use Rattle.far_script.specs.declared.input.Input.{Input}
 use Rattle.far_script.specs.Flow.{IsSpent, Prints, Reads}
 use Rattle.far_script.specs.Openings.{Threads, start_in}
-use Rattle.far_script.specs.Printing.{gauge_text}
 use Rattle.far_script.proofs.FlowLaws.{prints, prints-nothing-then}
 use Rattle.far_script.proofs.StopLaws.{coming, spent-rest, starts}
 use Rattle.far_shell.specs.Scripts.{Begins}
-use Rattle.far_shell.specs.Sessions.{CutOutcome, IsAnswered, IsThreads, TellsOutcome, gauges_text}
+use Rattle.far_shell.specs.Sessions.{CutOutcome, IsAnswered, IsThreads, TellsOutcome, gauges_text, line_of}
 use Rattle.far_shell.proofs.BreakLaws.{Breaking}
 use Rattle.far_commands.proofs.RowLaws.{drop-past}
 use Rattle.far_shell.proofs.ScriptLaws.{begins-then}
-
-abbrev pub line_of : ℕ → Reading → List ℕ
-line_of session told = gauge_text session told.edits told.count told.sum
 
 -- a gauge line more
 pub gauges-more : (readings : List Reading) (i : ℕ) (told : Reading) (page after whole : List ℕ) → i < length readings → after ≡ page ++ line_of i (get_or readings i told)

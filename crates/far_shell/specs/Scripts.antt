@@ -44,7 +44,7 @@ module _ {K : Type 0} where
 module _ {S K : Type 0} (tickets : Tickets S K) where
   -- one turn
   abbrev pub IsTurn : At K → Turn → At K → Type 0
-  IsTurn old turn new = IsOneLine turn.line × AnswersLine old (without_return turn.line) turn.rows turn.text new
+  IsTurn old turn new = IsOneLine turn.line × AnswersLine tickets old (without_return turn.line) turn.rows turn.text new
 
   -- turns follow one another
   abbrev pub AreTurns : At K → List Turn → At K → Type 0
@@ -65,7 +65,7 @@ module _ {S K : Type 0} (tickets : Tickets S K) where
     pub line : IsOneLine last
     pub tail : List ℕ
     pub new : At K
-    pub answers : AnswersLine mid last [] tail new
+    pub answers : AnswersLine tickets mid last [] tail new
     pub whole : script ≡ bytes ++ last
     pub said : text ≡ printed ++ tail
 

@@ -12,10 +12,14 @@ use Rattle.far_script.specs.Openings.{Threads, start_in}
 use Rattle.far_script.specs.Printing.{answer_text, gauge_text}
 use Rattle.far_shell.specs.Scripts.{Begins, IsScript}
 
+-- the gauge line of a session
+abbrev pub line_of : ℕ → Reading → List ℕ
+line_of session reading = gauge_text session reading.edits reading.count reading.sum
+
 -- the gauge lines of sessions, from one on
 abbrev pub gauges_text : ℕ → List Reading → List ℕ
 gauges_text session [] = []
-gauges_text session (reading ∷ readings) = gauge_text session reading.edits reading.count reading.sum ++ gauges_text (session + 1) readings
+gauges_text session (reading ∷ readings) = line_of session reading ++ gauges_text (session + 1) readings
 
 -- what sessions leave, as it is printed: the gauge lines of sessions 0, 1 and so on, and the answer over all they did
 abbrev pub outcome_text : Outcome → List ℕ

@@ -143,7 +143,8 @@ fn serve<T: AllocGlobal + Sync + Threads + Wait, R: Read + Drop, W: Write>(
     ensures err { IfErr result (λ fault. (bytes : List ℕ) × (rest : List ℕ) × (text : List ℕ) × Gives R.Read fault input.old input.new bytes rest × Prints (W.contents writer.old) [] text (W.contents writer.new) output.new.page × IsBroken ⟦<AgentStore<&'static T> as FarTickets>⟧ fault bytes rest text) }
     ensures asked { input.new.source.reads ≤ input.old.source.reads }
 {
-    match first_command(rt.alloc(), input, output, writer)? {
+    let first = first_command(rt.alloc(), input, output, writer)?;
+    match first {
         FirstLine::Schema(opening) => {
             let agents = Agents::new(rt, rt.alloc());
             let store = agents.store(STORE_CAPACITY)?;

@@ -1,7 +1,7 @@
 // Sessions on threads, and what they leave as it is printed.
 ghost use Rattle.std.specs.Prelude.{◌≡◌, ◌⊎◌, ◌≤◌, ℕ, List, ◌++◌, IfOk, IfErr, OnOk, OnErr};
 ghost use Rattle.std.specs.Io.KnownBytes.{Appends};
-ghost use Rattle.far_shell.specs.Sessions.{CutOutcome, TellsOutcome, fault_of, gauges_text, outcome_text};
+ghost use Rattle.far_shell.specs.Sessions.{CutOutcome, TellsOutcome, fault_of, gauges_text, line_of, outcome_text};
 
 use far_history::Reading;
 use far_script::print::{answer, gauge};
@@ -23,14 +23,21 @@ fn fault_of(stop: Stop) -> ShellFault
     }
 }
 
+/// The gauge line of a session.
+fn gauge_line(page: &mut Page, session: u64, told: &Reading) -> Result<(), Refusal>
+    ensures ok { OnOk result (page.new ≡ page.old ++ line_of session told.now) }
+    ensures memory { IfErr result (λ e. e ≡ Refusal.NoMemory) }
+{
+    gauge(page, session, told.edits, told.count, told.sum)
+}
+
 /// The gauge lines of sessions 0, 1 and so on.
 fn gauges(page: &mut Page, readings: &[Reading]) -> Result<(), Refusal>
     ensures ok { OnOk result (page.new ≡ page.old ++ gauges_text 0 readings.now) }
     ensures memory { IfErr result (λ e. e ≡ Refusal.NoMemory) }
 {
     for session in 0..readings.len() {
-        let told = readings[session];
-        gauge(page, session as u64, told.edits, told.count, told.sum)?;
+        gauge_line(page, session as u64, &readings[session])?;
     }
     Ok(())
 }

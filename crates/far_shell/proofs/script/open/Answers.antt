@@ -5,5 +5,5 @@ use Rattle.far_shell.proofs.script.open.Goals as goal
 
 pub returns-in_err-text-in-Ok-clause-err : goal.returns-in_err-text-in-Ok-clause-err
 returns-in_err-text-in-Ok-clause-err g c =
-    handed-on c.from_residual-in_err-text-in-Ok.result fault.Memory _ c.from_residual-in_err-text-in-Ok.ensures.1
+    handed-on c.from_residual.result fault.Memory _ c.from_residual.ensures.1
     ([], c.in_err-text-in-Ok.ensures.err ∙ sym (append-nil c.args.output.now.page), refl)

@@ -12,18 +12,18 @@ pub serve_lines-requires-clause-first : goal.serve_lines-requires-clause-first
 serve_lines-requires-clause-first g c κs within = c.in_ok-progress-in-Schema.ensures.ok.1
 
 pub print_sessions-requires-clause-sessions : goal.print_sessions-requires-clause-sessions
-print_sessions-requires-clause-sessions g c =
-    let w = rw c.in-Threads.is at c.in_ok-first_command.ensures.within in
+print_sessions-requires-clause-sessions g c κs outlives =
+    let w = rw c.in-Threads.is at c.in_ok-first.ensures.within in
     (w.0, w.1)
 
 pub print_sessions-requires-clause-edits : goal.print_sessions-requires-clause-edits
-print_sessions-requires-clause-edits g c =
-    let w = rw c.in-Threads.is at c.in_ok-first_command.ensures.within in
+print_sessions-requires-clause-edits g c κs outlives =
+    let w = rw c.in-Threads.is at c.in_ok-first.ensures.within in
     (w.2, w.3)
 
 pub returns-in_ok-serve_lines-in-Schema-clause-ok : goal.returns-in_ok-serve_lines-in-Schema-clause-ok
 returns-in_ok-serve_lines-in-Schema-clause-ok g c =
-    let f = c.in_ok-first_command.ensures in
+    let f = c.in_ok-first.ensures in
     let opening = c.in-Schema.opening in
     let asks = rw c.in-Schema.is at f.ok.4 in
     let s = c.in_ok-serve_lines-in-Schema.ensures.ok in
@@ -34,27 +34,27 @@ returns-in_ok-serve_lines-in-Schema-clause-ok g c =
 
 pub returns-in_ok-print_sessions-in-Threads-clause-ok : goal.returns-in_ok-print_sessions-in-Threads-clause-ok
 returns-in_ok-print_sessions-in-Threads-clause-ok g c =
-    let f = c.in_ok-first_command.ensures in
+    let f = c.in_ok-first.ensures in
     let asks = rw c.in-Threads.is at f.ok.4 in
     let s = c.in_ok-print_sessions-in-Threads.ensures.ok in
     sessions-whole g.R.Read _ c.args.input.now c.first_command.new.input (g.W.Write.contents c.args.writer.now) (g.W.Write.contents c.first_command.new.writer) c.args.output.now.page c.first_command.new.output.page c.print_sessions.new.output.page f.ok.0 f.ok.1 s.0 c.in-Threads.sessions c.in-Threads.edits c.requires
     f.ok.2 f.ok.3 asks f.printed s.2 s.1
 
-pub returns-in_err-first_command-clause-err : goal.returns-in_err-first_command-clause-err
-returns-in_err-first_command-clause-err g c =
-    let why = c.in_err-first_command.field-0.0 in
+pub returns-in_err-first-clause-err : goal.returns-in_err-first-clause-err
+returns-in_err-first-clause-err g c =
+    let why = c.in_err-first.field-0.0 in
     handed-on c.from_residual.result why _ c.from_residual.ensures.1
-    (breaks-start g.R.Read _ c.args.input.now c.first_command.new.input (g.W.Write.contents c.args.writer.now) (g.W.Write.contents c.first_command.new.writer) c.args.output.now.page c.first_command.new.output.page why c.requires c.in_err-first_command.ensures.err)
+    (breaks-start g.R.Read _ c.args.input.now c.first_command.new.input (g.W.Write.contents c.args.writer.now) (g.W.Write.contents c.first_command.new.writer) c.args.output.now.page c.first_command.new.output.page why c.requires c.in_err-first.ensures.err)
 
 pub returns-in_err-store-in-Schema-clause-err : goal.returns-in_err-store-in-Schema-clause-err
 returns-in_err-store-in-Schema-clause-err g c =
-    let f = c.in_ok-first_command.ensures in
+    let f = c.in_ok-first.ensures in
     handed-on c.from_residual-in_err-store-in-Schema.result fault.Memory _ c.from_residual-in_err-store-in-Schema.ensures.1
     (breaks-store g.R.Read _ c.args.input.now c.first_command.new.input (g.W.Write.contents c.args.writer.now) (g.W.Write.contents c.first_command.new.writer) c.args.output.now.page c.first_command.new.output.page f.ok.0 c.requires f.ok.2 f.printed)
 
 pub returns-in_err-progress-in-Schema-clause-err : goal.returns-in_err-progress-in-Schema-clause-err
 returns-in_err-progress-in-Schema-clause-err g c =
-    let f = c.in_ok-first_command.ensures in
+    let f = c.in_ok-first.ensures in
     let opening = c.in-Schema.opening in
     let asks = rw c.in-Schema.is at f.ok.4 in
     let p = c.in_err-progress-in-Schema.ensures.err in
@@ -64,7 +64,7 @@ returns-in_err-progress-in-Schema-clause-err g c =
 
 pub returns-in_err-serve_lines-in-Schema-clause-err : goal.returns-in_err-serve_lines-in-Schema-clause-err
 returns-in_err-serve_lines-in-Schema-clause-err g c =
-    let f = c.in_ok-first_command.ensures in
+    let f = c.in_ok-first.ensures in
     let opening = c.in-Schema.opening in
     let asks = rw c.in-Schema.is at f.ok.4 in
     let s = c.in_err-serve_lines-in-Schema.ensures.err in
@@ -77,7 +77,7 @@ returns-in_err-serve_lines-in-Schema-clause-err g c =
 
 pub returns-in_err-print_sessions-in-Threads-clause-err : goal.returns-in_err-print_sessions-in-Threads-clause-err
 returns-in_err-print_sessions-in-Threads-clause-err g c =
-    let f = c.in_ok-first_command.ensures in
+    let f = c.in_ok-first.ensures in
     let asks = rw c.in-Threads.is at f.ok.4 in
     let s = c.in_err-print_sessions-in-Threads.ensures in
     let why = c.in_err-print_sessions-in-Threads.field-0.0 in
