@@ -1,5 +1,5 @@
 -- What was printed up to a fault.
-use Rattle.std.proofs.Common.{◌≡◌, ◌==◌, ◌+◌, ℕ, false, inl, inr, List, [], ◌∷◌, ◌++◌, length, take, Option, Some, None, append_assoc, append-nil, ◌∙◌, refl, sym, ap, subst}
+use Rattle.std.proofs.Common.{◌≡◌, ◌==◌, ℕ, false, inl, inr, List, [], ◌∷◌, ◌++◌, Option, Some, None, append_assoc, append-nil, ◌∙◌, refl, sym, ap, subst}
 use Rattle.std.specs.Prelude.{codes, IfSome, IsUtf8, unwrap_or}
 use Rattle.std.specs.List.{list_any}
 use Rattle.std.specs.Io.BufRead.{strip_last}
@@ -9,7 +9,7 @@ use Rattle.far_store.specs.declared.store.FarTickets.{Ghosts as Tickets}
 use Rattle.far_script.specs.declared.fault.ShellFault.{ShellFault}
 use Rattle.far_script.specs.declared.fault.ShellFault.TheVariants as fault
 use Rattle.far_script.specs.declared.input.Input.{Input}
-use Rattle.far_commands.specs.Cuts.{Lists, CutOff, Fails, IsFront, PrintsCut}
+use Rattle.far_commands.specs.Cuts.{Lists, Fails, PrintsCut}
 use Rattle.far_shell.specs.Breaks.{ListsNext, Breaks, BreaksIn, BreaksLater, BreaksOff, EndsBy, HasNotBegun, HasNoTurn, IsBroken, IsRefused, IsUnknown, Rejection, Rejects}
 use Rattle.far_script.specs.Faults.{IfInput}
 use Rattle.far_script.specs.Flow.{Counts, Gives, IsSpent, Prints, Reads, StartsWith, Stops}

@@ -1,5 +1,5 @@
 -- What is answered, one turn after another.
-use Rattle.std.proofs.Common.{◌≡◌, ◌==◌, ◌+◌, ◌-◌, ◌≤◌, ℕ, true, false, ◌⊎◌, inl, inr, List, [], ◌∷◌, ◌++◌, length, Option, append_assoc, append-nil, length-append, ◌∙◌, refl, sym, ap, subst, arith}
+use Rattle.std.proofs.Common.{◌≡◌, ◌==◌, ◌+◌, ◌≤◌, ℕ, true, false, ◌⊎◌, inl, inr, List, [], ◌∷◌, ◌++◌, length, Option, append_assoc, append-nil, length-append, ◌∙◌, refl, sym, ap, subst, arith}
 use Rattle.std.specs.List.{list_any, flat_map}
 use Rattle.std.proofs.lemmas.Grind.{flat_map-append}
 use Rattle.std.specs.declared.io.traits.Read.{Ghosts}
@@ -7,12 +7,12 @@ use Rattle.far_store.specs.declared.store.FarTickets.{Ghosts as Tickets}
 use Rattle.far_script.specs.declared.input.Input.{Input}
 use Rattle.far_script.specs.Flow.{Prints, Reads, unread, IsSpent}
 use Rattle.far_commands.specs.Progress.{At}
-use Rattle.std.specs.Prelude.{codes, IsUtf8}
+use Rattle.std.specs.Prelude.{codes}
 use Rattle.std.specs.Io.BufRead.{strip_last}
 use Rattle.far_commands.specs.Replies.{AnswersLine}
 use Rattle.far_script.specs.Lines.{Blank, without_return}
 use Rattle.far_shell.specs.Sessions.{IsAnswered}
-use Rattle.far_shell.specs.Scripts.{Turn, bytes_of, text_of, IsTurn, AreTurns, Answers, Begins, Ends, Opens, IsScript}
+use Rattle.far_shell.specs.Scripts.{Turn, bytes_of, text_of, IsTurn, AreTurns, Answers, Begins, Ends, Opens}
 use Rattle.far_script.proofs.FlowLaws.{no-first, no-rest, prints-nothing-then, prints-then, prints-then-nothing, reads-then, spent-nothing}
 
 all-more : (f : Turn → List ℕ) (turns : List Turn) (turn : Turn) (whole : List ℕ) → whole ≡ flat_map f turns → whole ++ f turn ≡ flat_map f (turns ++ turn ∷ [])

@@ -1,7 +1,6 @@
 -- Scripts of sessions on threads.
 use Rattle.std.proofs.Common.{◌≡◌, ◌+◌, ◌<◌, ◌≤◌, ℕ, ◌⊎◌, inl, inr, List, [], ◌++◌, length, drop, get_or, Option, Some, append_assoc, append-nil, ◌∙◌, refl, sym, ap, subst}
 use Rattle.std.specs.Io.KnownBytes.{Appends}
-use Rattle.std.proofs.KnownBytes.{Appends-nil}
 use Rattle.std.proofs.lemmas.List.{drop_more}
 use Rattle.std.specs.declared.io.traits.Read.{Ghosts}
 use Rattle.far_history.specs.declared.reading.Reading.{Reading}
