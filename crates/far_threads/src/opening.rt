@@ -1,0 +1,86 @@
+// How a run begins: the names of its plan, of its cells and of its store are picked, each by a call.
+ghost use Rattle.std.specs.Prelude.{◌≡◌, ◌≤◌, IfOk, length};
+ghost use Rattle.far_shared.specs.Asking.{IsAnswer};
+ghost use Rattle.far_shared.specs.Opening.{AreNamed};
+ghost use Rattle.far_threads.specs.Runs.{AreReadings, IsOutcome, plan_for};
+
+use crate::outcome::{Outcome, Stop};
+use crate::planning::plan_for;
+use crate::running::run_shared;
+use far_history::Naming;
+use far_shared::{Made, Plan, Site};
+use far_store::{AgentStore, FarStore};
+use std::alloc::Global;
+use std::marker::Brand;
+use std::sync::Wait;
+use std::thread::Threads;
+
+/// The most contents that the store of a run takes.
+const STORE_CAPACITY: u64 = 1_048_576;
+
+/// Opens a table whose cells and store have these names, and runs its sessions.
+fn opened<
+    N: Naming + Send + Sync,
+    B: Site + Send + Sync,
+    S: FarStore,
+    R: Threads + Wait + Sync,
+>(
+    rt: &R,
+    alloc: Global,
+    made: Made<N, S>,
+    store: &S,
+    edits: u32,
+) -> Result<Outcome, Stop>
+    requires names { AreNamed made B.cells }
+    requires store { S.name store.now ≡ B.store }
+    ensures count { IfOk result (λ o. length o.gauges.items ≡ N.plan.sessions) }
+    ensures gauges { IfOk result (λ o. AreReadings N.plan edits o.gauges.items) }
+    ensures answer { IfOk result (λ o. IsAnswer N.plan 0 o.answer) }
+{
+    let Ok((shared, sessions)) = made.open::<B>(alloc) else {
+        return Err(Stop::Memory);
+    };
+    run_shared(rt, alloc, &shared, store, sessions, edits)
+}
+
+/// Makes the table of a plan that has this name and a store in this process, and runs its sessions.
+fn planned<N: Naming + Send + Sync, R: Threads + Wait + Sync>(
+    rt: &R,
+    alloc: Global,
+    plan: Plan,
+    edits: u32,
+) -> Result<Outcome, Stop>
+    requires { plan ≡ N.plan }
+    ensures count { IfOk result (λ o. length o.gauges.items ≡ plan.sessions) }
+    ensures gauges { IfOk result (λ o. AreReadings plan edits o.gauges.items) }
+    ensures answer { IfOk result (λ o. IsAnswer plan 0 o.answer) }
+{
+    let Ok(store) = AgentStore::new(rt, alloc, STORE_CAPACITY) else {
+        return Err(Stop::Memory);
+    };
+    let Ok(made) = plan.make::<N, AgentStore<&R>>(alloc) else {
+        return Err(Stop::Memory);
+    };
+    opened::<N, Brand, AgentStore<&R>, R>(rt, alloc, made, &store, edits)
+}
+
+/// Runs sessions on threads over one shared table: each inserts so many rows of the number 1 on its home stripe, while a worker in the
+/// background tries as many evacuations, one stripe after the other. When all have ended, the gauge of each session's home stripe is
+/// read, and the gauge is asked over all stripes.
+///
+/// A session whose edit meets an object that is away fetches it and tries again; where there is no room it sends an object away and
+/// tries again. Ends with `Memory` where a call is refused memory, and with `Turns` where an edit was tried 10,000 times or is refused
+/// for another reason.
+pub fn run_sessions<R: Threads + Wait + Sync>(
+    rt: &R,
+    alloc: Global,
+    sessions: u32,
+    edits: u32,
+) -> Result<Outcome, Stop>
+    requires some { 1 ≤ sessions }
+    requires few { sessions ≤ 4 }
+    ensures ok { IfOk result (IsOutcome sessions edits) }
+{
+    let plan = plan_for(alloc, sessions)?;
+    planned::<Brand, R>(rt, alloc, plan, edits)
+}
