@@ -18,8 +18,8 @@ use Rattle.far_scopes.proofs.Pins.{length-with}
 use Rattle.far_vector.specs.Vector.{Vector, IsShaped, AreApart, object_at}
 use Rattle.far_vector.specs.Effects.{is_full, pushed, pushed_in}
 use Rattle.far_vector.specs.Refusing.{push_refusal}
-use Rattle.far_columns.proofs.FirstCases.{first-append}
-use Rattle.far_columns.proofs.Alike.{none-pass}
+use Rattle.far_scopes.proofs.FirstCases.{first-append}
+use Rattle.far_scopes.proofs.Alike.{none-pass}
 use Rattle.far_columns.specs.NumbersTogether.{NumberLists, NumberColumns, AreNumberColumns, all_begin, all_pushed, absents, some_written_out, no_room_for_groups, push_numbers_refusal}
 
 pub pairs-head : {X : Type 0} (R : X → X → Type 0) (x : X) (xs : List X) → AllPairs R (x ∷ xs) → All (R x) xs

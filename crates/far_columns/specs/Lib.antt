@@ -1,10 +1,3 @@
-pub mod Texts
-pub mod Changes
-pub mod Columns
-pub mod Refusing
-pub mod Lending
 pub mod Numbers
-pub mod Together
 pub mod NumbersTogether
-pub mod RefusingTogether
 pub mod NumbersBack

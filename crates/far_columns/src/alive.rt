@@ -69,6 +69,13 @@ impl Alive {
         self.flags[place] = false;
     }
 
+    /// The flags of all places, lent in place.
+    pub fn all(&self) -> &[bool]
+        ensures { result.now ≡ self.now }
+    {
+        &self.flags
+    }
+
     /// The flags of the places `from` to `to`, lent in place.
     pub fn flags(&self, from: usize, to: usize) -> &[bool]
         requires ordered { from ≤ to }

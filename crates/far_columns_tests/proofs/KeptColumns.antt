@@ -1,8 +1,8 @@
 -- Columns of one table whose objects keep their lists.
 use Rattle.std.proofs.Common.{◌≡◌, ℕ, List, get_or}
-use Rattle.far_columns.specs.Texts.{Texts, Lists}
-use Rattle.far_columns.specs.Together.{AreColumns}
-use Rattle.far_columns.proofs.Changed.{column-kept}
+use Rattle.far_texts.specs.Texts.{Texts, Lists}
+use Rattle.far_texts.specs.Together.{AreColumns}
+use Rattle.far_texts.proofs.Changed.{column-kept}
 
 pub are-kept : (old new : Lists) (columns : List Texts) → ((p : ℕ) → new p ≡ old p) → AreColumns old columns → AreColumns new columns
 are-kept old new columns same are = record {

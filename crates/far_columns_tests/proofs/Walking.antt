@@ -7,9 +7,9 @@ use Rattle.far_scopes.specs.Memory.{list_in}
 use Rattle.far_scopes.specs.Movement.{Movement, AreTracked, meant, ticket_of}
 use Rattle.far_vector.specs.Vector.{Vector}
 use Rattle.far_vector.specs.Vectors.{ChangesVector}
-use Rattle.far_columns.specs.Texts.{Texts, Lists, IsTextColumn, IsGroupForm, lists_of}
-use Rattle.far_columns.specs.Columns.{ChangesColumn}
-use Rattle.far_columns.proofs.InUse.{in-use}
+use Rattle.far_texts.specs.Texts.{Texts, Lists, IsTextColumn, IsGroupForm, lists_of}
+use Rattle.far_texts.specs.Columns.{ChangesColumn}
+use Rattle.far_texts.proofs.InUse.{in-use}
 
 with-list : (list : Option (List ℕ)) (P : List ℕ → Type 0) (R : Type 0) → IsSomeAnd list P → ((bytes : List ℕ) → list ≡ Some bytes → R) → R
 with-list None P R here then = absurd here

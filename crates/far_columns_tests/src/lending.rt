@@ -1,12 +1,13 @@
 // Parts of columns that are lent with the flags of their places.
 ghost use Rattle.far_vector.specs.Vector.{IsVector};
 ghost use Rattle.far_columns.specs.Numbers.{number_lists};
-ghost use Rattle.far_columns.specs.Texts.{lists_of, IsTextColumn};
+ghost use Rattle.far_texts.specs.Texts.{lists_of, IsTextColumn};
 
 use crate::script::{WRONG, found};
-use far_columns::{Alive, IntColumn, Lent, TextCell, TextColumn};
+use far_columns::{Alive, IntColumn, Lent};
 use far_scopes::Objects;
 use far_store::FarTickets;
+use far_texts::{TextCell, TextColumn};
 use far_types::Refusal;
 
 /// Lends a part of a column of texts, and finds the text of each place and its flag.
@@ -22,7 +23,7 @@ pub fn lend_texts<S: FarTickets>(
     if alive.len() != column.len() {
         return Err(WRONG);
     }
-    let mut cells = column.texts(objects, alive, from, to)?;
+    let mut cells = column.texts(objects, alive.all(), from, to)?;
     for place in from..to {
         if !is_cell(objects, column, alive, cells.next(), place) {
             return Err(WRONG);

@@ -4,14 +4,15 @@ ghost use Rattle.far_scopes.specs.Memory.{list_in};
 ghost use Rattle.far_scopes.specs.Movement.{list_of, AreHere};
 ghost use Rattle.far_vector.specs.Vector.{IsVector};
 ghost use Rattle.far_columns.specs.Numbers.{number_lists};
-ghost use Rattle.far_columns.specs.Texts.{lists_of, IsTextColumn};
+ghost use Rattle.far_texts.specs.Texts.{lists_of, IsTextColumn};
 
 use far_codec::Elem;
-use far_columns::{IntColumn, TextColumn};
+use far_columns::IntColumn;
 use far_fixtures::put;
 use far_pointer::Pointer;
 use far_scopes::Objects;
 use far_store::{FarStore, Meter};
+use far_texts::TextColumn;
 use far_types::Refusal;
 use std::alloc::Global;
 

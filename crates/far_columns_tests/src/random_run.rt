@@ -3,8 +3,8 @@ ghost use Rattle.std.specs.Prelude.{◌≡◌, ◌<◌, [], ◌∷◌};
 ghost use Rattle.far_scopes.specs.Movement.{AreHere};
 ghost use Rattle.far_vector.specs.Vectors.{AreVectors};
 ghost use Rattle.far_columns.specs.Numbers.{number_lists};
-ghost use Rattle.far_columns.specs.Texts.{lists_of};
-ghost use Rattle.far_columns.specs.Columns.{AreTextColumns};
+ghost use Rattle.far_texts.specs.Texts.{lists_of};
+ghost use Rattle.far_texts.specs.Columns.{AreTextColumns};
 
 mod number_steps;
 mod numbers;
@@ -12,11 +12,12 @@ mod plain;
 mod text_steps;
 mod texts;
 
-use far_columns::laws::columns_stay_together;
-use far_columns::{Alive, IntColumn, TextColumn};
+use far_columns::{Alive, IntColumn};
 use far_random::Draws;
 use far_scopes::Objects;
 use far_store::{AgentStore, FarStore, FaultyStore};
+use far_texts::TextColumn;
+use far_texts::laws::columns_stay_together;
 use far_types::Refusal;
 use far_vector::laws::vectors_stay_together;
 use number_steps::NumberSteps;

@@ -20,8 +20,8 @@ use Rattle.far_vector.specs.Vector.{Vector, object_at}
 use Rattle.far_vector.specs.Effects.{is_full, next_name, next_group, pushed_in, range_written}
 use Rattle.far_columns.specs.Numbers.{Numbers}
 use Rattle.far_columns.specs.NumbersTogether.{NumberColumns, all_pushed_in}
-use Rattle.far_columns.specs.Texts.{Texts}
-use Rattle.far_columns.specs.Together.{all_created}
+use Rattle.far_texts.specs.Texts.{Texts}
+use Rattle.far_texts.specs.Together.{all_created}
 
 false-true : {A : Type 0} → false ≡ true → A
 false-true h = absurd (let on : true ≡ false = sym h in cc)

@@ -10,10 +10,10 @@ use Rattle.far_scopes.specs.Movement.{Movement, pins_of}
 use Rattle.far_codec.specs.TextForm.{texts_form}
 use Rattle.far_vector.specs.Vector.{Vector}
 use Rattle.far_vector.specs.Effects.{range_written}
-use Rattle.far_columns.specs.Texts.{Texts, lists_of, object_at as text_at}
-use Rattle.far_columns.specs.Changes.{group_with, set_in as text_set_in}
+use Rattle.far_texts.specs.Texts.{Texts, lists_of, object_at as text_at}
+use Rattle.far_texts.specs.Changes.{group_with, set_in as text_set_in}
 use Rattle.far_columns.specs.Numbers.{number_lists}
-use Rattle.far_columns.specs.Together.{all_begin, next_forms}
+use Rattle.far_texts.specs.Together.{all_begin, next_forms}
 use Rattle.far_rows.specs.declared.job.ByKind.TheVariants.{Numbers, Texts as ByTexts}
 use Rattle.far_rows.specs.declared.slot.Slot.{Slot}
 use Rattle.far_rows.specs.declared.slot.Slot.TheVariants as slot

@@ -9,10 +9,11 @@ ghost use Rattle.far_rows.specs.Slots.{kind_of};
 ghost use Rattle.far_frame.specs.Lending.{flags_of, ints_lent, lent_part};
 ghost use Rattle.far_frame.specs.Views.{away};
 
-use far_columns::{Lents, TextCells};
+use far_columns::Lents;
 use far_rows::RowRef;
 use far_store::FarTickets;
 use far_table::LiveTable;
+use far_texts::TextCells;
 use far_types::{Kind, LentRow, Refusal};
 use std::marker::Model;
 

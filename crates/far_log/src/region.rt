@@ -7,7 +7,6 @@ ghost use Rattle.far_log.specs.Changes.{ChangesOnly, WritesPart, written_at, IsP
 use super::compaction::{Moved, move_segment};
 use super::fitting::{fill, none_waits};
 use super::segment::Segment;
-use far_codec::Elem;
 use far_pointer::At;
 use far_types::Refusal;
 use std::alloc::Global;
@@ -35,7 +34,7 @@ impl<T> Model for Region<T> {
     ghost invariant = { λ r. IsRegion r.segments.items };
 }
 
-impl<T: Elem> Region<T> {
+impl<T: Copy + Drop> Region<T> {
     /// A region of so many segments, each for `size` elements, without parts.
     ///
     /// All memory for elements is taken here. It is reserved and not written, so that it costs what is used of it.
@@ -253,7 +252,7 @@ impl<T: Elem> Region<T> {
     }
 }
 
-impl<T: Elem> Region<T> {
+impl<T: Copy + Drop> Region<T> {
     ghost use Rattle.far_log.specs.Lending.{lends_part};
 
     /// The part at a location, lent in place to be written. Takes no memory.

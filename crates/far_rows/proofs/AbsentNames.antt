@@ -11,7 +11,7 @@ use Rattle.far_scopes.specs.declared.entry.Entry.{Entry}
 use Rattle.far_scopes.specs.Movement.{Movement, entry_of}
 use Rattle.far_scopes.specs.Refusing.{absent}
 use Rattle.far_vector.specs.Vector.{Vector}
-use Rattle.far_columns.specs.Texts.{Texts}
+use Rattle.far_texts.specs.Texts.{Texts}
 use Rattle.far_rows.specs.declared.slot.Slot.{Slot}
 use Rattle.far_rows.specs.declared.slot.Slot.TheVariants as slot
 use Rattle.far_rows.specs.Naming.{names_of, AreNamed}

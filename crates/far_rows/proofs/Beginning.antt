@@ -8,10 +8,10 @@ use Rattle.std.proofs.lemmas.List.Elements.{All-head, All-weaker}
 use Rattle.std.proofs.lemmas.List.Sums.{AllPass-from_list_all, list_all-from_AllPass}
 use Rattle.far_vector.specs.Vector.{Vector, IsShaped}
 use Rattle.far_vector.specs.Effects.{is_full}
-use Rattle.far_columns.specs.Texts.{Texts, HasGroups}
-use Rattle.far_columns.specs.Changes.{begins_group}
+use Rattle.far_texts.specs.Texts.{Texts, HasGroups}
+use Rattle.far_texts.specs.Changes.{begins_group}
 use Rattle.far_columns.specs.NumbersTogether.{NumberColumns, all_begin}
-use Rattle.far_columns.specs.Together.{all_begin as all_texts_begin}
+use Rattle.far_texts.specs.Together.{all_begin as all_texts_begin}
 
 -- len elements lie in k row groups of so many places
 module _ (len k size : ℕ) (some : 0 < size) (enough : len ≤ k * size) (needed : k * size < len + size) where

@@ -7,9 +7,9 @@ use Rattle.std.proofs.lemmas.Option.{slice_get-map, get_or_from_slice_get}
 use Rattle.far_types.specs.declared.cell.Cell.{Cell}
 use Rattle.far_vector.specs.Vector.{Vector, IsVector, IsShaped}
 use Rattle.far_vector.proofs.VectorLaws.{length-elements}
-use Rattle.far_columns.specs.Texts.{Texts, HasGroups, IsTextColumn, lists_of, texts_in}
+use Rattle.far_texts.specs.Texts.{Texts, HasGroups, IsTextColumn, lists_of, texts_in}
 use Rattle.far_columns.specs.Numbers.{number_lists, numbers_in}
-use Rattle.far_columns.proofs.Groups.{texts-length}
+use Rattle.far_texts.proofs.Groups.{texts-length}
 use Rattle.far_rows.specs.declared.slot.Slot.{Slot}
 use Rattle.far_rows.specs.declared.slot.Slot.TheVariants as slot
 use Rattle.far_types.specs.Lent.{int_cell, text_cell}

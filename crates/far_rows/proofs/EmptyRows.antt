@@ -8,10 +8,10 @@ use Rattle.far_types.specs.declared.cell.Kind.TheVariants as kind
 use Rattle.far_types.specs.declared.limits.Limits.{Limits}
 use Rattle.far_types.specs.Bounds.{IsSchema, AreLimits}
 use Rattle.far_vector.specs.Vector.{Vector, IsVector, IsShaped, AreApart}
-use Rattle.far_columns.specs.Texts as texts
-use Rattle.far_columns.specs.Texts.{Texts, Lists, HasGroups, IsTextColumn}
+use Rattle.far_texts.specs.Texts as texts
+use Rattle.far_texts.specs.Texts.{Texts, Lists, HasGroups, IsTextColumn}
 use Rattle.far_columns.specs.NumbersTogether.{NumberLists, AreNumberColumns}
-use Rattle.far_columns.specs.Together.{AreColumns}
+use Rattle.far_texts.specs.Together.{AreColumns}
 use Rattle.far_rows.specs.Naming.{AreNamed}
 use Rattle.far_rows.specs.Rows.{AreRows}
 use Rattle.far_rows.specs.Opening.{numbers_from, texts_from, empty_rows}

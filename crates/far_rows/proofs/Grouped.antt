@@ -13,9 +13,9 @@ use Rattle.far_scopes.specs.Movement.{meant, ticket_of}
 use Rattle.far_vector.specs.Vector.{Vector, IsVector, IsShaped, group_list}
 use Rattle.far_vector.proofs.RowGroups.{list-of-group}
 use Rattle.far_vector.proofs.VectorLaws.{length-elements}
-use Rattle.far_columns.specs.Texts.{Texts, HasGroups, IsTextColumn, IsGroupForm, lists_of, texts_in}
+use Rattle.far_texts.specs.Texts.{Texts, HasGroups, IsTextColumn, IsGroupForm, lists_of, texts_in}
 use Rattle.far_columns.specs.Numbers.{Numbers, number_lists, numbers_in}
-use Rattle.far_columns.proofs.RowGroups.{texts-of-group}
+use Rattle.far_texts.proofs.RowGroups.{texts-of-group}
 use Rattle.far_rows.specs.declared.slot.Slot.{Slot}
 use Rattle.far_rows.specs.declared.slot.Slot.TheVariants as slot
 use Rattle.far_rows.specs.declared.object.Object.TheVariants as object

@@ -4,10 +4,10 @@ use Rattle.std.specs.Prelude.{ℤ, Option, All}
 use Rattle.std.proofs.lemmas.List.Elements.{All-nil, All-cons, All-head, All-tail}
 use Rattle.far_vector.specs.Vector.{Vector}
 use Rattle.far_vector.specs.Effects.{pushed as number_pushed}
-use Rattle.far_columns.specs.Texts.{Texts}
-use Rattle.far_columns.specs.Changes.{pushed as text_pushed}
+use Rattle.far_texts.specs.Texts.{Texts}
+use Rattle.far_texts.specs.Changes.{pushed as text_pushed}
 use Rattle.far_columns.specs.NumbersTogether.{NumberColumns, all_pushed as all_numbers_pushed}
-use Rattle.far_columns.specs.Together.{all_pushed as all_texts_pushed}
+use Rattle.far_texts.specs.Together.{all_pushed as all_texts_pushed}
 
 pub as-many-numbers : (n : ℕ) (columns : NumberColumns) → length (all_numbers_pushed n columns) ≡ length columns
 as-many-numbers n [] = refl

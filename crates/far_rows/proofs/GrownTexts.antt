@@ -4,9 +4,9 @@ use Rattle.std.specs.Prelude.{All, slice_index_or}
 use Rattle.std.proofs.Math.Nat.{mul-add, mul-one}
 use Rattle.std.proofs.lemmas.Bool.{cases_eq, cases_lt, cases_Bool}
 use Rattle.std.proofs.lemmas.List.{length_push}
-use Rattle.far_columns.specs.Texts.{Texts}
-use Rattle.far_columns.specs.Changes.{begins_group, pushed}
-use Rattle.far_columns.specs.Together.{all_begin, all_pushed}
+use Rattle.far_texts.specs.Texts.{Texts}
+use Rattle.far_texts.specs.Changes.{begins_group, pushed}
+use Rattle.far_texts.specs.Together.{all_begin, all_pushed}
 use Rattle.far_rows.proofs.Beginning.{IsTexts, text-begins, text-begun, texts-begin, texts-begun}
 use Rattle.far_rows.proofs.Grown.{as-many-texts, all-texts}
 

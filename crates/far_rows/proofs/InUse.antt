@@ -6,10 +6,10 @@ use Rattle.far_codec.specs.Reading.{ints_meaning}
 use Rattle.far_scopes.specs.Movement.{Movement, AreTracked}
 use Rattle.far_vector.specs.Vector.{Vector, IsVector}
 use Rattle.far_vector.proofs.InUse.{in-use}
-use Rattle.far_columns.specs.Texts.{Texts, IsTextColumn, IsGroupForm, lists_of}
+use Rattle.far_texts.specs.Texts.{Texts, IsTextColumn, IsGroupForm, lists_of}
 use Rattle.far_columns.specs.Numbers.{number_lists}
 use Rattle.far_columns.specs.NumbersTogether.{NumberColumns, AreNumberColumns}
-use Rattle.far_columns.specs.Together.{AreColumns}
+use Rattle.far_texts.specs.Together.{AreColumns}
 
 module _ {K : Type 0} (content : K → List ℕ) where
   pub number-in-use : (spelled : List (Option ℤ) → List ℕ → Type 0) (m : Movement (Option ℤ) K) → AreTracked ints_meaning content spelled m → (columns : NumberColumns) → AreNumberColumns (number_lists content m) columns

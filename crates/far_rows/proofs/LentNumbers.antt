@@ -18,7 +18,7 @@ use Rattle.far_vector.specs.Vector.{Vector}
 use Rattle.far_vector.specs.Pieces.{first_touched, touched_count, touched, pieces_of}
 use Rattle.far_vector.specs.Refusing.{pieces_refusal}
 use Rattle.far_columns.specs.Numbers.{Numbers, numbers_in, with_flags}
-use Rattle.far_columns.proofs.FirstCases.{first-append}
+use Rattle.far_scopes.proofs.FirstCases.{first-append}
 use Rattle.far_rows.specs.declared.slot.Slot.{Slot}
 use Rattle.far_rows.specs.declared.slot.Slot.TheVariants as slot
 use Rattle.far_types.specs.Lent.{int_cell}

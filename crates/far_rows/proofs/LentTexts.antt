@@ -15,10 +15,10 @@ use Rattle.far_types.specs.FirstOf.{first_of}
 use Rattle.far_scopes.specs.Movement.{Movement}
 use Rattle.far_scopes.specs.Refusing.{first_absent}
 use Rattle.far_vector.specs.Pieces.{touched}
-use Rattle.far_columns.specs.Texts.{Texts, HasGroups, lists_of, texts_in}
-use Rattle.far_columns.specs.Lending.{texts_refusal as column_refusal}
-use Rattle.far_columns.proofs.FirstCases.{first-append}
-use Rattle.far_columns.proofs.Groups.{texts-length}
+use Rattle.far_texts.specs.Texts.{Texts, HasGroups, lists_of, texts_in}
+use Rattle.far_texts.specs.Lending.{texts_refusal as column_refusal}
+use Rattle.far_scopes.proofs.FirstCases.{first-append}
+use Rattle.far_texts.proofs.Groups.{texts-length}
 use Rattle.far_rows.specs.declared.slot.Slot.{Slot}
 use Rattle.far_rows.specs.declared.slot.Slot.TheVariants as slot
 use Rattle.far_types.specs.Lent.{text_cell}

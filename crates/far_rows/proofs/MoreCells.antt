@@ -4,10 +4,10 @@ use Rattle.std.specs.Prelude.{All}
 use Rattle.std.proofs.lemmas.List.{map-append}
 use Rattle.std.proofs.lemmas.List.Elements.{All-head, All-tail}
 use Rattle.far_vector.specs.Vector.{elements}
-use Rattle.far_columns.specs.Texts.{Texts, Lists, texts_in}
+use Rattle.far_texts.specs.Texts.{Texts, Lists, texts_in}
 use Rattle.far_columns.specs.Numbers.{Numbers}
 use Rattle.far_columns.specs.NumbersTogether.{NumberLists, NumberColumns, all_numbers_with}
-use Rattle.far_columns.specs.Together.{all_texts_with}
+use Rattle.far_texts.specs.Together.{all_texts_with}
 use Rattle.far_rows.specs.declared.slot.Slot.{Slot}
 use Rattle.far_rows.specs.declared.slot.Slot.TheVariants as slot
 use Rattle.far_types.specs.Lent.{int_cell, text_cell}

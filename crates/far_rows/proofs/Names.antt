@@ -10,7 +10,7 @@ use Rattle.far_scopes.specs.declared.replacement.Replacement.{Replacement}
 use Rattle.far_scopes.specs.Movement.{Movement}
 use Rattle.far_scopes.specs.Effects.{with_entry, with_lens, written, written_all, replaced, replaced_all, arrived}
 use Rattle.far_scopes.proofs.Places.{cases_option}
-use Rattle.far_columns.proofs.Setting.{by-outcome}
+use Rattle.far_scopes.proofs.Outcomes.{by-outcome}
 use Rattle.far_rows.specs.Naming.{names_of}
 
 abbrev names_in : {K : Type 0} → List (Entry K) → List Name

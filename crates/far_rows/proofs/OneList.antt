@@ -15,12 +15,12 @@ use Rattle.far_log.specs.Room.{spaces_of, fit_in_order}
 use Rattle.far_scopes.specs.Refusing.{written_out}
 use Rattle.far_vector.specs.Vector.{Vector, IsShaped, object_at}
 use Rattle.far_vector.specs.Effects.{is_full}
-use Rattle.far_columns.specs.Texts.{Texts, Lists, HasGroups, lists_of}
-use Rattle.far_columns.specs.Changes.{begins_group, last_object}
-use Rattle.far_columns.specs.Together.{all_begin, next_forms}
-use Rattle.far_columns.specs.RefusingTogether.{any_too_long, any_full, absents as texts_absent, some_written_out as some_text_written_out, push_texts_refusal}
+use Rattle.far_texts.specs.Texts.{Texts, Lists, HasGroups, lists_of}
+use Rattle.far_texts.specs.Changes.{begins_group, last_object}
+use Rattle.far_texts.specs.Together.{all_begin, next_forms}
+use Rattle.far_texts.specs.RefusingTogether.{any_too_long, any_full, absents as texts_absent, some_written_out as some_text_written_out, push_texts_refusal}
 use Rattle.far_columns.specs.NumbersTogether.{NumberColumns, all_begin as all_numbers_begin, absents as numbers_absent, some_written_out as some_number_written_out, push_numbers_refusal}
-use Rattle.far_columns.proofs.FirstCases.{first-append}
+use Rattle.far_scopes.proofs.FirstCases.{first-append}
 use Rattle.far_rows.specs.Slots.{Values}
 use Rattle.far_rows.specs.Rows.{Rows, AreRows}
 use Rattle.far_rows.specs.Refusing.{absents, begins, no_room_for_texts, no_room_for_numbers, some_written_out, push_refusal}

@@ -16,13 +16,13 @@ use Rattle.far_types.specs.Edits.{is_over, overfills, text_object_length, places
 use Rattle.far_types.specs.FormLengths.{texts_length}
 use Rattle.far_types.specs.Table.{Place, column, in_group}
 use Rattle.far_codec.proofs.Laws.{texts_form_length}
-use Rattle.far_columns.specs.Texts.{Texts, Lists, HasGroups, IsTextColumn, lists_of, texts_in}
-use Rattle.far_columns.specs.Changes.{group_with, group_with_next}
-use Rattle.far_columns.specs.Refusing.{chunk_full}
-use Rattle.far_columns.specs.RefusingTogether.{any_full}
-use Rattle.far_columns.specs.Together.{next_forms}
-use Rattle.far_columns.proofs.Groups.{texts-length}
-use Rattle.far_columns.proofs.RowGroups.{group-with-next, group-with-text}
+use Rattle.far_texts.specs.Texts.{Texts, Lists, HasGroups, IsTextColumn, lists_of, texts_in}
+use Rattle.far_texts.specs.Changes.{group_with, group_with_next}
+use Rattle.far_texts.specs.Refusing.{chunk_full}
+use Rattle.far_texts.specs.RefusingTogether.{any_full}
+use Rattle.far_texts.specs.Together.{next_forms}
+use Rattle.far_texts.proofs.Groups.{texts-length}
+use Rattle.far_texts.proofs.RowGroups.{group-with-next, group-with-text}
 use Rattle.far_rows.specs.declared.slot.Slot.{Slot}
 use Rattle.far_rows.specs.declared.slot.Slot.TheVariants as slot
 use Rattle.far_types.specs.Lent.{text_cell}

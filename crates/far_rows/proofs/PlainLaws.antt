@@ -11,10 +11,10 @@ use Rattle.far_types.specs.declared.refusal.Refusal.{Refusal}
 use Rattle.far_types.specs.declared.refusal.Refusal.TheVariants as refusal
 use Rattle.far_types.specs.FirstOf.{first_of}
 use Rattle.far_scopes.specs.Refusing.{absent}
-use Rattle.far_columns.specs.Texts.{Texts, HasGroups}
-use Rattle.far_columns.specs.Changes.{begins_group, last_object}
-use Rattle.far_columns.specs.Together.{all_begin}
-use Rattle.far_columns.specs.RefusingTogether.{absents as texts_absent}
+use Rattle.far_texts.specs.Texts.{Texts, HasGroups}
+use Rattle.far_texts.specs.Changes.{begins_group, last_object}
+use Rattle.far_texts.specs.Together.{all_begin}
+use Rattle.far_texts.specs.RefusingTogether.{absents as texts_absent}
 use Rattle.far_columns.specs.NumbersTogether.{NumberColumns, all_begin as all_numbers_begin, absents as numbers_absent}
 use Rattle.far_vector.specs.Vector.{Vector, IsShaped, object_at}
 use Rattle.far_vector.specs.Effects.{is_full}

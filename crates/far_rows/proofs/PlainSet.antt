@@ -21,9 +21,9 @@ use Rattle.far_log.specs.Room.{fits_in}
 use Rattle.far_scopes.specs.Refusing.{absent, written_out}
 use Rattle.far_vector.specs.Vector.{Vector, IsShaped, object_at as number_at}
 use Rattle.far_vector.specs.Refusing.{past_end as past_numbers}
-use Rattle.far_columns.specs.Texts.{Texts, HasGroups, lists_of, object_at as text_at}
-use Rattle.far_columns.specs.Changes.{group_with}
-use Rattle.far_columns.specs.Refusing.{text_too_long, past_end, chunk_full}
+use Rattle.far_texts.specs.Texts.{Texts, HasGroups, lists_of, object_at as text_at}
+use Rattle.far_texts.specs.Changes.{group_with}
+use Rattle.far_texts.specs.Refusing.{text_too_long, past_end, chunk_full}
 use Rattle.far_rows.specs.declared.slot.Slot.{Slot}
 use Rattle.far_rows.specs.declared.slot.Slot.TheVariants as slot
 use Rattle.far_rows.specs.declared.object.Object.{Object}
@@ -38,7 +38,7 @@ use Rattle.far_rows.specs.Refusing.{absents}
 use Rattle.far_rows.specs.Places.{places_in, AreOf}
 use Rattle.far_rows.specs.Plain.{is_too_full, no_room_alone, writes_used, cell_set_refusal}
 use Rattle.far_rows.proofs.Overfull.{found-at, set-long, set-full}
-use Rattle.far_columns.proofs.FirstCases.{first-append}
+use Rattle.far_scopes.proofs.FirstCases.{first-append}
 use Rattle.far_rows.proofs.PlainLaws.{skip, none-away}
 
 same-length : (text : Option (List ℕ)) → is_too_long (text_cell text) ≡ false → (text_too_long text).0 ≡ false

@@ -15,8 +15,8 @@ use Rattle.far_scopes.specs.Refusing.{absent}
 use Rattle.far_vector.specs.Vector.{Vector, IsVector, IsShaped}
 use Rattle.far_vector.specs.Refusing.{get_refusal}
 use Rattle.far_columns.specs.Numbers.{number_lists, numbers_in}
-use Rattle.far_columns.specs.Texts.{Texts, HasGroups, IsTextColumn, lists_of, texts_in}
-use Rattle.far_columns.specs.Refusing.{text_refusal}
+use Rattle.far_texts.specs.Texts.{Texts, HasGroups, IsTextColumn, lists_of, texts_in}
+use Rattle.far_texts.specs.Refusing.{text_refusal}
 use Rattle.far_rows.specs.declared.slot.Slot.TheVariants as slot
 use Rattle.far_types.specs.Lent.{text_cell}
 use Rattle.far_rows.specs.Slots.{column_in}

@@ -9,9 +9,9 @@ use Rattle.far_scopes.specs.Movement.{Movement, AreClean}
 use Rattle.far_scopes.specs.Renewal.{renewed_entry, renewed}
 use Rattle.far_vector.proofs.Together.{vectors-stay, elements-stay}
 use Rattle.far_vector.specs.Vector.{Vector}
-use Rattle.far_columns.specs.Texts.{Texts, lists_of, texts_in}
+use Rattle.far_texts.specs.Texts.{Texts, lists_of, texts_in}
 use Rattle.far_columns.specs.Numbers.{number_lists, numbers_in}
-use Rattle.far_columns.proofs.Beside.{columns-stay, texts-stay}
+use Rattle.far_texts.proofs.Beside.{columns-stay, texts-stay}
 use Rattle.far_rows.specs.Slots.{columns_of}
 use Rattle.far_rows.specs.Naming.{names_of, AreNamed, AreOwned}
 use Rattle.far_rows.specs.Rows.{Rows, AreRows, cells_of}

@@ -4,8 +4,8 @@ use Rattle.std.specs.Prelude.{◌||◌}
 use Rattle.std.specs.List.{list_any}
 use Rattle.far_types.specs.declared.cell.Cell.{Cell}
 use Rattle.far_types.specs.Cells.{is_too_long}
-use Rattle.far_columns.specs.Refusing.{text_too_long}
-use Rattle.far_columns.specs.RefusingTogether.{any_too_long}
+use Rattle.far_texts.specs.Refusing.{text_too_long}
+use Rattle.far_texts.specs.RefusingTogether.{any_too_long}
 use Rattle.far_types.specs.Lent.{text_cell}
 
 or-none : (a b : Bool) → (a || b) ≡ false → (a ≡ false) × (b ≡ false)

@@ -15,8 +15,8 @@ use Rattle.far_scopes.specs.Refusing.{absent}
 use Rattle.far_codec.specs.TextForm.{texts_form}
 use Rattle.far_vector.specs.Vector.{Vector, object_at as number_at}
 use Rattle.far_vector.specs.Effects.{range_written}
-use Rattle.far_columns.specs.Texts.{Texts, lists_of, object_at as text_at}
-use Rattle.far_columns.specs.Changes.{group_with, set_in as text_set_in}
+use Rattle.far_texts.specs.Texts.{Texts, lists_of, object_at as text_at}
+use Rattle.far_texts.specs.Changes.{group_with, set_in as text_set_in}
 use Rattle.far_rows.specs.declared.slot.Slot.{Slot}
 use Rattle.far_rows.specs.declared.slot.Slot.TheVariants as slot
 use Rattle.far_rows.specs.declared.new_cell.NewCell.{NewCell}

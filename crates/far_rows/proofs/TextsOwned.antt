@@ -9,9 +9,9 @@ use Rattle.far_codec.specs.TextForm.{texts_form}
 use Rattle.far_types.specs.declared.name.Name.{Name}
 use Rattle.far_scopes.specs.Movement.{Movement}
 use Rattle.far_scopes.proofs.WordPlaces.{slice_get-push_last}
-use Rattle.far_columns.specs.Texts.{Texts, Lists}
-use Rattle.far_columns.specs.Changes.{begins_group, group_with_next, pushed}
-use Rattle.far_columns.specs.Together.{AreReplaced, all_begin, all_created, all_pushed, next_forms}
+use Rattle.far_texts.specs.Texts.{Texts, Lists}
+use Rattle.far_texts.specs.Changes.{begins_group, group_with_next, pushed}
+use Rattle.far_texts.specs.Together.{AreReplaced, all_begin, all_created, all_pushed, next_forms}
 use Rattle.far_rows.specs.Naming.{names_of, AreOwned}
 use Rattle.far_rows.proofs.Beginning.{IsTexts, text-begun, texts-begin}
 use Rattle.far_rows.proofs.GrownTexts.{begun, longer}

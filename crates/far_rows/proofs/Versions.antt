@@ -16,10 +16,10 @@ use Rattle.far_vector.specs.Vector.{Vector, IsShaped, AreApart, object_at}
 use Rattle.far_vector.specs.Effects.{is_full, pushed_in}
 use Rattle.far_columns.specs.Numbers.{Numbers, number_lists}
 use Rattle.far_columns.specs.NumbersTogether.{NumberColumns, AreNumberColumns, all_pushed_in}
-use Rattle.far_columns.specs.Texts as texts
-use Rattle.far_columns.specs.Texts.{Texts, Lists, HasGroups, lists_of}
-use Rattle.far_columns.specs.Changes.{begins_group, last_object}
-use Rattle.far_columns.specs.Together.{AreColumns, AreReplaced, all_begin, all_created, given_forms, next_forms}
+use Rattle.far_texts.specs.Texts as texts
+use Rattle.far_texts.specs.Texts.{Texts, Lists, HasGroups, lists_of}
+use Rattle.far_texts.specs.Changes.{begins_group, last_object}
+use Rattle.far_texts.specs.Together.{AreColumns, AreReplaced, all_begin, all_created, given_forms, next_forms}
 use Rattle.far_columns.proofs.NumbersTogether.{pairs-head, pairs-tail}
 use Rattle.far_rows.proofs.Beginning.{IsNumbers, number-begins, number-begun, IsTexts, text-begun, texts-begin}
 use Rattle.far_rows.proofs.TextsNamed.{true-not}

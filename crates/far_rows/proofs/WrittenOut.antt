@@ -9,9 +9,9 @@ use Rattle.std.proofs.lemmas.Option.{none-some, same_Some, slice_get-map, slice_
 use Rattle.far_scopes.specs.Refusing.{written_out}
 use Rattle.far_vector.specs.Vector.{Vector, IsShaped}
 use Rattle.far_vector.specs.Effects.{is_full}
-use Rattle.far_columns.specs.Texts.{Texts, Lists, HasGroups}
-use Rattle.far_columns.specs.Changes.{begins_group, last_object}
-use Rattle.far_columns.specs.Together.{object_for, next_forms}
+use Rattle.far_texts.specs.Texts.{Texts, Lists, HasGroups}
+use Rattle.far_texts.specs.Changes.{begins_group, last_object}
+use Rattle.far_texts.specs.Together.{object_for, next_forms}
 use Rattle.far_rows.specs.declared.slot.Slot.{Slot}
 use Rattle.far_rows.specs.declared.slot.Slot.TheVariants as slot
 use Rattle.far_rows.specs.Rows.{Rows, AreRows}

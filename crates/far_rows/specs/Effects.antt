@@ -2,7 +2,7 @@
 use Rattle.std.specs.Prelude.{◌≡◌, ℕ, ◌+◌, ◌≤◌, List, [], ◌∷◌, ◌++◌, true, IfSome, length, slice_get}
 use Rattle.far_scopes.specs.Movement.{AreHere, version_of}
 use Rattle.far_columns.specs.NumbersTogether.{all_pushed, all_pushed_in}
-use Rattle.far_columns.specs.Together.{all_pushed as all_texts_pushed}
+use Rattle.far_texts.specs.Together.{all_pushed as all_texts_pushed}
 use Rattle.far_rows.specs.declared.new_cell.NewCell.{NewCell}
 use Rattle.far_rows.specs.Slots.{Values, row_of, with_row}
 use Rattle.far_rows.specs.Rows.{Rows, TextsMoved, cells_of}

@@ -14,7 +14,7 @@ use Rattle.far_scopes.specs.Effects.{departed, arrived}
 use Rattle.far_evacuator.specs.Jobs.{Evacuation, CarriedEvacuation, Fetch, CarriedFetch, IsFormTicket}
 use Rattle.far_evacuator.specs.Beginning.{IsBegun, IsFetch}
 use Rattle.far_evacuator.specs.Acceptance.{IsCommittable, IsInstallable}
-use Rattle.far_columns.specs.Texts.{lists_of}
+use Rattle.far_texts.specs.Texts.{lists_of}
 use Rattle.far_columns.specs.Numbers.{number_lists}
 use Rattle.far_rows.specs.declared.job.ByKind.{ByKind}
 use Rattle.far_rows.specs.declared.job.ByKind.TheVariants.{Numbers, Texts}

@@ -5,7 +5,7 @@ use Rattle.far_types.specs.declared.cell.Kind.TheVariants as kind
 use Rattle.far_types.specs.declared.limits.Limits.{Limits}
 use Rattle.far_scopes.specs.declared.limits.ObjectLimits.{ObjectLimits}
 use Rattle.far_scopes.specs.Opening.{no_objects}
-use Rattle.far_columns.specs.Texts.{Texts}
+use Rattle.far_texts.specs.Texts.{Texts}
 use Rattle.far_columns.specs.NumbersTogether.{NumberColumns}
 use Rattle.far_rows.specs.Slots.{slots_from}
 use Rattle.far_rows.specs.Rows.{Rows}

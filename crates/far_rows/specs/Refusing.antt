@@ -8,9 +8,9 @@ use Rattle.far_types.specs.Bounds.{is_int, is_text}
 use Rattle.far_types.specs.FirstOf.{first_of}
 use Rattle.far_log.specs.Room.{spaces_of, fit_in_order}
 use Rattle.far_scopes.specs.Refusing.{absent, written_out}
-use Rattle.far_columns.specs.Texts.{Lists, lists_of}
-use Rattle.far_columns.specs.Together.{next_forms}
-use Rattle.far_columns.specs.RefusingTogether.{any_full}
+use Rattle.far_texts.specs.Texts.{Lists, lists_of}
+use Rattle.far_texts.specs.Together.{next_forms}
+use Rattle.far_texts.specs.RefusingTogether.{any_full}
 use Rattle.far_vector.specs.Pieces.{touched}
 use Rattle.far_rows.specs.declared.slot.Slot.{Slot}
 use Rattle.far_rows.specs.declared.slot.Slot.TheVariants as slot

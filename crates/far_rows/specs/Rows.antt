@@ -5,10 +5,10 @@ use Rattle.far_types.specs.declared.cell.Cell.{Cell}
 use Rattle.far_codec.specs.Reading.{ints_meaning}
 use Rattle.far_scopes.specs.Movement.{Movement, AreClean}
 use Rattle.far_vector.specs.Vector.{IsShaped}
-use Rattle.far_columns.specs.Texts.{Texts, HasGroups, lists_of, texts_in}
+use Rattle.far_texts.specs.Texts.{Texts, HasGroups, lists_of, texts_in}
 use Rattle.far_columns.specs.Numbers.{Numbers, number_lists, numbers_in}
 use Rattle.far_columns.specs.NumbersTogether.{NumberColumns, AreNumberColumns}
-use Rattle.far_columns.specs.Together.{AreColumns, AreReplaced, all_begin, all_created, next_forms}
+use Rattle.far_texts.specs.Together.{AreColumns, AreReplaced, all_begin, all_created, next_forms}
 use Rattle.far_rows.specs.declared.slot.Slot.{Slot}
 use Rattle.far_rows.specs.declared.slot.Slot.TheVariants as slot
 use Rattle.far_rows.specs.Slots.{AreSlots, columns_of}

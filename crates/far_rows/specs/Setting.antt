@@ -8,8 +8,8 @@ use Rattle.far_types.specs.declared.refusal.Refusal.{Refusal}
 use Rattle.far_types.specs.FirstOf.{first_of}
 use Rattle.far_vector.specs.Effects.{range_written}
 use Rattle.far_vector.specs.Refusing.{set_refusal as number_refusal}
-use Rattle.far_columns.specs.Changes.{set_in as text_set_in}
-use Rattle.far_columns.specs.Refusing.{set_refusal as text_refusal}
+use Rattle.far_texts.specs.Changes.{set_in as text_set_in}
+use Rattle.far_texts.specs.Refusing.{set_refusal as text_refusal}
 use Rattle.far_rows.specs.declared.slot.Slot.{Slot}
 use Rattle.far_rows.specs.declared.slot.Slot.TheVariants as slot
 use Rattle.far_rows.specs.declared.new_cell.NewCell.{NewCell}

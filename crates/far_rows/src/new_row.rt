@@ -3,7 +3,7 @@ ghost use Rattle.std.specs.Prelude.{◌≡◌, ◌≤◌, None, replicate, true,
 ghost use Rattle.far_types.specs.Edits.{kinds_fit};
 ghost use Rattle.std.specs.List.{list_any};
 ghost use Rattle.far_types.specs.Cells.{is_of_kind, is_too_long};
-ghost use Rattle.far_columns.specs.RefusingTogether.{any_too_long};
+ghost use Rattle.far_texts.specs.RefusingTogether.{any_too_long};
 ghost use Rattle.far_types.specs.Lent.{int_cell, text_cell, lent_cell};
 ghost use Rattle.far_rows.specs.Slots.{AreSlots, IsWithin, cell_in, kind_of, row_of, with_value};
 
@@ -24,7 +24,7 @@ pub struct NewRow {
 
 impl Model for NewRow {
     ghost use Rattle.std.specs.Prelude.{◌≡◌, false};
-    ghost use Rattle.far_columns.specs.RefusingTogether.{any_too_long};
+    ghost use Rattle.far_texts.specs.RefusingTogether.{any_too_long};
     ghost use Rattle.far_rows.specs.Slots.{Values};
 
     ghost Value = { Values };

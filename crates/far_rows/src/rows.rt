@@ -23,9 +23,10 @@ mod renewing;
 mod setting;
 
 use super::slot::Slot;
-use far_columns::{Alive, IntColumn, TextColumn};
+use far_columns::{Alive, IntColumn};
 use far_scopes::Objects;
 use far_store::FarTickets;
+use far_texts::TextColumn;
 use far_types::{Kind, Limits, Refusal, Schema};
 use opening::{columns_of, number_limits, text_limits};
 use std::alloc::Global;

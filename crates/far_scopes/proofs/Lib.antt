@@ -41,3 +41,6 @@ pub mod TakenWords
 pub mod MarkedAll
 pub mod RefusedAll
 pub mod ReplacedAll
+pub mod Outcomes
+pub mod FirstCases
+pub mod Alike

@@ -16,7 +16,7 @@ use Rattle.far_types.specs.Edits.{edit_faults, overfills, text_object_length, pl
 use Rattle.far_types.specs.FirstOf.{first_of}
 use Rattle.far_log.specs.Room.{fits_in}
 use Rattle.far_vector.specs.Vector.{Vector, IsShaped}
-use Rattle.far_columns.specs.Texts.{Texts, HasGroups}
+use Rattle.far_texts.specs.Texts.{Texts, HasGroups}
 use Rattle.far_rows.specs.declared.object.Object.{Object}
 use Rattle.far_rows.specs.declared.new_cell.NewCell.{NewCell}
 use Rattle.far_rows.specs.declared.slot.Slot.{Slot}

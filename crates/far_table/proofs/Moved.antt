@@ -14,9 +14,9 @@ use Rattle.far_scopes.specs.declared.entry.Entry.{Entry}
 use Rattle.far_scopes.specs.Effects.{with_entry, departed, arrived, pinned as pinned_in, unpinned as unpinned_in, touched as touched_in}
 use Rattle.far_scopes.specs.Movement.{Movement, version_of}
 use Rattle.far_evacuator.specs.Jobs.{CarriedEvacuation, CarriedFetch}
-use Rattle.far_columns.specs.Texts.{Texts, lists_of}
+use Rattle.far_texts.specs.Texts.{Texts, lists_of}
 use Rattle.far_columns.specs.Numbers.{number_lists}
-use Rattle.far_columns.proofs.Setting.{by-outcome, on-both}
+use Rattle.far_scopes.proofs.Outcomes.{by-outcome, on-both}
 use Rattle.far_rows.specs.declared.job.ByKind.{ByKind}
 use Rattle.far_rows.specs.declared.job.ByKind.TheVariants.{Numbers, Texts as OfTexts}
 use Rattle.far_rows.specs.declared.object.Object.{Object}

@@ -7,7 +7,7 @@ use Rattle.far_types.specs.declared.cell.Kind.{Kind}
 use Rattle.far_types.specs.declared.cell.Kind.TheVariants as kind
 use Rattle.far_types.specs.declared.limits.Limits.{Limits}
 use Rattle.far_types.specs.Bounds.{AreLimits}
-use Rattle.far_columns.specs.Texts.{Texts}
+use Rattle.far_texts.specs.Texts.{Texts}
 use Rattle.far_rows.specs.Opening.{numbers_from, texts_from, empty_rows}
 use Rattle.far_rows.specs.Slots.{Values, kind_of, slots_from}
 use Rattle.far_table.specs.TableRows.{AreKept}

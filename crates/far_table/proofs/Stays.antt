@@ -14,11 +14,11 @@ use Rattle.far_scopes.specs.Effects.{created, written, written_all}
 use Rattle.far_scopes.specs.Movement.{Movement, version_of}
 use Rattle.far_vector.specs.Vector.{Vector}
 use Rattle.far_vector.specs.Effects.{is_full, next_name, next_group, pushed_in, range_written}
-use Rattle.far_columns.specs.Texts.{Texts, lists_of}
-use Rattle.far_columns.specs.Changes.{set_in as text_set_in}
+use Rattle.far_texts.specs.Texts.{Texts, lists_of}
+use Rattle.far_texts.specs.Changes.{set_in as text_set_in}
 use Rattle.far_columns.specs.Numbers.{Numbers}
 use Rattle.far_columns.specs.NumbersTogether.{NumberColumns, all_pushed, all_pushed_in}
-use Rattle.far_columns.specs.Together.{all_begin, all_created, next_forms, all_pushed as all_texts_pushed}
+use Rattle.far_texts.specs.Together.{all_begin, all_created, next_forms, all_pushed as all_texts_pushed}
 use Rattle.far_rows.specs.declared.new_cell.NewCell.{NewCell}
 use Rattle.far_rows.specs.declared.new_cell.NewCell.TheVariants as new
 use Rattle.far_rows.specs.declared.slot.Slot.{Slot}

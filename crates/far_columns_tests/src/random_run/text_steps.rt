@@ -1,17 +1,18 @@
 // Calls on columns of texts, and what they should answer.
 ghost use Rattle.std.specs.Prelude.{[], ◌∷◌};
 ghost use Rattle.far_scopes.specs.Movement.{AreHere};
-ghost use Rattle.far_columns.specs.Texts.{lists_of, IsTextColumn};
-ghost use Rattle.far_columns.specs.Columns.{AreTextColumns};
+ghost use Rattle.far_texts.specs.Texts.{lists_of, IsTextColumn};
+ghost use Rattle.far_texts.specs.Columns.{AreTextColumns};
 
 use super::plain::{Faults, Plain};
 use super::texts::{TextCall, change_one, one_of};
 use super::{LIMIT, PLACES, SIZE, Step, clear, drawn_part};
 use crate::lending::lend_texts;
-use far_columns::{Alive, TextColumn};
+use far_columns::Alive;
 use far_random::Draws;
 use far_scopes::Objects;
 use far_store::{FarStore, FarTickets};
+use far_texts::TextColumn;
 use far_types::{Refusal, Text};
 use std::alloc::Global;
 

@@ -1,15 +1,15 @@
 // Calls on columns of texts that share their objects.
 ghost use Rattle.std.specs.Prelude.{◌<◌, ◌^◌, ℕ, length, IfOk, List, [], ◌∷◌};
 ghost use Rattle.far_scopes.specs.Movement.{AreHere};
-ghost use Rattle.far_columns.specs.Texts.{Lists, lists_of, IsTextColumn};
-ghost use Rattle.far_columns.specs.Columns.{AreTextColumns, ChangesColumn};
+ghost use Rattle.far_texts.specs.Texts.{Lists, lists_of, IsTextColumn};
+ghost use Rattle.far_texts.specs.Columns.{AreTextColumns, ChangesColumn};
 
 use super::{CHANGES, LEAVINGS};
 use crate::moving::{bring_texts_back, send_texts_away};
-use far_columns::TextColumn;
-use far_columns::laws::columns_stay_together;
 use far_scopes::{ObjectLimits, Objects};
 use far_store::FarStore;
+use far_texts::TextColumn;
+use far_texts::laws::columns_stay_together;
 use far_types::{Refusal, Text};
 use std::alloc::Global;
 

@@ -1,15 +1,16 @@
 // A column of texts with its objects, and calls on it.
 ghost use Rattle.std.specs.Prelude.{◌<◌, ◌≤◌, IfOk};
-ghost use Rattle.far_columns.specs.Texts.{lists_of, IsTextColumn};
+ghost use Rattle.far_texts.specs.Texts.{lists_of, IsTextColumn};
 
 use crate::lending::lend_texts;
 use crate::moving::send_texts_away;
 use crate::script::{Layout, Line, WRONG, found, is_due};
 use crate::words::{Word, find, text};
-use far_columns::{Alive, TextColumn};
+use far_columns::Alive;
 use far_fixtures::{digest_of, no_objects, with, with_optional};
 use far_scopes::Objects;
 use far_store::FarStore;
+use far_texts::TextColumn;
 use far_types::{Refusal, Text};
 use std::alloc::Global;
 use std::marker::Model;
@@ -51,7 +52,7 @@ pub struct OneTextColumn<'a, S: FarStore> {
 impl<'a, S: FarStore> Model for OneTextColumn<'a, S> {
     ghost use Rattle.std.specs.Prelude.{ℕ};
     ghost use Rattle.far_scopes.specs.Movement.{Movement};
-    ghost use Rattle.far_columns.specs.Texts.{lists_of, IsTextColumn};
+    ghost use Rattle.far_texts.specs.Texts.{lists_of, IsTextColumn};
 
     ghost Value = { Movement ℕ S.Ticket };
 

@@ -1,18 +1,19 @@
 // Two columns of texts of one table with their objects, and calls on them.
 ghost use Rattle.std.specs.Prelude.{◌≡◌, ◌<◌, ◌≤◌, ◌^◌, ℕ, List, length, IfOk};
 ghost use Rattle.far_scopes.specs.Movement.{AreHere};
-ghost use Rattle.far_columns.specs.Texts.{lists_of, IsTextColumn};
-ghost use Rattle.far_columns.specs.Together.{AreColumns};
+ghost use Rattle.far_texts.specs.Texts.{lists_of, IsTextColumn};
+ghost use Rattle.far_texts.specs.Together.{AreColumns};
 
 use crate::lending::lend_texts;
 use crate::moving::{bring_texts_back, send_texts_away};
 use crate::script::{Layout, Line, PairCall, WRONG, found, is_due};
 use crate::words::{Word, find, text};
-use far_columns::laws::columns_stay_together;
-use far_columns::{Alive, TextColumn, may_push_texts, push_texts};
+use far_columns::Alive;
 use far_fixtures::{digest_of, no_objects, with, with_optional};
 use far_scopes::Objects;
 use far_store::{FarStore, FarTickets};
+use far_texts::laws::columns_stay_together;
+use far_texts::{TextColumn, may_push_texts, push_texts};
 use far_types::{Refusal, Text};
 use std::alloc::Global;
 use std::marker::Model;
@@ -29,8 +30,8 @@ pub struct TwoTextColumns<'a, S: FarStore> {
 impl<'a, S: FarStore> Model for TwoTextColumns<'a, S> {
     ghost use Rattle.std.specs.Prelude.{ℕ};
     ghost use Rattle.far_scopes.specs.Movement.{Movement, AreHere};
-    ghost use Rattle.far_columns.specs.Texts.{lists_of};
-    ghost use Rattle.far_columns.specs.Together.{AreColumns};
+    ghost use Rattle.far_texts.specs.Texts.{lists_of};
+    ghost use Rattle.far_texts.specs.Together.{AreColumns};
 
     ghost Value = { Movement ℕ S.Ticket };
 

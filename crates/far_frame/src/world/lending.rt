@@ -9,8 +9,9 @@ ghost use Rattle.far_frame.specs.Lending.{Gives, int_piece, ints_lent, lent_part
 use crate::frame::Frame;
 use crate::piece::{IntPiece, TextPiece};
 use crate::step::{Reply, Step};
-use far_columns::{Lent, TextCells};
+use far_columns::Lent;
 use far_store::FarTickets;
+use far_texts::TextCells;
 use far_types::{Kind, Refusal, Text};
 use std::alloc::Global;
 

@@ -2,9 +2,9 @@
 ghost use Rattle.std.specs.Prelude.{◌≡◌, ◌≤◌, length};
 ghost use Rattle.far_scopes.specs.Refusing.{refusal_in};
 ghost use Rattle.far_types.specs.declared.limits.Limits.{Limits};
-ghost use Rattle.far_columns.specs.Texts.{lists_of};
-ghost use Rattle.far_columns.specs.Together.{AreColumns};
-ghost use Rattle.far_columns.specs.RefusingTogether.{push_texts_refusal};
+ghost use Rattle.far_texts.specs.Texts.{lists_of};
+ghost use Rattle.far_texts.specs.Together.{AreColumns};
+ghost use Rattle.far_texts.specs.RefusingTogether.{push_texts_refusal};
 ghost use Rattle.far_rows.specs.Refusing.{push_refusal};
 ghost use Rattle.far_rows.specs.ByKind.{kinds_refusal};
 ghost use Rattle.far_rows.specs.Places.{AreOf};
@@ -12,9 +12,10 @@ ghost use Rattle.far_rows.specs.Plain.{insert_refusal};
 
 use super::Rows;
 use crate::new_row::NewRow;
-use far_columns::{TextColumn, may_push_numbers, may_push_texts};
+use far_columns::may_push_numbers;
 use far_scopes::Objects;
 use far_store::FarTickets;
+use far_texts::{TextColumn, may_push_texts};
 use far_types::{Refusal, Text};
 
 // Whether each of at most 16 columns of texts may get its text. A table without such a column has nothing to ask.

@@ -5,7 +5,7 @@ ghost use Rattle.far_log.specs.Room.{fits_in};
 ghost use Rattle.far_scopes.specs.Effects.{departed, arrived};
 ghost use Rattle.far_scopes.specs.Movement.{AreHere, pins_of};
 ghost use Rattle.far_evacuator.specs.Acceptance.{IsCommittable, IsInstallable};
-ghost use Rattle.far_columns.specs.Texts.{lists_of};
+ghost use Rattle.far_texts.specs.Texts.{lists_of};
 ghost use Rattle.far_columns.specs.Numbers.{number_lists};
 ghost use Rattle.far_rows.specs.Rows.{cells_of};
 ghost use Rattle.far_rows.specs.Jobs.{SpellsNumbers, SpellsTexts, of_either, AreAt, IsEvacAccepted, IsFetchAccepted, pins_by, after_commit, HasNoRoom, IsAfterInstall};

@@ -12,8 +12,9 @@ ghost use Rattle.far_rows.specs.Lending.{lent_ints, lent_texts, numbers_of, text
 
 use super::Rows;
 use crate::slot::Slot;
-use far_columns::{Lents, TextCells};
+use far_columns::Lents;
 use far_store::FarTickets;
+use far_texts::TextCells;
 use far_types::Refusal;
 
 impl<S: FarTickets> Rows<S> {
@@ -85,6 +86,6 @@ impl<S: FarTickets> Rows<S> {
         let column = &self.texts[text];
         // It tells that a row group is begun for each place.
         let _len = column.len();
-        column.texts(&self.text_objects, &self.alive, from, to)
+        column.texts(&self.text_objects, self.alive.all(), from, to)
     }
 }

@@ -5,8 +5,9 @@ ghost use Rattle.far_rows.specs.Slots.{slots_from};
 ghost use Rattle.far_rows.specs.Opening.{numbers_from, texts_from, number_limits, text_limits};
 
 use crate::slot::Slot;
-use far_columns::{IntColumn, TextColumn};
+use far_columns::IntColumn;
 use far_scopes::ObjectLimits;
+use far_texts::TextColumn;
 use far_types::{Kind, Limits, Refusal, Schema};
 use std::alloc::Global;
 

@@ -3,11 +3,11 @@ ghost use Rattle.std.specs.Prelude.{◌≡◌, if◌then◌else◌, ◌<◌, ◌
 ghost use Rattle.far_codec.specs.Reading.{ints_meaning};
 ghost use Rattle.far_scopes.specs.Movement.{AreClean, AreHere, version_of};
 ghost use Rattle.far_vector.specs.Vector.{IsShaped};
-ghost use Rattle.far_columns.specs.Texts.{HasGroups, lists_of, texts_in};
+ghost use Rattle.far_texts.specs.Texts.{HasGroups, lists_of, texts_in};
 ghost use Rattle.far_columns.specs.Numbers.{number_lists, numbers_in};
 ghost use Rattle.far_columns.specs.NumbersTogether.{AreNumberColumns, all_begin, all_pushed, all_pushed_in, all_numbers_with, push_numbers_refusal};
-ghost use Rattle.far_columns.specs.Together.{AreColumns, AreReplaced, all_begin as all_texts_begin, all_created, all_pushed as all_texts_pushed, all_texts_with, next_forms};
-ghost use Rattle.far_columns.specs.RefusingTogether.{push_texts_refusal};
+ghost use Rattle.far_texts.specs.Together.{AreColumns, AreReplaced, all_begin as all_texts_begin, all_created, all_pushed as all_texts_pushed, all_texts_with, next_forms};
+ghost use Rattle.far_texts.specs.RefusingTogether.{push_texts_refusal};
 ghost use Rattle.far_rows.specs.Slots.{row_of, with_row};
 ghost use Rattle.far_rows.specs.Rows.{cells_of, TextsMoved};
 ghost use Rattle.far_rows.specs.Places.{places_in};
@@ -17,9 +17,10 @@ ghost use Rattle.far_rows.specs.Effects.{IsPushed, KeepsObjects};
 
 use super::Rows;
 use crate::new_row::NewRow;
-use far_columns::{IntColumn, TextColumn, push_numbers, push_texts, unpush_numbers};
+use far_columns::{IntColumn, push_numbers, unpush_numbers};
 use far_scopes::Objects;
 use far_store::FarTickets;
+use far_texts::{TextColumn, push_texts};
 use far_types::{Refusal, Text};
 use std::alloc::Global;
 

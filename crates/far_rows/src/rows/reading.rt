@@ -6,7 +6,7 @@ ghost use Rattle.far_types.specs.FirstOf.{first_of};
 ghost use Rattle.far_scopes.specs.Refusing.{refusal_in, absent};
 ghost use Rattle.far_vector.specs.Vector.{IsVector};
 ghost use Rattle.far_columns.specs.Numbers.{number_lists};
-ghost use Rattle.far_columns.specs.Texts.{lists_of, IsTextColumn};
+ghost use Rattle.far_texts.specs.Texts.{lists_of, IsTextColumn};
 ghost use Rattle.far_rows.specs.declared.slot.Slot.TheVariants as slot;
 ghost use Rattle.far_types.specs.Lent.{int_cell, text_cell, lent_cell};
 ghost use Rattle.far_rows.specs.Slots.{IsWithin, column_in};
@@ -18,9 +18,10 @@ use super::Rows;
 use crate::lent_cell::{lent_number, lent_text};
 use crate::row_ref::RowRef;
 use crate::slot::Slot;
-use far_columns::{IntColumn, TextColumn};
+use far_columns::IntColumn;
 use far_scopes::Objects;
 use far_store::FarTickets;
+use far_texts::TextColumn;
 use far_types::{CellRef, LentRow, Refusal};
 
 impl<S: FarTickets> Rows<S> {

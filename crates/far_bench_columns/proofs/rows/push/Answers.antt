@@ -1,5 +1,5 @@
 use Rattle.std.proofs.Common.{length, ap, ◌∙◌}
-use Rattle.far_columns.proofs.Setting.{by-outcome}
+use Rattle.far_scopes.proofs.Outcomes.{by-outcome}
 use Rattle.far_rows.proofs.Grown.{as-many-numbers, as-many-texts}
 use Rattle.far_bench_columns.proofs.rows.push.Goals as goal
 

@@ -2,8 +2,8 @@ use Rattle.std.proofs.Common.{◌≡◌, [], ◌∷◌}
 use Rattle.far_scopes.specs.Movement.{AreHere}
 use Rattle.far_vector.specs.Vectors.{AreVectors}
 use Rattle.far_columns.specs.Numbers.{number_lists}
-use Rattle.far_columns.specs.Texts.{lists_of}
-use Rattle.far_columns.specs.Columns.{AreTextColumns}
+use Rattle.far_texts.specs.Texts.{lists_of}
+use Rattle.far_texts.specs.Columns.{AreTextColumns}
 use Rattle.far_columns_tests.proofs.random_run.first_wrong.Given as goal
 
 abbrev pub invariant-loop-step : goal.invariant-loop-step

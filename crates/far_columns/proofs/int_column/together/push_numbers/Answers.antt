@@ -5,7 +5,7 @@ use Rattle.std.proofs.lemmas.Result.{err_from_is_err_and}
 use Rattle.far_types.specs.FirstOf.{first_of}
 use Rattle.far_columns.specs.Numbers.{number_lists}
 use Rattle.far_columns.specs.NumbersTogether.{some_written_out}
-use Rattle.far_columns.proofs.Setting.{by-outcomes}
+use Rattle.far_scopes.proofs.Outcomes.{by-outcomes}
 use Rattle.far_columns.proofs.NumbersTogether.{none-begin, even-pushed, due-begun}
 use Rattle.far_columns.proofs.int_column.together.push_numbers.Goals as goal
 

@@ -1,5 +1,5 @@
 use Rattle.std.proofs.Common.{[], ◌∷◌, refl, arith}
-use Rattle.far_columns.specs.Texts.{lists_of}
+use Rattle.far_texts.specs.Texts.{lists_of}
 use Rattle.far_columns_tests.proofs.random_run.texts.change_one.Goals as goal
 
 pub change-requires-clause-is : goal.change-requires-clause-is

@@ -1,5 +1,5 @@
 use Rattle.std.proofs.Common.{ap, ◌∙◌}
-use Rattle.far_columns.specs.RefusingTogether.{any_too_long}
+use Rattle.far_texts.specs.RefusingTogether.{any_too_long}
 use Rattle.far_rows.proofs.ShortRows.{missing-short}
 use Rattle.far_rows.proofs.new_row.NewRow.new.Goals as goal
 

@@ -1,7 +1,7 @@
 use Rattle.std.proofs.Common.{◌≡◌, ◌<◌, List, [], length, map, drop, get_or, sym, ap, subst, ◌∙◌}
 use Rattle.std.proofs.lemmas.List.{get_or_default, drop_all}
 use Rattle.std.proofs.lemmas.Result.{err_from_is_err_and}
-use Rattle.far_columns.proofs.FirstCases.{next-free, next-due}
+use Rattle.far_scopes.proofs.FirstCases.{next-free, next-due}
 use Rattle.far_types.specs.FirstOf.{first_of}
 use Rattle.far_rows.specs.declared.slot.Slot.{Slot}
 use Rattle.far_rows.specs.declared.slot.Slot.TheVariants as slot

@@ -1,4 +1,4 @@
-use Rattle.far_columns.specs.Texts.{lists_of}
+use Rattle.far_texts.specs.Texts.{lists_of}
 use Rattle.far_rows.proofs.Moved.{texts-moved, text-cells}
 use Rattle.far_rows.proofs.Names.{still-named-there}
 use Rattle.far_rows.proofs.rows.Rows.install_texts.Goals as goal

@@ -3,7 +3,7 @@ use Rattle.std.specs.Option.{option_or}
 use Rattle.std.proofs.lemmas.Result.{err_from_is_err_and}
 use Rattle.far_types.specs.FirstOf.{first_of}
 use Rattle.far_columns.specs.NumbersTogether.{push_numbers_refusal}
-use Rattle.far_columns.specs.RefusingTogether.{push_texts_refusal}
+use Rattle.far_texts.specs.RefusingTogether.{push_texts_refusal}
 use Rattle.far_rows.specs.Refusing.{absents}
 use Rattle.far_rows.proofs.rows.Rows.may_push_values.Goals as goal
 

@@ -6,8 +6,8 @@ use Rattle.std.proofs.lemmas.Result.{err_from_is_err_and}
 use Rattle.far_types.specs.FirstOf.{first_of}
 use Rattle.far_vector.specs.Vector.{Vector}
 use Rattle.far_vector.specs.Refusing.{set_refusal as number_refusal}
-use Rattle.far_columns.specs.Texts.{Texts, IsTextColumn, lists_of}
-use Rattle.far_columns.specs.Refusing.{set_refusal as text_refusal}
+use Rattle.far_texts.specs.Texts.{Texts, IsTextColumn, lists_of}
+use Rattle.far_texts.specs.Refusing.{set_refusal as text_refusal}
 use Rattle.far_rows.specs.declared.slot.Slot.{Slot}
 use Rattle.far_rows.specs.declared.slot.Slot.TheVariants as slot
 use Rattle.far_rows.specs.Refusing.{absents}

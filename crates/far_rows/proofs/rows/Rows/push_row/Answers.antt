@@ -3,11 +3,11 @@ use Rattle.std.specs.Prelude.{All}
 use Rattle.std.proofs.lemmas.Bool.{eqb-true, eqb-false}
 use Rattle.std.proofs.lemmas.List.{with_items_is, length_push, length-map}
 use Rattle.far_vector.specs.Vector.{IsShaped}
-use Rattle.far_columns.specs.Texts.{Texts, Lists, HasGroups, lists_of, texts_in}
+use Rattle.far_texts.specs.Texts.{Texts, Lists, HasGroups, lists_of, texts_in}
 use Rattle.far_columns.specs.Numbers.{number_lists, numbers_in}
 use Rattle.far_columns.specs.NumbersTogether.{NumberColumns, all_begin, all_pushed, all_pushed_in, all_numbers_with, push_numbers_refusal}
-use Rattle.far_columns.specs.Together.{AreReplaced, all_begin as all_texts_begin, all_created, all_pushed as all_texts_pushed, all_texts_with, next_forms}
-use Rattle.far_columns.specs.RefusingTogether.{push_texts_refusal}
+use Rattle.far_texts.specs.Together.{AreReplaced, all_begin as all_texts_begin, all_created, all_pushed as all_texts_pushed, all_texts_with, next_forms}
+use Rattle.far_texts.specs.RefusingTogether.{push_texts_refusal}
 use Rattle.far_types.specs.FirstOf.{first_of}
 use Rattle.far_rows.specs.Refusing.{absents}
 use Rattle.far_rows.proofs.Beginning.{are-numbers, are-texts, numbers-begin, numbers-begun, numbers-few, texts-few, none-of-two}

@@ -5,10 +5,10 @@ use Rattle.std.proofs.lemmas.Option.{slice_get-get_or, slice_get-map, get_or_fro
 use Rattle.far_types.specs.declared.refusal.Refusal.{Refusal}
 use Rattle.far_codec.specs.TextForm.{texts_form}
 use Rattle.far_scopes.specs.Movement.{Movement, AreHere, version_of}
-use Rattle.far_columns.specs.Texts.{Texts, Lists, IsTextColumn, lists_of, texts_in, object_at}
-use Rattle.far_columns.specs.Changes.{group_with, set_in as text_set_in}
-use Rattle.far_columns.specs.Refusing.{set_refusal}
-use Rattle.far_columns.proofs.Setting.{by-outcome, on-ok}
+use Rattle.far_texts.specs.Texts.{Texts, Lists, IsTextColumn, lists_of, texts_in, object_at}
+use Rattle.far_texts.specs.Changes.{group_with, set_in as text_set_in}
+use Rattle.far_texts.specs.Refusing.{set_refusal}
+use Rattle.far_scopes.proofs.Outcomes.{by-outcome, on-ok}
 use Rattle.far_rows.specs.declared.slot.Slot.TheVariants as slot
 use Rattle.far_rows.specs.declared.new_cell.NewCell.TheVariants as new
 use Rattle.far_rows.specs.Naming.{names_of, AreNamed, AreOwned}

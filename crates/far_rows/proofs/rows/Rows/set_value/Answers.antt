@@ -3,8 +3,8 @@ use Rattle.std.specs.Prelude.{slice_get, IfSome}
 use Rattle.std.proofs.lemmas.Option.{slice_get-get_or, get_or_from_slice_get}
 use Rattle.std.proofs.lemmas.List.{length-map}
 use Rattle.far_columns.specs.Numbers.{numbers_in}
-use Rattle.far_columns.specs.Texts.{lists_of, texts_in}
-use Rattle.far_columns.proofs.Setting.{on-ok, on-both}
+use Rattle.far_texts.specs.Texts.{lists_of, texts_in}
+use Rattle.far_scopes.proofs.Outcomes.{on-ok, on-both}
 use Rattle.far_rows.specs.declared.slot.Slot.{Slot}
 use Rattle.far_rows.specs.declared.slot.Slot.TheVariants as slot
 use Rattle.far_rows.specs.Slots.{IsWithin, columns_of}

@@ -4,7 +4,7 @@ use Rattle.std.specs.Option.{option_copied}
 use Rattle.std.proofs.lemmas.Result.{IfOk-weaker}
 use Rattle.far_types.specs.declared.cell.Cell.TheVariants as cell
 use Rattle.far_types.specs.FirstOf.{first_of}
-use Rattle.far_columns.specs.Texts.{lists_of, texts_in}
+use Rattle.far_texts.specs.Texts.{lists_of, texts_in}
 use Rattle.far_rows.specs.declared.slot.Slot.TheVariants as slot
 use Rattle.far_types.specs.Lent.{text_cell}
 use Rattle.far_rows.specs.Slots.{column_in}

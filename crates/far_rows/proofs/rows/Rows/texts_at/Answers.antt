@@ -4,7 +4,7 @@ use Rattle.std.specs.List.{zip}
 use Rattle.std.proofs.lemmas.Result.{IfOk-weaker}
 use Rattle.far_types.specs.FirstOf.{first_of}
 use Rattle.far_vector.specs.Pieces.{touched}
-use Rattle.far_columns.specs.Texts.{lists_of, texts_in}
+use Rattle.far_texts.specs.Texts.{lists_of, texts_in}
 use Rattle.far_rows.specs.declared.slot.Slot.TheVariants as slot
 use Rattle.far_rows.specs.Rows.{Rows}
 use Rattle.far_rows.specs.Refusing.{told_at, no_range}

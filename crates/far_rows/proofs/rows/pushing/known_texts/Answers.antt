@@ -2,7 +2,7 @@ use Rattle.std.proofs.Common.{subst}
 use Rattle.std.specs.Prelude.{All}
 use Rattle.std.proofs.lemmas.List.{take_all}
 use Rattle.std.proofs.lemmas.List.Elements.{All-more}
-use Rattle.far_columns.specs.Texts.{HasGroups}
+use Rattle.far_texts.specs.Texts.{HasGroups}
 use Rattle.far_rows.proofs.rows.pushing.known_texts.Goals as goal
 
 pub loop-column-preserved : goal.loop-column-preserved

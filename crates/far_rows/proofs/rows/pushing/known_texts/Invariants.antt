@@ -1,6 +1,6 @@
 use Rattle.std.proofs.Common.{take}
 use Rattle.std.specs.Prelude.{All}
-use Rattle.far_columns.specs.Texts.{HasGroups}
+use Rattle.far_texts.specs.Texts.{HasGroups}
 use Rattle.far_rows.proofs.rows.pushing.known_texts.Given as goal
 
 abbrev pub invariant-loop-column : goal.invariant-loop-column

@@ -1,5 +1,5 @@
 use Rattle.std.proofs.Common.{ap, ◌∙◌}
-use Rattle.far_columns.specs.RefusingTogether.{push_texts_refusal}
+use Rattle.far_texts.specs.RefusingTogether.{push_texts_refusal}
 use Rattle.far_rows.proofs.rows.pushing.push_values.Goals as goal
 
 pub push_all_texts-requires-clause-free : goal.push_all_texts-requires-clause-free

@@ -1,6 +1,6 @@
 use Rattle.std.proofs.Common.{sym, ◌∙◌}
 use Rattle.far_vector.proofs.InUse.{in-use}
-use Rattle.far_columns.specs.Texts.{IsGroupForm}
+use Rattle.far_texts.specs.Texts.{IsGroupForm}
 use Rattle.far_rows.proofs.rows.reading.texts_are_here.Goals as goal
 
 pub lend-requires-after_bounds : goal.lend-requires-after_bounds

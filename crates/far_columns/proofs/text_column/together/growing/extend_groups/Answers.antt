@@ -1,5 +1,0 @@
-use Rattle.far_columns.proofs.Growing.{count-replaced}
-use Rattle.far_columns.proofs.text_column.together.growing.extend_groups.Goals as goal
-
-pub returns-clause-count : goal.returns-clause-count
-returns-clause-count g c = count-replaced c.args.objects.now c.replace_all.new.self c.args.forms.now c.in_ok-replace_all.ensures.replaced

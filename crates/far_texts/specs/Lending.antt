@@ -1,0 +1,25 @@
+-- Texts of a part of a column that are lent.
+use Rattle.std.specs.Prelude.{◌≡◌, ℕ, ◌+◌, ◌-◌, ◌/◌, ◌≤◌, ◌<◌, nat_lt, ◌||◌, if◌then◌else◌, List, [], ◌∷◌, Option, None, slice_range}
+use Rattle.std.specs.Option.{option_or}
+use Rattle.far_types.specs.declared.refusal.Refusal.{Refusal}
+use Rattle.far_types.specs.declared.refusal.Refusal.TheVariants as refusal
+use Rattle.far_types.specs.FirstOf.{first_of}
+use Rattle.far_scopes.specs.Movement.{Movement}
+use Rattle.far_scopes.specs.Refusing.{first_absent}
+use Rattle.far_texts.specs.Texts.{Texts, HasGroups, lists_of, IsTextColumn}
+use Rattle.far_texts.specs.Refusing.{text_refusal}
+
+-- the objects of the row groups that a part touches; an empty part touches none
+abbrev pub touched : Texts → ℕ → ℕ → List ℕ
+touched c from to = if nat_lt from to then slice_range c.objects (from / c.size) ((to - 1) / c.size + 1) else []
+
+abbrev pub texts_refusal : {K : Type 0} → Movement ℕ K → Texts → ℕ → ℕ → Option Refusal
+texts_refusal m c from to =
+    option_or (first_of ((nat_lt c.len to || nat_lt to from, refusal.OutOfRange) ∷ [])) (first_absent m (touched c from to))
+
+-- the texts of so many places from this one on are there and can be lent
+pub record AreLent {K : Type 0} (content : K → List ℕ) (m : Movement ℕ K) (c : Texts) (place count : ℕ) : Type 0 where
+  pub is : IsTextColumn (lists_of content m) c
+  pub groups : HasGroups c
+  pub within : place + count ≤ c.len
+  pub here : (p : ℕ) → place ≤ p → p < place + count → text_refusal content m c p ≡ None

@@ -1,0 +1,7 @@
+pub mod Texts
+pub mod Changes
+pub mod Columns
+pub mod Refusing
+pub mod Lending
+pub mod Together
+pub mod RefusingTogether

@@ -1,0 +1,76 @@
+-- Columns of texts that get a text each, together.
+use Rattle.std.specs.Prelude.{◌≡◌, ◌≢◌, ℕ, ◌+◌, ◌<◌, ◌≤◌, if◌then◌else◌, Bool, List, [], ◌∷◌, ◌++◌, length, map, Option, Some, All, AllPairs, slice_get}
+use Rattle.std.specs.List.{list_all}
+use Rattle.far_codec.specs.TextForm.{texts_form, texts_meaning, IsTextsForm}
+use Rattle.far_scopes.specs.declared.replacement.Replacement.{Replacement}
+use Rattle.far_scopes.specs.Movement.{Movement}
+use Rattle.far_scopes.specs.Effects.{created, replaced_all}
+use Rattle.far_texts.specs.Texts.{Texts, Lists, IsTextColumn, AreApart, texts_in}
+use Rattle.far_texts.specs.Columns.{AreTextColumns}
+use Rattle.far_texts.specs.Changes.{begins_group, last_object, group_with_next, pushed}
+
+-- columns of one table: columns of texts that lie in these lists, of one length and one size of row groups
+pub record AreColumns (lists : Lists) (columns : List Texts) : Type 0 where
+  pub beside : AreTextColumns lists columns
+  pub even : AllPairs (λ c d. (c.size ≡ d.size) × (c.len ≡ d.len)) columns
+
+-- whether the next places begin row groups; of such columns, all do or none
+abbrev pub all_begin : List Texts → Bool
+all_begin columns = list_all begins_group columns
+
+-- the object of a column's next text, where o is the number of a new object
+abbrev pub object_for : Texts → ℕ → ℕ
+object_for c o = if begins_group c then o else last_object c
+
+-- the object of each column's next text, and the form that it gets, where n is the number of the first new object
+abbrev pub next_forms : Lists → ℕ → List Texts → List (Option (List ℕ)) → List (ℕ × List ℕ)
+next_forms lists n [] texts = []
+next_forms lists n (c ∷ columns) [] = []
+next_forms lists n (c ∷ columns) (text ∷ texts) = (object_for c n, texts_form (group_with_next lists c text)) ∷ next_forms lists (n + 1) columns texts
+
+-- the form for the next text of a column means the texts of its row group, and is not too long
+pub record IsNextForm (lists : Lists) (c : Texts) (text : Option (List ℕ)) : Type 0 where
+  pub form : IsTextsForm (texts_form (group_with_next lists c text))
+  pub means : texts_meaning (texts_form (group_with_next lists c text)) ≡ group_with_next lists c text
+  pub short : length (texts_form (group_with_next lists c text)) ≤ c.limit
+  pub some : 0 < length (texts_form (group_with_next lists c text))
+
+-- so does that of each column
+abbrev pub AreNextForms : Lists → List Texts → List (Option (List ℕ)) → Type 0
+AreNextForms lists columns texts = (k : ℕ) (c : Texts) (text : Option (List ℕ)) → slice_get columns k ≡ Some c → slice_get texts k ≡ Some text → IsNextForm lists c text
+
+-- the columns with a text more each
+abbrev pub all_pushed : ℕ → List Texts → List Texts
+all_pushed n [] = []
+all_pushed n (c ∷ columns) = pushed c n ∷ all_pushed (n + 1) columns
+
+-- the texts of each column with one more behind them
+abbrev pub all_texts_with : Lists → List Texts → List (Option (List ℕ)) → List (List (Option (List ℕ)))
+all_texts_with lists [] texts = []
+all_texts_with lists (c ∷ columns) [] = []
+all_texts_with lists (c ∷ columns) (text ∷ texts) = (texts_in lists c ++ text ∷ []) ∷ all_texts_with lists columns texts
+
+-- each of these objects gets the list beside it, and no other list changes
+pub record ChangesTo (old new : Lists) (forms : List (ℕ × List ℕ)) : Type 0 where
+  pub here : All (λ form. new form.0 ≡ Some form.1) forms
+  pub others : (p : ℕ) → All (λ form. p ≢ form.0) forms → new p ≡ old p
+
+-- every column that has no object in common with one of these stays a column and keeps its texts
+pub record KeepsColumns (old new : Lists) (columns : List Texts) : Type 0 where
+  pub stay : (d : Texts) → IsTextColumn old d → All (λ c. AreApart c d) columns → IsTextColumn new d
+  pub texts : (d : Texts) → IsTextColumn old d → All (λ c. AreApart c d) columns → texts_in new d ≡ texts_in old d
+
+-- replacements as pairs: the object, and its new list
+abbrev pub given_forms : List (Replacement ℕ) → List (ℕ × List ℕ)
+given_forms lists = map (λ r. (r.object, r.list.items)) lists
+
+module _ {K : Type 0} where
+  -- the objects once one is made for each column, of the form beside it
+  abbrev pub all_created : Movement ℕ K → List Texts → List (ℕ × List ℕ) → Movement ℕ K
+  all_created m [] forms = m
+  all_created m (c ∷ columns) [] = m
+  all_created m (c ∷ columns) (form ∷ forms) = all_created (created m record { column = c.column; group = length c.objects } form.1) columns forms
+
+  -- the objects once these have those forms, all of which were placed before an old one was dropped
+  abbrev pub AreReplaced : Movement ℕ K → List (ℕ × List ℕ) → Movement ℕ K → Type 0
+  AreReplaced old forms new = (lists : List (Replacement ℕ)) × (given_forms lists ≡ forms) × (new ≡ replaced_all old lists)

@@ -1,0 +1,78 @@
+// A column of texts.
+ghost use Rattle.std.specs.Prelude.{◌≡◌, ◌<◌, ◌≤◌, ◌^◌, ℕ, [], length, slice_get, slice_index};
+ghost use Rattle.far_texts.specs.Texts.{Lists, HasGroups, IsTextColumn};
+
+mod cells;
+mod lengths;
+mod pushing;
+mod reading;
+mod setting;
+mod together;
+
+pub use cells::{TextCell, TextCells};
+use std::alloc::Global;
+use std::marker::Model;
+pub use together::{may_push_texts, push_texts};
+
+/// A column of texts, each of which may be missing. The texts of a row group lie together as one far form, which is the
+/// list of one object of the `Objects<u8, S>` that each call names.
+///
+/// Contracts see the column as the record of its fields, and its texts by the lists of its objects.
+#[derive(Drop)]
+pub struct TextColumn {
+    // The column's number, by which its objects are named.
+    column: u32,
+    // How many places a row group has.
+    size: usize,
+    // How many bytes the form of a row group may have.
+    limit: usize,
+    // The object of each row group.
+    objects: Vec<u32>,
+    // How many texts there are.
+    len: usize,
+}
+
+impl Model for TextColumn {
+    ghost use Rattle.far_texts.specs.Texts.{Texts, HasGroups};
+
+    ghost Value = { Texts };
+
+    ghost view = { λ c. record { column = c.column; size = c.size; limit = c.limit; objects = c.objects.items; len = c.len } };
+
+    ghost invariant = { λ c. HasGroups record { column = c.column; size = c.size; limit = c.limit; objects = c.objects.items; len = c.len } };
+}
+
+impl TextColumn {
+    /// A column without a text: its number, how many places a row group has (1 to 65,536), and how many bytes the far form
+    /// of one may have (at most 16,777,216), which is what a segment of local memory holds. Takes no memory.
+    pub fn new(alloc: Global, column: u32, size: usize, limit: usize) -> TextColumn
+        requires some { 0 < size }
+        requires small { size ≤ 2 ^ 16 }
+        requires short { limit ≤ 2 ^ 24 }
+        ensures empty { result ≡ record { column = column; size = size; limit = limit; objects = []; len = 0 } }
+        ensures is { (lists : Lists) → IsTextColumn lists result }
+    {
+        TextColumn {
+            column,
+            size,
+            limit,
+            objects: Vec::new(alloc),
+            len: 0,
+        }
+    }
+
+    /// How many texts there are. Takes no memory.
+    pub fn len(&self) -> usize
+        ensures len { result ≡ self.now.len }
+        ensures groups { HasGroups self.now }
+    {
+        self.len
+    }
+
+    /// The object of a row group; `None` exactly where no place of it is used. Takes no memory.
+    pub fn object(&self, group: usize) -> Option<u32>
+        ensures { result ≡ slice_get self.now.objects group }
+    {
+        self.objects.get(group).copied()
+    }
+}

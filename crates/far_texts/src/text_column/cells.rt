@@ -1,0 +1,133 @@
+// Texts of a column with the flags of their places, lent in place.
+ghost use Rattle.std.specs.Prelude.{◌≡◌, ◌∷◌, ◌≤◌, [], drop, length, IfOk, IfSome, IfNone, slice_range};
+ghost use Rattle.std.specs.List.{zip};
+ghost use Rattle.std.specs.Option.{option_copied};
+ghost use Rattle.far_scopes.specs.Refusing.{refusal_in, first_absent};
+ghost use Rattle.far_texts.specs.Texts.{lists_of, texts_in, IsTextColumn};
+ghost use Rattle.far_texts.specs.Lending.{texts_refusal, AreLent};
+
+use super::TextColumn;
+use far_scopes::Objects;
+use far_store::FarTickets;
+use far_types::Refusal;
+use std::marker::Model;
+
+/// A text of a column, lent in place, and the flag of its place.
+#[derive(Clone, Copy)]
+pub struct TextCell<'a> {
+    /// The text; `None` where it is missing.
+    pub text: Option<&'a str>,
+    /// Whether the place is alive.
+    pub alive: bool,
+}
+
+/// The texts of a part of a column, in order, each with the flag of its place. Contracts see the list of what is left.
+///
+/// It lends each text in place, and looks at the head of one form, one bit of its mask and two ends for it.
+#[derive(Drop)]
+pub struct TextCells<'a, S: FarTickets> {
+    column: &'a TextColumn,
+    objects: &'a Objects<u8, S>,
+    flags: &'a [bool],
+    place: usize,
+}
+
+impl<'a, S: FarTickets> Model for TextCells<'a, S> {
+    ghost use Rattle.std.specs.Prelude.{ℕ, Bool, List, Option, drop, length};
+    ghost use Rattle.std.specs.List.{zip};
+    ghost use Rattle.far_texts.specs.Texts.{lists_of, texts_in};
+    ghost use Rattle.far_texts.specs.Lending.{AreLent};
+
+    ghost Value = { List (Option (List ℕ) × Bool) };
+
+    ghost view = { λ t. zip (drop t.place (texts_in (lists_of S.content t.objects.now) t.column.now)) t.flags.now };
+
+    ghost invariant = { λ t. AreLent S.content t.objects.now t.column.now t.place (length t.flags.now) };
+}
+
+impl<'a, S: FarTickets> TextCells<'a, S> {
+    // The texts from a place on, as many as there are flags.
+    fn new(
+        column: &'a TextColumn,
+        objects: &'a Objects<u8, S>,
+        flags: &'a [bool],
+        place: usize,
+    ) -> TextCells<'a, S>
+        requires { AreLent S.content objects.now column.now place (length flags.now) }
+        ensures { result ≡ zip (drop place (texts_in (lists_of S.content objects.now) column.now)) flags.now }
+    {
+        TextCells {
+            column,
+            objects,
+            flags,
+            place,
+        }
+    }
+
+    /// The next text with its flag, and `None` where there is none left. Takes no memory.
+    ///
+    /// It is no `Iterator`'s: a trait's own method gets no proof where it calls what asks for objects that may be shared by
+    /// threads.
+    pub fn next(&mut self) -> Option<TextCell<'a>>
+        ensures first { IfSome result (λ cell. self.old ≡ (option_copied cell.text, cell.alive) ∷ self.new) }
+        ensures none { IfNone result ((self.old ≡ []) × (self.new ≡ [])) }
+    {
+        let (alive, flags) = self.flags.split_first()?;
+        let column = self.column;
+        let Ok(text) = column.text(self.objects, self.place) else {
+            unreachable!()
+        };
+        self.flags = flags;
+        self.place += 1;
+        Some(TextCell {
+            text,
+            alive: *alive,
+        })
+    }
+}
+
+impl TextColumn {
+    // Whether the objects of the row groups `first` to `end` are local; the refusal names the first that is away.
+    fn all_here<S: FarTickets>(
+        &self,
+        objects: &Objects<u8, S>,
+        first: usize,
+        end: usize,
+    ) -> Result<(), Refusal>
+        requires is { IsTextColumn (lists_of S.content objects.now) self.now }
+        requires ordered { first ≤ end }
+        requires begun { end ≤ length self.now.objects }
+        ensures { refusal_in result ≡ first_absent objects.now (slice_range self.now.objects first end) }
+    {
+        for group in first..end {
+            let _form = self.form(objects, group)?;
+        }
+        Ok(())
+    }
+
+    /// The texts of the places `from` to `to`, in order, each with the flag of its place, lent in place. The caller lends the
+    /// flags of all places. Takes no memory.
+    ///
+    /// Refused with `OutOfRange` (14) exactly where `from` is behind `to` or `to` past the end, else with `Absent` (16)
+    /// exactly where the object of a row group that the part touches is away, naming the first such.
+    pub fn texts<'a, S: FarTickets>(
+        &'a self,
+        objects: &'a Objects<u8, S>,
+        alive: &'a [bool],
+        from: usize,
+        to: usize,
+    ) -> Result<TextCells<'a, S>, Refusal>
+        requires is { IsTextColumn (lists_of S.content objects.now) self.now }
+        requires even { length alive.now ≡ self.now.len }
+        ensures lent { IfOk result (λ lent. lent ≡ zip (slice_range (texts_in (lists_of S.content objects.now) self.now) from to) (slice_range alive.now from to)) }
+        ensures refused { refusal_in result ≡ texts_refusal objects.now self.now from to }
+    {
+        if to > self.len || from > to {
+            return Err(Refusal::OutOfRange);
+        }
+        if from < to {
+            self.all_here(objects, from / self.size, (to - 1) / self.size + 1)?;
+        }
+        Ok(TextCells::new(self, objects, &alive[from..to], from))
+    }
+}

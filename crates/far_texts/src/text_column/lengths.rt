@@ -1,0 +1,83 @@
+// How long a form of a column becomes, before it is made.
+ghost use Rattle.std.specs.Prelude.{◌≡◌, ◌∷◌, [], IfOk, length};
+ghost use Rattle.far_types.specs.FormLengths.{texts_length};
+ghost use Rattle.far_codec.specs.TextForm.{bytes_of};
+ghost use Rattle.far_scopes.specs.Refusing.{refusal_in};
+ghost use Rattle.far_texts.specs.Texts.{lists_of, IsTextColumn};
+ghost use Rattle.far_texts.specs.Changes.{begins_group, group_with, group_with_next};
+ghost use Rattle.far_texts.specs.Refusing.{length_refusal, next_length_refusal};
+
+use super::TextColumn;
+use far_codec::{length_with, length_with_next};
+use far_scopes::Objects;
+use far_store::FarTickets;
+use far_types::{Refusal, Text};
+
+/// How many bytes a text has; none where it is missing.
+pub(crate) fn text_length(text: &Option<Text>) -> usize
+    ensures { result ≡ length (bytes_of text.now) }
+{
+    match text {
+        Some(text) => text.len(),
+        None => 0,
+    }
+}
+
+/// How many bytes the form of one text has.
+fn length_of_one(text: &Option<Text>) -> usize
+    ensures { result ≡ texts_length (text.now ∷ []) }
+{
+    match text {
+        Some(text) => 10 + text.as_bytes().len(),
+        None => 11,
+    }
+}
+
+impl TextColumn {
+    // Whether the next place begins a row group.
+    pub(super) fn begins_group(&self) -> bool
+        ensures { result ≡ begins_group self.now }
+    {
+        self.len == self.objects.len() * self.size
+    }
+
+    /// How many bytes the form of a place's row group has once the place has this text. Takes no memory.
+    ///
+    /// Refused with `OutOfRange` (14) exactly past the end, else with `Absent` (16) exactly where the object of the row
+    /// group is away.
+    pub fn form_length_with<S: FarTickets>(
+        &self,
+        objects: &Objects<u8, S>,
+        place: usize,
+        text: &Option<Text>,
+    ) -> Result<usize, Refusal>
+        requires { IsTextColumn (lists_of S.content objects.now) self.now }
+        ensures length { IfOk result (λ len. len ≡ texts_length (group_with (lists_of S.content objects.now) self.now place text.now)) }
+        ensures refused { refusal_in result ≡ length_refusal S.content objects.now self.now place }
+    {
+        if place >= self.len {
+            return Err(Refusal::OutOfRange);
+        }
+        let form = self.form(objects, place / self.size)?;
+        Ok(length_with(form, place % self.size, text))
+    }
+
+    /// How many bytes the form of the next place's row group has once the place has this text. Takes no memory.
+    ///
+    /// Refused with `Absent` (16) exactly where the row group is begun and its object is away.
+    pub fn form_length_with_next<S: FarTickets>(
+        &self,
+        objects: &Objects<u8, S>,
+        text: &Option<Text>,
+    ) -> Result<usize, Refusal>
+        requires { IsTextColumn (lists_of S.content objects.now) self.now }
+        ensures length { IfOk result (λ len. len ≡ texts_length (group_with_next (lists_of S.content objects.now) self.now text.now)) }
+        ensures refused { refusal_in result ≡ next_length_refusal S.content objects.now self.now }
+    {
+        if self.begins_group() {
+            return Ok(length_of_one(text));
+        }
+        let form = self.form(objects, self.objects.len() - 1)?;
+        Ok(length_with_next(form, text))
+    }
+}

@@ -1,0 +1,176 @@
+// A column of texts gets a text more.
+ghost use Rattle.std.specs.Prelude.{◌≡◌, ◌⊎◌, ◌<◌, ◌≤◌, ◌^◌, ◌++◌, ◌∷◌, ℕ, List, [], length, true, false, None, Some, OnOk, OnErr, IfOk, IfErr};
+ghost use Rattle.far_types.specs.FormLengths.{texts_length};
+ghost use Rattle.far_codec.specs.TextForm.{texts_form, texts_meaning, IsTextsForm};
+ghost use Rattle.far_log.specs.Room.{fits_in};
+ghost use Rattle.far_scopes.specs.Memory.{ChangesList};
+ghost use Rattle.far_scopes.specs.Movement.{AreClean, AreHere};
+ghost use Rattle.far_scopes.specs.Effects.{created, replaced};
+ghost use Rattle.far_scopes.specs.Refusing.{refusal_in, replace_refusal};
+ghost use Rattle.far_texts.specs.Texts.{Texts, lists_of, texts_in, HasGroups, IsTextColumn, AreApart, KeepsOthers};
+ghost use Rattle.far_texts.specs.Changes.{begins_group, last_object, next_object, group_with_next, pushed, pushed_in};
+ghost use Rattle.far_texts.specs.Refusing.{next_length_refusal, push_refusal};
+
+use super::TextColumn;
+use super::lengths::text_length;
+use far_codec::{form_of, form_with_next};
+use far_scopes::Objects;
+use far_store::FarTickets;
+use far_types::{Name, Refusal, Text};
+use std::alloc::Global;
+
+impl TextColumn {
+    // Whether the next place may get this text, but for want of memory.
+    fn may_push<S: FarTickets>(
+        &self,
+        objects: &Objects<u8, S>,
+        text: &Option<Text>,
+    ) -> Result<(), Refusal>
+        requires { IsTextColumn (lists_of S.content objects.now) self.now }
+        ensures { refusal_in result ≡ push_refusal S.content objects.now self.now text.now }
+    {
+        if text_length(text) > 4096 {
+            return Err(Refusal::TextTooLong);
+        }
+        let len = self.form_length_with_next(objects, text)?;
+        if len > self.limit {
+            return Err(Refusal::ChunkFull);
+        }
+        if !self.begins_group() {
+            let o = self.object_in_use(objects, self.objects.len() - 1);
+            return objects.may_replace(o, len);
+        }
+        if !objects.fits(len) {
+            return Err(Refusal::RegionFull);
+        }
+        Ok(())
+    }
+
+    // The form of the next place's row group once the place has this text.
+    pub(crate) fn form_pushed<S: FarTickets>(
+        &self,
+        alloc: Global,
+        objects: &Objects<u8, S>,
+        text: &Option<Text>,
+    ) -> Result<Vec<u8>, Refusal>
+        requires is { IsTextColumn (lists_of S.content objects.now) self.now }
+        requires here { next_length_refusal S.content objects.now self.now ≡ None }
+        requires short { texts_length (group_with_next (lists_of S.content objects.now) self.now text.now) ≤ self.now.limit }
+        ensures form { IfOk result (λ form. IsTextsForm form.items) }
+        ensures texts { IfOk result (λ form. texts_meaning form.items ≡ group_with_next (lists_of S.content objects.now) self.now text.now) }
+        ensures length { IfOk result (λ form. length form.items ≡ texts_length (group_with_next (lists_of S.content objects.now) self.now text.now)) }
+        ensures memory { IfErr result (λ e. e ≡ Refusal.NoMemory) }
+    {
+        let groups = self.objects.len();
+        if self.begins_group() {
+            return form_of(alloc, text);
+        }
+        let form = self.form(objects, groups - 1)?;
+        form_with_next(alloc, form, text)
+    }
+
+    // What is known of the column and of the objects before a text is pushed: the next object's number has no list.
+    pub(super) fn known_before_push<S: FarTickets>(&self, objects: &Objects<u8, S>)
+        requires { IsTextColumn (lists_of S.content objects.now) self.now }
+        ensures objects { length self.now.objects ≤ length objects.now.entries }
+        ensures groups { HasGroups self.now }
+        ensures fresh { lists_of S.content objects.now (length objects.now.entries) ≡ None }
+    {
+        let _number = objects.number();
+        let _len = self.len();
+    }
+
+    // The next place begins a row group, whose form this is.
+    fn begin_group<S: FarTickets>(
+        &mut self,
+        objects: &mut Objects<u8, S>,
+        form: &[u8],
+    ) -> Result<(), Refusal>
+        requires begins { begins_group self.old ≡ true }
+        requires few { length objects.old.entries < 2 ^ 28 }
+        requires groups { length self.old.objects ≤ length objects.old.entries }
+        requires some { 0 < length form.now }
+        ensures pushed { OnOk result (self.new ≡ pushed self.old (length objects.old.entries)) }
+        ensures created { OnOk result (objects.new ≡ created objects.old record { column = self.old.column; group = length self.old.objects } form.now) }
+        ensures list { OnOk result (ChangesList (lists_of S.content objects.old) (lists_of S.content objects.new) (length objects.old.entries) (Some form.now)) }
+        ensures clean { AreClean (λ bytes. bytes) S.content objects.old → AreClean (λ bytes. bytes) S.content objects.new }
+        ensures store { (name : List ℕ) → AreHere S.is_of name objects.old → AreHere S.is_of name objects.new }
+        ensures room { OnOk result (fits_in objects.old.memory.room (length form.now) ≡ true) }
+        ensures refused { IfErr result (λ e. ((e ≡ Refusal.RegionFull) × (fits_in objects.old.memory.room (length form.now) ≡ false)) ⊎ (e ≡ Refusal.NoMemory)) }
+        ensures err { OnErr result (objects.new ≡ objects.old) }
+        ensures kept { OnErr result (self.new ≡ self.old) }
+    {
+        let name = Name {
+            column: self.column,
+            group: self.objects.len() as u32,
+        };
+        self.objects.reserve(1)?;
+        let o = objects.create(name, form)?;
+        self.objects.push_reserved(o);
+        self.len += 1;
+        Ok(())
+    }
+
+    // The next place's row group, which is begun, has this form.
+    fn extend_group<S: FarTickets>(
+        &mut self,
+        objects: &mut Objects<u8, S>,
+        form: &[u8],
+    ) -> Result<(), Refusal>
+        requires begun { begins_group self.old ≡ false }
+        requires is { IsTextColumn (lists_of S.content objects.old) self.old }
+        requires some { 0 < length form.now }
+        ensures pushed { OnOk result (self.new ≡ pushed self.old (length objects.old.entries)) }
+        ensures replaced { OnOk result (objects.new ≡ replaced objects.old (last_object self.old) form.now) }
+        ensures list { OnOk result (ChangesList (lists_of S.content objects.old) (lists_of S.content objects.new) (last_object self.old) (Some form.now)) }
+        ensures clean { AreClean (λ bytes. bytes) S.content objects.old → AreClean (λ bytes. bytes) S.content objects.new }
+        ensures store { (name : List ℕ) → AreHere S.is_of name objects.old → AreHere S.is_of name objects.new }
+        ensures refused { IfErr result (λ e. (replace_refusal objects.old (last_object self.old) (length form.now) ≡ Some e) ⊎ ((replace_refusal objects.old (last_object self.old) (length form.now) ≡ None) × (e ≡ Refusal.NoMemory))) }
+        ensures err { OnErr result (objects.new ≡ objects.old) }
+        ensures kept { OnErr result (self.new ≡ self.old) }
+    {
+        let o = self.object_in_use(objects, self.objects.len() - 1);
+        objects.replace(o, form)?;
+        self.len += 1;
+        Ok(())
+    }
+
+    /// Appends a text. Where the next place begins a row group an object is made, whose form has this text alone; else the
+    /// object of the last row group gets another form, placed before the old one is dropped.
+    ///
+    /// Refused with `TextTooLong` (7) exactly where the text has more than 4,096 bytes, else with `Absent` (16) exactly
+    /// where the row group is begun and its object is away, else with `ChunkFull` (11) exactly where the new form would be
+    /// longer than one may be, else with `RegionFull` (17) exactly where no segment has the space, else with `EditsUsedUp`
+    /// (24) exactly where the row group is begun and its object was written as often as objects may be, else with
+    /// `NoMemory` (1) alone; then nothing is changed.
+    pub fn push<S: FarTickets>(
+        &mut self,
+        alloc: Global,
+        objects: &mut Objects<u8, S>,
+        text: &Option<Text>,
+    ) -> Result<(), Refusal>
+        requires is { IsTextColumn (lists_of S.content objects.old) self.old }
+        requires few { begins_group self.old ≡ true → length objects.old.entries < 2 ^ 28 }
+        ensures pushed { OnOk result (self.new ≡ pushed self.old (length objects.old.entries)) }
+        ensures moved { OnOk result (objects.new ≡ pushed_in S.content objects.old self.old text.now) }
+        ensures list { OnOk result (ChangesList (lists_of S.content objects.old) (lists_of S.content objects.new) (next_object S.content objects.old self.old) (Some (texts_form (group_with_next (lists_of S.content objects.old) self.old text.now)))) }
+        ensures is { IsTextColumn (lists_of S.content objects.new) self.new }
+        ensures texts { OnOk result (texts_in (lists_of S.content objects.new) self.new ≡ texts_in (lists_of S.content objects.old) self.old ++ text.now ∷ []) }
+        ensures others { KeepsOthers (lists_of S.content objects.old) (lists_of S.content objects.new) self.old }
+        ensures apart { (d : Texts) → IsTextColumn (lists_of S.content objects.old) d → AreApart self.old d → AreApart self.new d }
+        ensures clean { AreClean (λ bytes. bytes) S.content objects.old → AreClean (λ bytes. bytes) S.content objects.new }
+        ensures store { (name : List ℕ) → AreHere S.is_of name objects.old → AreHere S.is_of name objects.new }
+        ensures free { OnOk result (push_refusal S.content objects.old self.old text.now ≡ None) }
+        ensures refused { IfErr result (λ e. (push_refusal S.content objects.old self.old text.now ≡ Some e) ⊎ ((push_refusal S.content objects.old self.old text.now ≡ None) × (e ≡ Refusal.NoMemory))) }
+        ensures err { OnErr result ((self.new ≡ self.old) × (objects.new ≡ objects.old)) }
+    {
+        self.may_push(objects, text)?;
+        self.known_before_push(objects);
+        let form = self.form_pushed(alloc, objects, text)?;
+        if self.begins_group() {
+            self.begin_group(objects, &form)
+        } else {
+            self.extend_group(objects, &form)
+        }
+    }
+}

@@ -1,0 +1,76 @@
+// Texts of a column, lent in place.
+ghost use Rattle.std.specs.Prelude.{◌≡◌, ◌<◌, length, false, Some, IfOk, slice_get, slice_index};
+ghost use Rattle.std.specs.Option.{option_copied};
+ghost use Rattle.far_scopes.specs.Refusing.{refusal_in, lend_refusal};
+ghost use Rattle.far_texts.specs.Texts.{lists_of, texts_in, IsTextColumn, IsGroupForm};
+ghost use Rattle.far_texts.specs.Changes.{begins_group, last_object};
+ghost use Rattle.far_texts.specs.Refusing.{text_refusal};
+
+use super::TextColumn;
+use far_codec::text_of;
+use far_scopes::Objects;
+use far_store::FarTickets;
+use far_types::Refusal;
+
+impl TextColumn {
+    // The object of a row group that is begun.
+    pub(super) fn object_in_use<S: FarTickets>(&self, objects: &Objects<u8, S>, group: usize) -> u32
+        requires begun { group < length self.now.objects }
+        requires is { IsTextColumn (lists_of S.content objects.now) self.now }
+        ensures object { result ≡ slice_index self.now.objects group }
+        ensures used { result < length objects.now.entries }
+    {
+        // It tells of all objects that one with a list is in use.
+        let _number = objects.number();
+        self.objects[group]
+    }
+
+    // The far form of a row group that is begun, lent in place.
+    pub(super) fn form<'a, S: FarTickets>(
+        &self,
+        objects: &'a Objects<u8, S>,
+        group: usize,
+    ) -> Result<&'a [u8], Refusal>
+        requires begun { group < length self.now.objects }
+        requires is { IsTextColumn (lists_of S.content objects.now) self.now }
+        ensures lent { IfOk result (λ form. lists_of S.content objects.now (slice_index self.now.objects group) ≡ Some form.now) }
+        ensures form { IfOk result (λ form. IsGroupForm self.now group form.now) }
+        ensures refused { refusal_in result ≡ lend_refusal objects.now (slice_index self.now.objects group) }
+    {
+        let o = self.object_in_use(objects, group);
+        objects.lend(o)
+    }
+
+    // The far form of the last row group, in which the next place lies, lent in place.
+    pub(super) fn last_form<'a, S: FarTickets>(
+        &self,
+        objects: &'a Objects<u8, S>,
+    ) -> Result<&'a [u8], Refusal>
+        requires begun { begins_group self.now ≡ false }
+        requires is { IsTextColumn (lists_of S.content objects.now) self.now }
+        ensures refused { refusal_in result ≡ lend_refusal objects.now (last_object self.now) }
+    {
+        self.form(objects, self.objects.len() - 1)
+    }
+
+    /// The text of a place, lent in place; `None` where it is missing. Takes no memory, and looks at the head of one form,
+    /// one bit of its mask and two ends alone.
+    ///
+    /// Refused with `NoRow` (8) exactly past the end, else with `Absent` (16) exactly where the object of the place's row
+    /// group is away.
+    pub fn text<'a, S: FarTickets>(
+        &self,
+        objects: &'a Objects<u8, S>,
+        place: usize,
+    ) -> Result<Option<&'a str>, Refusal>
+        requires { IsTextColumn (lists_of S.content objects.now) self.now }
+        ensures text { IfOk result (λ text. slice_get (texts_in (lists_of S.content objects.now) self.now) place ≡ Some (option_copied text)) }
+        ensures refused { refusal_in result ≡ text_refusal S.content objects.now self.now place }
+    {
+        if place >= self.len {
+            return Err(Refusal::NoRow);
+        }
+        let form = self.form(objects, place / self.size)?;
+        Ok(text_of(form, place % self.size))
+    }
+}

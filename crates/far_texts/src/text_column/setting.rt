@@ -1,0 +1,99 @@
+// A text of a column is set.
+ghost use Rattle.std.specs.Prelude.{◌≡◌, ◌⊎◌, ◌<◌, ℕ, List, length, None, Some, OnOk, OnErr, IfOk, IfErr, slice_set};
+ghost use Rattle.far_types.specs.FormLengths.{texts_length};
+ghost use Rattle.far_codec.specs.TextForm.{texts_form, texts_meaning, IsTextsForm};
+ghost use Rattle.far_scopes.specs.Memory.{ChangesList};
+ghost use Rattle.far_scopes.specs.Movement.{AreClean, AreHere};
+ghost use Rattle.far_scopes.specs.Refusing.{refusal_in};
+ghost use Rattle.far_texts.specs.Texts.{lists_of, texts_in, object_at, IsTextColumn, KeepsOthers};
+ghost use Rattle.far_texts.specs.Changes.{group_with, set_in};
+ghost use Rattle.far_texts.specs.Refusing.{set_refusal};
+
+use super::TextColumn;
+use super::lengths::text_length;
+use far_codec::form_with;
+use far_scopes::Objects;
+use far_store::FarTickets;
+use far_types::{Refusal, Text};
+use std::alloc::Global;
+
+impl TextColumn {
+    /// Whether the text of a place may be set to this one. Takes no memory.
+    ///
+    /// Refused as `set` is, but never for want of memory: with `TextTooLong` (7) exactly where the text has more than 4,096
+    /// bytes, else with `OutOfRange` (14) exactly past the end, else with `Absent` (16) exactly where the object is away,
+    /// else with `ChunkFull` (11) exactly where the new form would be longer than one may be, else with `RegionFull` (17)
+    /// exactly where no segment has the space, else with `EditsUsedUp` (24) exactly where the object was written as often
+    /// as objects may be. Where it is not refused, `set` can be refused with `NoMemory` (1) alone.
+    pub fn may_set<S: FarTickets>(
+        &self,
+        objects: &Objects<u8, S>,
+        place: usize,
+        text: &Option<Text>,
+    ) -> Result<(), Refusal>
+        requires { IsTextColumn (lists_of S.content objects.now) self.now }
+        ensures { refusal_in result ≡ set_refusal S.content objects.now self.now place text.now }
+    {
+        if text_length(text) > 4096 {
+            return Err(Refusal::TextTooLong);
+        }
+        let len = self.form_length_with(objects, place, text)?;
+        if len > self.limit {
+            return Err(Refusal::ChunkFull);
+        }
+        let o = self.object_in_use(objects, place / self.size);
+        objects.may_replace(o, len)
+    }
+
+    // The form of a place's row group once the place has this text, which may be set.
+    fn form_set<S: FarTickets>(
+        &self,
+        alloc: Global,
+        objects: &Objects<u8, S>,
+        place: usize,
+        text: &Option<Text>,
+    ) -> Result<Vec<u8>, Refusal>
+        requires is { IsTextColumn (lists_of S.content objects.now) self.now }
+        requires free { set_refusal S.content objects.now self.now place text.now ≡ None }
+        ensures form { IfOk result (λ form. IsTextsForm form.items) }
+        ensures texts { IfOk result (λ form. texts_meaning form.items ≡ group_with (lists_of S.content objects.now) self.now place text.now) }
+        ensures length { IfOk result (λ form. length form.items ≡ texts_length (group_with (lists_of S.content objects.now) self.now place text.now)) }
+        ensures memory { IfErr result (λ e. e ≡ Refusal.NoMemory) }
+    {
+        let form = self.form(objects, place / self.size)?;
+        form_with(alloc, form, place % self.size, text)
+    }
+
+    /// Sets the text of a place. The column itself stays as it is: its texts lie in the objects, of which that of the
+    /// place's row group gets another form, placed before the old one is dropped.
+    ///
+    /// Refused with `TextTooLong` (7) exactly where the text has more than 4,096 bytes, else with `OutOfRange` (14) exactly
+    /// past the end, else with `Absent` (16) exactly where the object is away, else with `ChunkFull` (11) exactly where the
+    /// new form would be longer than one may be, else with `RegionFull` (17) exactly where no segment has the space, else
+    /// with `EditsUsedUp` (24) exactly where the object was written as often as objects may be, else with `NoMemory` (1)
+    /// alone; then nothing is changed.
+    pub fn set<S: FarTickets>(
+        &self,
+        alloc: Global,
+        objects: &mut Objects<u8, S>,
+        place: usize,
+        text: &Option<Text>,
+    ) -> Result<(), Refusal>
+        requires { IsTextColumn (lists_of S.content objects.old) self.now }
+        ensures set { OnOk result (objects.new ≡ set_in S.content objects.old self.now place text.now) }
+        ensures list { OnOk result (ChangesList (lists_of S.content objects.old) (lists_of S.content objects.new) (object_at self.now place) (Some (texts_form (group_with (lists_of S.content objects.old) self.now place text.now)))) }
+        ensures is { IsTextColumn (lists_of S.content objects.new) self.now }
+        ensures texts { OnOk result (texts_in (lists_of S.content objects.new) self.now ≡ slice_set (texts_in (lists_of S.content objects.old) self.now) place text.now) }
+        ensures others { KeepsOthers (lists_of S.content objects.old) (lists_of S.content objects.new) self.now }
+        ensures clean { AreClean (λ bytes. bytes) S.content objects.old → AreClean (λ bytes. bytes) S.content objects.new }
+        ensures store { (name : List ℕ) → AreHere S.is_of name objects.old → AreHere S.is_of name objects.new }
+        ensures free { OnOk result (set_refusal S.content objects.old self.now place text.now ≡ None) }
+        ensures refused { IfErr result (λ e. (set_refusal S.content objects.old self.now place text.now ≡ Some e) ⊎ ((set_refusal S.content objects.old self.now place text.now ≡ None) × (e ≡ Refusal.NoMemory))) }
+        ensures err { OnErr result (objects.new ≡ objects.old) }
+    {
+        self.may_set(objects, place, text)?;
+        let form = self.form_set(alloc, objects, place, text)?;
+        let o = self.object_in_use(objects, place / self.size);
+        objects.replace(o, &form)
+    }
+}

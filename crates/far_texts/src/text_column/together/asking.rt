@@ -1,0 +1,111 @@
+// Whether several columns of texts may get a text each, asked before anything is changed.
+ghost use Rattle.std.specs.Prelude.{◌≡◌, ◌<◌, ◌≤◌, ◌∷◌, ℕ, [], length, map, take, false, None, All};
+ghost use Rattle.std.specs.List.{list_any};
+ghost use Rattle.far_types.specs.FirstOf.{first_of};
+ghost use Rattle.far_scopes.specs.Refusing.{refusal_in, write_refusal, written_out};
+ghost use Rattle.far_texts.specs.Texts.{lists_of, IsTextColumn};
+ghost use Rattle.far_texts.specs.Changes.{begins_group, last_object};
+ghost use Rattle.far_texts.specs.Refusing.{next_length_refusal};
+ghost use Rattle.far_texts.specs.Together.{AreColumns, next_forms};
+ghost use Rattle.far_texts.specs.RefusingTogether.{last_tests, push_texts_refusal};
+
+use super::checking::{all_begin, known_groups, may_make_forms};
+use crate::text_column::TextColumn;
+use far_scopes::Objects;
+use far_store::FarTickets;
+use far_types::{Refusal, Text};
+
+// How long the new forms are, in the order of the columns, of which a table has at most 16.
+fn next_lens<S: FarTickets>(
+    objects: &Objects<u8, S>,
+    columns: &[TextColumn],
+    texts: &[Option<Text>],
+) -> [usize; 16]
+    requires each { All (IsTextColumn (lists_of S.content objects.now)) columns.now }
+    requires even { length texts.now ≡ length columns.now }
+    requires few { length columns.now ≤ 16 }
+    requires here { All (λ c. next_length_refusal S.content objects.now c ≡ None) columns.now }
+    ensures { (n : ℕ) → take (length columns.now) result ≡ map (λ form. length form.1) (next_forms (lists_of S.content objects.now) n columns.now texts.now) }
+{
+    let mut lens = [0; 16];
+    for k in 0..columns.len() {
+        let Ok(len) = columns[k].form_length_with_next(objects, &texts[k]) else {
+            unreachable!()
+        };
+        lens[k] = len;
+    }
+    lens
+}
+
+impl TextColumn {
+    // Whether the object of the last row group, which is not full, may be written.
+    fn last_is_writable<S: FarTickets>(&self, objects: &Objects<u8, S>) -> Result<(), Refusal>
+        requires begun { begins_group self.now ≡ false }
+        requires is { IsTextColumn (lists_of S.content objects.now) self.now }
+        ensures { refusal_in result ≡ write_refusal objects.now (last_object self.now) }
+    {
+        let o = self.object_in_use(objects, self.objects.len() - 1);
+        objects.may_write(o)
+    }
+}
+
+// Whether the objects of the last row groups, which are local, may be written.
+fn all_writable<S: FarTickets>(
+    objects: &Objects<u8, S>,
+    columns: &[TextColumn],
+) -> Result<(), Refusal>
+    requires each { All (IsTextColumn (lists_of S.content objects.now)) columns.now }
+    requires begun { All (λ c. begins_group c ≡ false) columns.now }
+    requires here { All (λ c. next_length_refusal S.content objects.now c ≡ None) columns.now }
+    ensures { refusal_in result ≡ first_of ((list_any (λ c. (written_out objects.now (last_object c)).0) columns.now, Refusal.EditsUsedUp) ∷ []) }
+{
+    for column in columns {
+        column.last_is_writable(objects)?;
+    }
+    Ok(())
+}
+
+// Whether the new forms, which may be made, find room, and objects that get another form may be written.
+fn may_place_forms<S: FarTickets>(
+    objects: &Objects<u8, S>,
+    columns: &[TextColumn],
+    texts: &[Option<Text>],
+) -> Result<(), Refusal>
+    requires are { AreColumns (lists_of S.content objects.now) columns.now }
+    requires even { length texts.now ≡ length columns.now }
+    requires few { length columns.now ≤ 16 }
+    requires here { All (λ c. next_length_refusal S.content objects.now c ≡ None) columns.now }
+    ensures { refusal_in result ≡ first_of (last_tests S.content objects.now columns.now texts.now) }
+{
+    known_groups(columns);
+    let lens = next_lens(objects, columns, texts);
+    if !objects.fits_in_order(&lens[..columns.len()]) {
+        return Err(Refusal::RegionFull);
+    }
+    if all_begin(columns) {
+        return Ok(());
+    }
+    all_writable(objects, columns)
+}
+
+/// Whether each of several columns, of which a table has at most 16, may get a text more. Takes no memory.
+///
+/// Refused as `push_texts` is, but never for want of memory: with `TextTooLong` (7) exactly where some text has more than
+/// 4,096 bytes, else with `Absent` (16) exactly where the row groups are begun and some column's last object is away,
+/// naming the first such; else with `ChunkFull` (11) exactly where some new form would be longer than its column's may be;
+/// else with `RegionFull` (17) exactly where the new forms, placed one after the other, do not find room beside all that is
+/// there; else with `EditsUsedUp` (24) exactly where the row groups are begun and some last object was written as often as
+/// objects may be. Where it is not refused, `push_texts` can be refused with `NoMemory` (1) alone.
+pub fn may_push_texts<S: FarTickets>(
+    objects: &Objects<u8, S>,
+    columns: &[TextColumn],
+    texts: &[Option<Text>],
+) -> Result<(), Refusal>
+    requires are { AreColumns (lists_of S.content objects.now) columns.now }
+    requires even { length texts.now ≡ length columns.now }
+    requires few { length columns.now ≤ 16 }
+    ensures { refusal_in result ≡ push_texts_refusal S.content objects.now columns.now texts.now }
+{
+    may_make_forms(objects, columns, texts)?;
+    may_place_forms(objects, columns, texts)
+}

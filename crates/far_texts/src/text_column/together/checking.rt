@@ -1,0 +1,101 @@
+// Whether several columns of texts may get a text each.
+ghost use Rattle.std.specs.Prelude.{◌≡◌, ◌∷◌, [], length, false, None, All, OnOk};
+ghost use Rattle.far_types.specs.FirstOf.{first_of};
+ghost use Rattle.far_scopes.specs.Refusing.{refusal_in};
+ghost use Rattle.far_texts.specs.Texts.{lists_of, HasGroups, IsTextColumn};
+ghost use Rattle.far_texts.specs.Changes.{begins_group};
+ghost use Rattle.far_texts.specs.Refusing.{next_length_refusal};
+ghost use Rattle.far_texts.specs.Together.{AreColumns, all_begin};
+ghost use Rattle.far_texts.specs.RefusingTogether.{any_too_long, any_full, absents, first_tests};
+
+use crate::text_column::TextColumn;
+use crate::text_column::lengths::text_length;
+use far_scopes::Objects;
+use far_store::FarTickets;
+use far_types::{Refusal, Text};
+
+// Whether no text is too long.
+fn all_short(texts: &[Option<Text>]) -> Result<(), Refusal>
+    ensures { refusal_in result ≡ first_of (any_too_long texts.now ∷ []) }
+{
+    for text in texts {
+        if text_length(text) > 4096 {
+            return Err(Refusal::TextTooLong);
+        }
+    }
+    Ok(())
+}
+
+// Whether row groups begin at the next places.
+pub(super) fn all_begin(columns: &[TextColumn]) -> bool
+    ensures { result ≡ all_begin columns.now }
+{
+    for column in columns {
+        if !column.begins_group() {
+            return false;
+        }
+    }
+    true
+}
+
+// What each column knows of itself.
+pub(super) fn known_groups(columns: &[TextColumn])
+    ensures { All HasGroups columns.now }
+{
+    for column in columns {
+        let _len = column.len();
+    }
+}
+
+// Whether the objects of the last row groups are local; the refusal names the first that is away.
+fn all_here<S: FarTickets>(objects: &Objects<u8, S>, columns: &[TextColumn]) -> Result<(), Refusal>
+    requires each { All (IsTextColumn (lists_of S.content objects.now)) columns.now }
+    requires begun { All (λ c. begins_group c ≡ false) columns.now }
+    ensures { refusal_in result ≡ first_of (absents objects.now columns.now) }
+{
+    for column in columns {
+        let _form = column.last_form(objects)?;
+    }
+    Ok(())
+}
+
+// Whether no new form is longer than it may be.
+fn none_full<S: FarTickets>(
+    objects: &Objects<u8, S>,
+    columns: &[TextColumn],
+    texts: &[Option<Text>],
+) -> Result<(), Refusal>
+    requires each { All (IsTextColumn (lists_of S.content objects.now)) columns.now }
+    requires even { length texts.now ≡ length columns.now }
+    requires here { All (λ c. next_length_refusal S.content objects.now c ≡ None) columns.now }
+    ensures { refusal_in result ≡ first_of (any_full (lists_of S.content objects.now) columns.now texts.now ∷ []) }
+{
+    for k in 0..columns.len() {
+        let column = &columns[k];
+        let len = column.form_length_with_next(objects, &texts[k])?;
+        if len > column.limit {
+            return Err(Refusal::ChunkFull);
+        }
+    }
+    Ok(())
+}
+
+// Whether the next places may get these texts, but for what is seen while the new forms are made and placed.
+pub(super) fn may_make_forms<S: FarTickets>(
+    objects: &Objects<u8, S>,
+    columns: &[TextColumn],
+    texts: &[Option<Text>],
+) -> Result<(), Refusal>
+    requires are { AreColumns (lists_of S.content objects.now) columns.now }
+    requires even { length texts.now ≡ length columns.now }
+    ensures refused { refusal_in result ≡ first_of (first_tests S.content objects.now columns.now texts.now) }
+    ensures here { OnOk result (All (λ c. next_length_refusal S.content objects.now c ≡ None) columns.now) }
+    ensures short { OnOk result (first_of (any_full (lists_of S.content objects.now) columns.now texts.now ∷ []) ≡ None) }
+{
+    all_short(texts)?;
+    known_groups(columns);
+    if !all_begin(columns) {
+        all_here(objects, columns)?;
+    }
+    none_full(objects, columns, texts)
+}

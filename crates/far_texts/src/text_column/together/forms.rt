@@ -1,0 +1,68 @@
+// The new forms of several columns of texts that get a text each.
+ghost use Rattle.std.specs.Prelude.{◌≡◌, ◌<◌, ◌≤◌, ◌+◌, ◌^◌, ◌∷◌, ℕ, [], length, true, None, All, IfOk, IfErr};
+ghost use Rattle.far_types.specs.FirstOf.{first_of};
+ghost use Rattle.far_texts.specs.Texts.{lists_of, HasGroups, IsTextColumn};
+ghost use Rattle.far_texts.specs.Changes.{begins_group};
+ghost use Rattle.far_texts.specs.Refusing.{next_length_refusal};
+ghost use Rattle.far_texts.specs.Together.{object_for, next_forms, given_forms, AreNextForms};
+ghost use Rattle.far_texts.specs.RefusingTogether.{any_full};
+
+use crate::text_column::TextColumn;
+use far_scopes::{Objects, Replacement};
+use far_store::FarTickets;
+use far_types::{Refusal, Text};
+use std::alloc::Global;
+
+// What is known of the columns and of the objects before texts are pushed: a number that is not given yet has no list.
+pub(super) fn known_together<S: FarTickets>(objects: &Objects<u8, S>, columns: &[TextColumn])
+    requires { All (IsTextColumn (lists_of S.content objects.now)) columns.now }
+    ensures objects { All (λ c. length c.objects ≤ length objects.now.entries) columns.now }
+    ensures groups { All HasGroups columns.now }
+    ensures fresh { (p : ℕ) → length objects.now.entries ≤ p → lists_of S.content objects.now p ≡ None }
+{
+    let _number = objects.number();
+    for column in columns {
+        column.known_before_push(objects);
+    }
+}
+
+impl TextColumn {
+    // The object for the next text; where a row group begins, the k-th that will be made behind so many.
+    fn object_for(&self, count: u32, k: usize) -> u32
+        requires { begins_group self.now ≡ true → count + k < 2 ^ 28 }
+        ensures { result ≡ object_for self.now (count + k) }
+    {
+        if self.begins_group() {
+            count + k as u32
+        } else {
+            self.objects[self.objects.len() - 1]
+        }
+    }
+}
+
+// The form for each column's next text, beside its object.
+pub(super) fn next_forms<S: FarTickets>(
+    alloc: Global,
+    objects: &Objects<u8, S>,
+    columns: &[TextColumn],
+    texts: &[Option<Text>],
+) -> Result<Vec<Replacement<u8>>, Refusal>
+    requires each { All (IsTextColumn (lists_of S.content objects.now)) columns.now }
+    requires even { length texts.now ≡ length columns.now }
+    requires few { All (λ c. begins_group c ≡ true → length objects.now.entries + length columns.now ≤ 2 ^ 28) columns.now }
+    requires here { All (λ c. next_length_refusal S.content objects.now c ≡ None) columns.now }
+    requires short { first_of (any_full (lists_of S.content objects.now) columns.now texts.now ∷ []) ≡ None }
+    ensures forms { IfOk result (λ forms. given_forms forms.items ≡ next_forms (lists_of S.content objects.now) (length objects.now.entries) columns.now texts.now) }
+    ensures valid { IfOk result (λ forms. AreNextForms (lists_of S.content objects.now) columns.now texts.now) }
+    ensures memory { IfErr result (λ e. e ≡ Refusal.NoMemory) }
+{
+    let count = objects.count();
+    let mut forms = Vec::with_capacity(alloc, columns.len())?;
+    for k in 0..columns.len() {
+        let column = &columns[k];
+        let list = column.form_pushed(alloc, objects, &texts[k])?;
+        let object = column.object_for(count, k);
+        forms.push_reserved(Replacement { object, list });
+    }
+    Ok(forms)
+}

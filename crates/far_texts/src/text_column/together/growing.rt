@@ -1,0 +1,99 @@
+// Several columns of texts grow by a text each, whose forms are made.
+ghost use Rattle.std.specs.Prelude.{◌≡◌, ◌⊎◌, ◌<◌, ◌≤◌, ◌+◌, ◌^◌, ℕ, List, length, map, true, false, None, Some, All, OnOk, OnErr, IfErr};
+ghost use Rattle.std.specs.List.{slice_index_or};
+ghost use Rattle.far_log.specs.Room.{spaces_of, fit_in_order};
+ghost use Rattle.far_scopes.specs.declared.replacement.Replacement.{Replacement as Given};
+ghost use Rattle.far_scopes.specs.Movement.{AreClean, AreHere};
+ghost use Rattle.far_scopes.specs.Refusing.{replace_all_refusal, first_absent};
+ghost use Rattle.far_scopes.specs.Replacing.{AreListedOnce, ChangesLists};
+ghost use Rattle.far_scopes.specs.Effects.{replaced_all};
+ghost use Rattle.far_texts.specs.Texts.{lists_of};
+ghost use Rattle.far_texts.specs.Changes.{begins_group};
+ghost use Rattle.far_texts.specs.Together.{all_pushed, ChangesTo, given_forms, all_created};
+
+use crate::text_column::TextColumn;
+use far_scopes::{Objects, Replacement};
+use far_store::FarTickets;
+use far_types::{Name, Refusal};
+
+// The next places begin row groups, whose forms these are: an object is made for each column, or for none.
+pub(super) fn begin_groups<S: FarTickets>(
+    objects: &mut Objects<u8, S>,
+    columns: &mut [TextColumn],
+    forms: &[Replacement<u8>],
+) -> Result<(), Refusal>
+    requires begin { All (λ c. begins_group c ≡ true) columns.old }
+    requires few { length objects.old.entries + length columns.old ≤ 2 ^ 28 }
+    requires groups { All (λ c. length c.objects ≤ length objects.old.entries) columns.old }
+    requires even { length forms.now ≡ length columns.old }
+    requires some { All (λ r. 0 < length r.list.items) forms.now }
+    requires numbered { (k : ℕ) (d : Given ℕ) → k < length forms.now → (slice_index_or forms.now k d).object ≡ length objects.old.entries + k }
+    ensures pushed { OnOk result (columns.new ≡ all_pushed (length objects.old.entries) columns.old) }
+    ensures created { OnOk result (objects.new ≡ all_created objects.old columns.old (given_forms forms.now)) }
+    ensures count { OnOk result (length objects.new.entries ≡ length objects.old.entries + length columns.old) }
+    ensures lists { OnOk result (ChangesTo (lists_of S.content objects.old) (lists_of S.content objects.new) (given_forms forms.now)) }
+    ensures clean { AreClean (λ bytes. bytes) S.content objects.old → AreClean (λ bytes. bytes) S.content objects.new }
+    ensures store { (name : List ℕ) → AreHere S.is_of name objects.old → AreHere S.is_of name objects.new }
+    ensures room { OnOk result (fit_in_order (spaces_of objects.old.memory.room) (map (λ r. length r.list.items) forms.now) ≡ true) }
+    ensures refused { IfErr result (λ e. ((e ≡ Refusal.RegionFull) × (fit_in_order (spaces_of objects.old.memory.room) (map (λ r. length r.list.items) forms.now) ≡ false)) ⊎ (e ≡ Refusal.NoMemory)) }
+    ensures err { OnErr result (objects.new ≡ objects.old) }
+    ensures kept { OnErr result (columns.new ≡ columns.old) }
+{
+    let Some((column, columns)) = columns.split_first_mut() else {
+        return Ok(());
+    };
+    let Some((form, forms)) = forms.split_first() else {
+        unreachable!()
+    };
+    let name = Name {
+        column: column.column,
+        group: column.objects.len() as u32,
+    };
+    column.objects.reserve(1)?;
+    let o = objects.create(name, &form.list)?;
+    if let Err(refusal) = begin_groups(objects, columns, forms) {
+        objects.uncreate();
+        return Err(refusal);
+    }
+    column.objects.push_reserved(o);
+    column.len += 1;
+    Ok(())
+}
+
+// Each column, whose last row group is not full, has a text more.
+fn lengthen(columns: &mut [TextColumn])
+    requires { All (λ c. begins_group c ≡ false) columns.old }
+    ensures { (n : ℕ) → columns.new ≡ all_pushed n columns.old }
+{
+    let Some((column, columns)) = columns.split_first_mut() else {
+        return;
+    };
+    column.len += 1;
+    lengthen(columns);
+}
+
+// The last row groups, which are not full, get these forms: all of them, or none.
+pub(super) fn extend_groups<S: FarTickets>(
+    objects: &mut Objects<u8, S>,
+    columns: &mut [TextColumn],
+    forms: &[Replacement<u8>],
+) -> Result<(), Refusal>
+    requires begun { All (λ c. begins_group c ≡ false) columns.old }
+    requires some { All (λ r. 0 < length r.list.items) forms.now }
+    requires within { All (λ r. r.object < length objects.old.entries) forms.now }
+    requires once { AreListedOnce forms.now }
+    ensures pushed { OnOk result ((n : ℕ) → columns.new ≡ all_pushed n columns.old) }
+    ensures replaced { OnOk result (objects.new ≡ replaced_all objects.old forms.now) }
+    ensures count { OnOk result (length objects.new.entries ≡ length objects.old.entries) }
+    ensures lists { OnOk result (ChangesLists (lists_of S.content objects.old) (lists_of S.content objects.new) forms.now) }
+    ensures clean { AreClean (λ bytes. bytes) S.content objects.old → AreClean (λ bytes. bytes) S.content objects.new }
+    ensures store { (name : List ℕ) → AreHere S.is_of name objects.old → AreHere S.is_of name objects.new }
+    ensures free { OnOk result (replace_all_refusal objects.old forms.now ≡ None) }
+    ensures refused { IfErr result (λ e. (replace_all_refusal objects.old forms.now ≡ Some e) ⊎ ((first_absent objects.old (map (λ r. r.object) forms.now) ≡ None) × (e ≡ Refusal.NoMemory))) }
+    ensures err { OnErr result (objects.new ≡ objects.old) }
+    ensures kept { OnErr result (columns.new ≡ columns.old) }
+{
+    objects.replace_all(forms)?;
+    lengthen(columns);
+    Ok(())
+}
