@@ -8,8 +8,8 @@ use Rattle.far_scopes.proofs.Compacted.{not-missing, order-listed, within-words,
 use Rattle.far_scopes.proofs.memory.LocalMemory.compact.Given as given
 use Rattle.far_scopes.proofs.memory.LocalMemory.compact.Goals as goal
 
-pub compact-requires-after_bounds : goal.compact-requires-after_bounds
-compact-requires-after_bounds g c κs within =
+pub compact-requires : goal.compact-requires
+compact-requires g c =
     let there = not-missing c.in_ok-may_compact.field-0 OutOfRange (length c.self.inside.region) c.args.segment c.in_ok-may_compact.ensures.missing in
     let are = subst (λ words. AreHotFirst words c.args.segment c.in_ok-moving.moving.items) c.deref.ensures.value c.in_ok-moving.ensures.found in
     rw (c.deref-3.ensures.value, c.in_ok-order.ensures.offsets, c.deref-2.ensures.value) (order-listed c.self.inside.words.items c.self.inside.region c.self.invariant c.args.segment there c.in_ok-moving.moving.items are)
