@@ -1,5 +1,6 @@
 -- Sessions that end.
 use Rattle.std.specs.Prelude.{◌≡◌, ℕ, ◌<◌, List, [], ◌∷◌, Some, slice_get}
+use mathlib.Core.List.{IsPrefix}
 use Rattle.far_history.specs.Histories.{AllBelow, by_session}
 use Rattle.far_history.specs.declared.view.Entry.{Entry}
 use Rattle.far_sessions.specs.Known.{Known, at, number_of}
@@ -12,12 +13,17 @@ Has n sessions = (i : ℕ) × (s : Known) × (slice_get sessions i ≡ Some s) �
 abbrev pub IsWhole : ℕ → List Known → Type 0
 IsWhole n sessions = (k : ℕ) → k < n → Has k sessions
 
--- the entries that a history has of each session are just its own, at stripe k
-abbrev pub OwnAll : ℕ → List Entry → List Known → Type 0
-OwnAll k log [] = Unit {0}
-OwnAll k log (s ∷ sessions) = (by_session (number_of s) log ≡ (at s k).mine) × OwnAll k log sessions
+-- a history begins with what a session has seen of it at stripe k, and has just the session's own entries of it
+pub record IsSeenBy (k : ℕ) (log : List Entry) (s : Known) : Type 0 where
+  pub seen : IsPrefix (at s k).seen log
+  pub own : by_session (number_of s) log ≡ (at s k).mine
 
--- a history has the entries of these sessions at stripe k, and none of a session from n on
+-- so it is with each session
+abbrev pub SeenByAll : ℕ → List Entry → List Known → Type 0
+SeenByAll k log [] = Unit {0}
+SeenByAll k log (s ∷ sessions) = IsSeenBy k log s × SeenByAll k log sessions
+
+-- a history has the entries of these sessions at stripe k, begins with what each has seen, and has no entry of a session from n on
 pub record IsSettled (n k : ℕ) (log : List Entry) (sessions : List Known) : Type 0 where
-  pub own : OwnAll k log sessions
+  pub all : SeenByAll k log sessions
   pub below : AllBelow n log

@@ -9,6 +9,5 @@ pub mod RangeLaws
 pub mod Listed
 pub mod PieceLaws
 pub mod Lendable
-pub mod Several
 pub mod Together
 pub mod RowGroups

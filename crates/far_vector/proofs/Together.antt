@@ -6,7 +6,7 @@ use Rattle.std.proofs.lemmas.List.Quantifiers.{all_pairs_push}
 use Rattle.far_vector.specs.Vector.{Vector, IsVector, AreApart, elements}
 use Rattle.far_vector.specs.Vectors.{AreVectors, ChangesVector}
 use Rattle.far_vector.proofs.Apart.{vector-kept, elements-kept}
-use Rattle.far_vector.proofs.Several.{each-after, apart-after, other, was-beside}
+use Rattle.far_laws.proofs.Several.{each-after, apart-after, other, was-beside}
 
 module _ {X : Type 0} where
   pub apart-turned : (v w : Vector X) → AreApart v w → AreApart w v

@@ -1,6 +1,6 @@
 use Rattle.std.proofs.Common.{◌≡◌, List, ◌∙◌, refl}
 use Rattle.far_sessions.specs.Known.{Known}
-use Rattle.far_sessions.proofs.Sessions.{own_all-taken}
+use Rattle.far_sessions.proofs.Sessions.{all-taken}
 use Rattle.far_sessions.proofs.closing.settle.Goals as goal
 
 pub loop-session-preserved : goal.loop-session-preserved
@@ -16,8 +16,8 @@ loop-session-preserved g c =
       one = c.take_in-in-loop-session.ensures.history ∙ i.one;
       two = c.take_in-in-loop-session-2.ensures.history ∙ i.two;
       three = c.take_in-in-loop-session-3.ensures.history ∙ i.three;
-      own_zero = own_all-taken 0 _ _ _ xs y x i.zero is refl i.own_zero c.take_in.ensures.own;
-      own_one = own_all-taken 1 _ _ _ xs y x i.one is numbers.1 i.own_one c.take_in-in-loop-session.ensures.own;
-      own_two = own_all-taken 2 _ _ _ xs y x i.two is numbers.2 i.own_two c.take_in-in-loop-session-2.ensures.own;
-      own_three = own_all-taken 3 _ _ _ xs y x i.three is numbers.3 i.own_three c.take_in-in-loop-session-3.ensures.own;
+      all_zero = all-taken 0 _ _ _ xs y x i.zero is refl i.all_zero c.take_in.ensures.seen c.take_in.ensures.own;
+      all_one = all-taken 1 _ _ _ xs y x i.one is numbers.1 i.all_one c.take_in-in-loop-session.ensures.seen c.take_in-in-loop-session.ensures.own;
+      all_two = all-taken 2 _ _ _ xs y x i.two is numbers.2 i.all_two c.take_in-in-loop-session-2.ensures.seen c.take_in-in-loop-session-2.ensures.own;
+      all_three = all-taken 3 _ _ _ xs y x i.three is numbers.3 i.all_three c.take_in-in-loop-session-3.ensures.seen c.take_in-in-loop-session-3.ensures.own;
     }

@@ -1,5 +1,5 @@
 use Rattle.std.proofs.Common.{◌≡◌, ℕ, ◌<◌, Bool, List, ◌∷◌, length, map, Option, sym, ap, subst, ◌∙◌}
-use Rattle.std.specs.Prelude.{slice_range}
+use Rattle.std.specs.Prelude.{slice_range, IfOk}
 use Rattle.std.specs.List.{zip}
 use Rattle.std.proofs.lemmas.Result.{IfOk-weaker}
 use Rattle.far_types.specs.FirstOf.{first_of}
@@ -21,7 +21,7 @@ texts-requires-clause-is g c κs bounds =
 pub texts-requires-clause-even : goal.texts-requires-clause-even
 texts-requires-clause-even g c κs bounds =
     let column = subst (λ (r : Rows g.row.S-Ticket.Denot). c.args.text < length r.texts) (sym c.self.view_is) c.requires in
-    flags-even g.S.FarTickets.content _ c.self.invariant c.args.text c.args.from c.args.to c.index-column.result.now column c.index-column.ensures
+    rw c.all.ensures (flags-even g.S.FarTickets.content _ c.self.invariant c.args.text c.args.from c.args.to c.index-column.result.now column c.index-column.ensures)
 
 pub returns-clause-lent : goal.returns-clause-lent
 returns-clause-lent g c =
@@ -30,7 +30,7 @@ returns-clause-lent g c =
     let texts = texts_in (lists_of g.S.FarTickets.content c.self.inside.text_objects) c.index-column.result.now in
     let flags = slice_range c.self.inside.alive c.args.from c.args.to in
     let same = ap (λ (ts : List (Option (List ℕ))). zip (slice_range ts c.args.from c.args.to) flags) (texts-read g.S.FarTickets.content _ c.self.invariant c.args.text c.args.from c.args.to c.index-column.result.now column c.index-column.ensures) ∙ ap part c.self.view_is in
-    IfOk-weaker c.texts.result (λ (lent : List (Option (List ℕ) × Bool)). lent ≡ zip (slice_range texts c.args.from c.args.to) flags) (λ lent. lent ≡ part c.args.self.now) (λ lent is. is ∙ same) c.texts.ensures.lent
+    IfOk-weaker c.texts.result (λ (lent : List (Option (List ℕ) × Bool)). lent ≡ zip (slice_range texts c.args.from c.args.to) flags) (λ lent. lent ≡ part c.args.self.now) (λ lent is. is ∙ same) (subst (λ (alive : List Bool). IfOk c.texts.result (λ (lent : List (Option (List ℕ) × Bool)). lent ≡ zip (slice_range texts c.args.from c.args.to) (slice_range alive c.args.from c.args.to))) c.all.ensures c.texts.ensures.lent)
 
 pub returns-clause-texts : goal.returns-clause-texts
 returns-clause-texts g c =
@@ -40,7 +40,7 @@ returns-clause-texts g c =
     let part = λ (r : Rows g.row.S-Ticket.Denot). slice_range (texts_of g.S.FarTickets.content r (slot.Text c.args.text)) c.args.from c.args.to in
     IfOk-weaker c.texts.result (λ (lent : List (Option (List ℕ) × Bool)). lent ≡ zip (slice_range texts c.args.from c.args.to) flags) (λ lent. map (λ t. t.0) lent ≡ part c.args.self.now)
     (λ lent is. lent-values g.S.FarTickets.content _ c.self.invariant c.args.text c.args.from c.args.to c.index-column.result.now column c.index-column.ensures c.len-len.ensures.groups lent is ∙ ap part c.self.view_is)
-    c.texts.ensures.lent
+    (subst (λ (alive : List Bool). IfOk c.texts.result (λ (lent : List (Option (List ℕ) × Bool)). lent ≡ zip (slice_range texts c.args.from c.args.to) (slice_range alive c.args.from c.args.to))) c.all.ensures c.texts.ensures.lent)
 
 pub returns-clause-alive : goal.returns-clause-alive
 returns-clause-alive g c =
@@ -50,7 +50,7 @@ returns-clause-alive g c =
     let part = λ (r : Rows g.row.S-Ticket.Denot). slice_range r.alive c.args.from c.args.to in
     IfOk-weaker c.texts.result (λ (lent : List (Option (List ℕ) × Bool)). lent ≡ zip (slice_range texts c.args.from c.args.to) flags) (λ lent. map (λ t. t.1) lent ≡ part c.args.self.now)
     (λ lent is. lent-flags g.S.FarTickets.content _ c.self.invariant c.args.text c.args.from c.args.to c.index-column.result.now column c.index-column.ensures c.len-len.ensures.groups lent is ∙ ap part c.self.view_is)
-    c.texts.ensures.lent
+    (subst (λ (alive : List Bool). IfOk c.texts.result (λ (lent : List (Option (List ℕ) × Bool)). lent ≡ zip (slice_range texts c.args.from c.args.to) (slice_range alive c.args.from c.args.to))) c.all.ensures c.texts.ensures.lent)
 
 pub returns-clause-refused : goal.returns-clause-refused
 returns-clause-refused g c =

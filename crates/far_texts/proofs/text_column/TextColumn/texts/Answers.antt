@@ -16,7 +16,7 @@ new-requires-after_bounds g c κs outlives =
     let to = c.args.to in
     let has = subst HasGroups c.self.view_is c.self.invariant in
     let within : to ≤ column.len = subst (λ t. to ≤ t.len) c.self.view_is c.if-to-self.false in
-    let long : length c.flags.result.now ≡ to - from = ap (λ l. length l) c.flags.ensures ∙ omega (arith, c.if-from-to.false, within, c.requires.even, length-take (to - from) (drop from c.args.alive.now), length-drop from c.args.alive.now) in
+    let long : length (slice_range c.args.alive.now from to) ≡ to - from = omega (arith, c.if-from-to.false, within, c.requires.even, length-take (to - from) (drop from c.args.alive.now), length-drop from c.args.alive.now) in
     record {
       is = c.requires.is;
       groups = has;
@@ -32,4 +32,4 @@ new-requires-after_bounds g c κs outlives =
 pub returns-clause-lent : goal.returns-clause-lent
 returns-clause-lent g c =
     let texts = texts_in (lists_of g.S.FarTickets.content c.args.objects.now) c.args.self.now in
-    c.new.ensures ∙ ap (zip (drop c.args.from texts)) c.flags.ensures ∙ zip-part texts c.args.alive.now c.args.from c.args.to
+    c.new.ensures ∙ zip-part texts c.args.alive.now c.args.from c.args.to
