@@ -1,5 +1,5 @@
 -- What sessions on threads leave of a shared table.
-use Rattle.std.specs.Prelude.{◌≡◌, ℕ, ◌%◌, zero, suc, pos, List, [], ◌∷◌, ◌++◌, None, Some, OnOk, Result, length, slice_get}
+use Rattle.std.specs.Prelude.{◌≡◌, ℕ, ◌%◌, zero, suc, pos, List, [], ◌∷◌, ◌++◌, None, Some, OnOk, IsOk, Result, length, slice_get}
 use Rattle.far_types.specs.declared.cell.Cell.{Cell}
 use Rattle.far_types.specs.declared.cell.Cell.TheVariants as cell
 use Rattle.far_types.specs.declared.cell.Kind.TheVariants as kind
@@ -49,14 +49,13 @@ pub record Ended : Type 0 where
   pub outcome : Result (Unit {0}) Stop
 
 -- a session made so many inserts on its home stripe, unless it was stopped
-pub record IsWorked (n : ℕ) (me : Known) (ended : Ended) : Type 0 where
-  pub number : number_of ended.session ≡ number_of me
-  pub made : OnOk ended.outcome (Makes n (at me (number_of me % 4)) (at ended.session (number_of me % 4)))
+abbrev pub IsWorked : ℕ → Known → Ended → Type 0
+IsWorked n me ended = OnOk ended.outcome (Makes n (at me (number_of me % 4)) (at ended.session (number_of me % 4)))
 
 -- so did all, in order
-abbrev pub AreWorked : ℕ → List Known → List Ended → Type 0
-AreWorked n sessions worked = (length worked ≡ length sessions)
-    × ((i : ℕ) (me : Known) (ended : Ended) → slice_get sessions i ≡ Some me → slice_get worked i ≡ Some ended → IsWorked n me ended)
+pub record AreWorked (n : ℕ) (sessions : List Known) (worked : List Ended) : Type 0 where
+  pub count : length worked ≡ length sessions
+  pub each : (i : ℕ) (me : Known) (ended : Ended) → slice_get sessions i ≡ Some me → slice_get worked i ≡ Some ended → IsWorked n me ended
 
 -- a reading tells what a legal history leaves, of which a session has just its own entries
 pub record IsGauged (p : Planned) (me : Told) (reading : Reading) : Type 0 where
@@ -76,8 +75,18 @@ pub record IsReading (p : Planned) (s n : ℕ) (reading : Reading) : Type 0 wher
 abbrev pub AreReadings : Planned → ℕ → List Reading → Type 0
 AreReadings p n readings = (s : ℕ) (reading : Reading) → slice_get readings s ≡ Some reading → IsReading p s n reading
 
--- so many sessions, each with so many inserts, have ended
-pub record IsOutcome (sessions edits : ℕ) (o : Outcome) : Type 0 where
-  pub count : length o.gauges.items ≡ sessions
-  pub gauges : AreReadings (plan_for sessions) edits o.gauges.items
-  pub answer : IsAnswer (plan_for sessions) 0 o.answer
+-- a reading is of a session that has ended well
+pub record IsRead (p : Planned) (ended : Ended) (reading : Reading) : Type 0 where
+  pub done : IsOk ended.outcome
+  pub gauged : IsGauged p (at ended.session (number_of ended.session % 4)) reading
+  pub number : (k : ℕ) → (at ended.session k).by ≡ number_of ended.session
+
+-- all sessions of a plan have ended, each with so many inserts
+pub record IsRun (p : Planned) (edits : ℕ) (o : Outcome) : Type 0 where
+  pub count : length o.gauges.items ≡ p.sessions
+  pub gauges : AreReadings p edits o.gauges.items
+  pub answer : IsAnswer p 0 o.answer
+
+-- so many sessions have ended, each with so many inserts
+abbrev pub IsOutcome : ℕ → ℕ → Outcome → Type 0
+IsOutcome sessions edits = IsRun (plan_for sessions) edits

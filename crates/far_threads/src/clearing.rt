@@ -23,8 +23,12 @@ pub(crate) fn clear_way<N: Naming, B: Site, S: FarStore, R: Wait>(
 {
     let mut meter = Meter::new();
     let cleared = match refusal {
-        Refusal::Absent { column, group } => shared.fetch(rt, stripe, column, group, store, &mut meter),
-        Refusal::RegionFull => shared.evacuate_once(rt, stripe, store, &mut meter).map(|_| ()),
+        Refusal::Absent { column, group } => shared.fetch(
+            rt, stripe, column, group, store, &mut meter,
+        ),
+        Refusal::RegionFull => shared
+            .evacuate_once(rt, stripe, store, &mut meter)
+            .map(|_| ()),
         Refusal::NoMemory => return Err(Stop::Memory),
         _ => return Err(Stop::Turns),
     };

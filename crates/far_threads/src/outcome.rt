@@ -2,8 +2,8 @@
 ghost use Rattle.std.specs.Prelude.{◌≡◌};
 
 use far_history::Reading;
-use far_types::{Answer, Refusal};
-use std::alloc::AllocError;
+use far_types::Answer;
+use std::alloc::{AllocError, AllocFailed};
 
 /// What a run of sessions leaves, as it is read when all sessions have ended.
 #[derive(Drop, Debug)]
@@ -15,7 +15,7 @@ pub struct Outcome {
 }
 
 /// What ends a run of sessions early.
-#[derive(Clone, Copy, Debug, Drop, PartialEq, Eq)]
+#[derive(Clone, Copy, Debug, PartialEq, Eq)]
 pub enum Stop {
     /// A call was refused memory.
     Memory,
@@ -29,6 +29,16 @@ impl From<AllocError> for Stop {
     ghost from_gives = { λ _ stop. stop ≡ Memory };
 
     fn from(_e: AllocError) -> Stop {
+        Stop::Memory
+    }
+}
+
+impl<T: Drop> From<AllocFailed<T>> for Stop {
+    ghost use Rattle.far_threads.specs.declared.outcome.Stop.TheVariants.{Memory};
+
+    ghost from_gives = { λ _ stop. stop ≡ Memory };
+
+    fn from(_e: AllocFailed<T>) -> Stop {
         Stop::Memory
     }
 }

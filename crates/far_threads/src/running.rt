@@ -1,8 +1,7 @@
 // Sessions on threads, and a worker beside them.
-ghost use Rattle.std.specs.Prelude.{◌≡◌, ◌<◌, ◌≤◌, ◌%◌, ℕ, Some, IfOk, OnOk, length, slice_get};
-ghost use Rattle.far_sessions.specs.Known.{at, newcomers, number_of};
-ghost use Rattle.far_shared.specs.Asking.{IsAnswer};
-ghost use Rattle.far_threads.specs.Runs.{AreReadings, AreWorked, IsGauged, IsWorked};
+ghost use Rattle.std.specs.Prelude.{◌≡◌, ◌%◌, IfOk, OnOk, length};
+ghost use Rattle.far_sessions.specs.Known.{newcomers, number_of};
+ghost use Rattle.far_threads.specs.Runs.{AreReadings, AreWorked, IsRead, IsRun, IsWorked};
 
 use crate::evacuating::evacuate_all;
 use crate::inserting::insert_all;
@@ -59,12 +58,7 @@ fn work<N: Naming, B: Site, S: FarStore, R: Wait>(
 }
 
 /// Makes the edits of all sessions, each in a thread of its own where one can be made.
-fn work_all<
-    N: Naming + Send + Sync,
-    B: Site + Send + Sync,
-    S: FarStore,
-    R: Threads + Wait + Sync,
->(
+fn work_all<N: Naming + Send + Sync, B: Site + Send + Sync, S: FarStore, R: Threads + Wait + Sync>(
     rt: &R,
     alloc: Global,
     shared: &Shared<N, B, S>,
@@ -83,19 +77,21 @@ fn work_all<
     Ok(worked)
 }
 
-/// What the gauge of a session's home stripe reads when its edits are made.
+/// What the gauge of a session's home stripe reads when its edits are made. Ends as the session did.
 fn read_gauge<N: Naming, B: Site, R: Wait>(
     rt: &R,
     cells: &Cells<N, B>,
-    mut me: Session<B>,
-) -> Reading
-    ensures { IsGauged N.plan (at me (number_of me % 4)) result }
+    worked: Worked<B>,
+) -> Result<Reading, Stop>
+    ensures { IfOk result (IsRead N.plan worked) }
 {
+    worked.outcome?;
+    let mut me = worked.session;
     let home = home_of(&me);
     let Ok(reading) = cells.gauge(rt, &mut me, home) else {
         unreachable!()
     };
-    reading
+    Ok(reading)
 }
 
 /// What the gauges of the sessions' home stripes read, in order.
@@ -106,16 +102,72 @@ fn read_gauges<N: Naming, B: Site, R: Wait>(
     worked: Vec<Worked<B>>,
     edits: u32,
 ) -> Result<Vec<Reading>, Stop>
-    requires { AreWorked edits (newcomers (length worked.items)) worked.items }
-    ensures count { IfOk result (λ readings. length readings.items ≡ length worked.items) }
+    requires { AreWorked edits (newcomers N.plan.sessions) worked.items }
+    ensures count { IfOk result (λ readings. length readings.items ≡ N.plan.sessions) }
     ensures readings { IfOk result (λ readings. AreReadings N.plan edits readings.items) }
 {
     let mut readings = Vec::new(alloc);
     for one in worked {
-        one.outcome?;
-        readings.push(read_gauge(rt, cells, one.session))?;
+        readings.push(read_gauge(rt, cells, one)?)?;
     }
     Ok(readings)
+}
+
+/// What sessions leave that have made their edits.
+fn outcome_of<N: Naming, B: Site, S: FarStore, R: Wait>(
+    rt: &R,
+    alloc: Global,
+    shared: &Shared<N, B, S>,
+    worked: Vec<Worked<B>>,
+    edits: u32,
+) -> Result<Outcome, Stop>
+    requires { AreWorked edits (newcomers N.plan.sessions) worked.items }
+    ensures { IfOk result (IsRun N.plan edits) }
+{
+    let gauges = read_gauges(rt, alloc, shared.cells(), worked, edits)?;
+    match shared.ask_all(rt, 0) {
+        Ok(answer) => Ok(Outcome { gauges, answer }),
+        Err(_) => Err(Stop::Memory),
+    }
+}
+
+/// The second, unless the first ended early.
+fn unless_stopped<T: Drop>(first: Result<(), Stop>, second: Result<T, Stop>) -> Result<T, Stop>
+    ensures { OnOk result (result ≡ second) }
+{
+    first?;
+    second
+}
+
+/// Lets sessions make their edits while a worker in the background sends objects away.
+fn work_beside<
+    N: Naming + Send + Sync,
+    B: Site + Send + Sync,
+    S: FarStore,
+    R: Threads + Wait + Sync,
+>(
+    rt: &R,
+    alloc: Global,
+    shared: &Shared<N, B, S>,
+    store: &S,
+    sessions: Vec<Session<B>>,
+    edits: u32,
+) -> Result<Vec<Worked<B>>, Stop>
+    requires store { S.name store.now ≡ B.store }
+    ensures worked { IfOk result (λ worked. AreWorked edits sessions.items worked.items) }
+{
+    // Only the first goes to another thread, and it holds nothing but references.
+    let (evacuated, worked) = thread::join(
+        rt,
+        || -> Result<(), Stop>
+            requires { S.name store.now ≡ B.store }
+        { evacuate_all(rt, shared, store, edits) },
+        || -> Result<Vec<Worked<B>>, Stop>
+            requires { S.name store.now ≡ B.store }
+            ensures { IfOk result (λ worked. AreWorked edits sessions.items worked.items) }
+        { work_all(rt, alloc, shared, store, sessions, edits) },
+    );
+    unless_stopped(evacuated, worked)
 }
 
 /// Lets sessions make their edits while a worker in the background sends objects away, and reads what they leave when all have ended.
@@ -134,20 +186,8 @@ pub(crate) fn run_shared<
 ) -> Result<Outcome, Stop>
     requires store { S.name store.now ≡ B.store }
     requires sessions { sessions.items ≡ newcomers N.plan.sessions }
-    ensures count { IfOk result (λ o. length o.gauges.items ≡ N.plan.sessions) }
-    ensures gauges { IfOk result (λ o. AreReadings N.plan edits o.gauges.items) }
-    ensures answer { IfOk result (λ o. IsAnswer N.plan 0 o.answer) }
+    ensures { IfOk result (IsRun N.plan edits) }
 {
-    // Only the first goes to another thread, and it holds nothing but references.
-    let (evacuated, worked) = thread::join(
-        rt,
-        || evacuate_all(rt, shared, store, edits),
-        || work_all(rt, alloc, shared, store, sessions, edits),
-    );
-    evacuated?;
-    let gauges = read_gauges(rt, alloc, shared.cells(), worked?, edits)?;
-    match shared.ask_all(rt, 0) {
-        Ok(answer) => Ok(Outcome { gauges, answer }),
-        Err(_) => Err(Stop::Memory),
-    }
+    let worked = work_beside(rt, alloc, shared, store, sessions, edits)?;
+    outcome_of(rt, alloc, shared, worked, edits)
 }
