@@ -1,5 +1,5 @@
 -- What is read and printed, one part after another.
-use Rattle.std.proofs.Common.{◌≡◌, ◌+◌, ◌-◌, ◌≤◌, ◌<◌, ℕ, suc, List, [], ◌∷◌, ◌++◌, length, take, drop, slice_index, slice_range, Option, Some, None, append_assoc, append-nil, length-append, take-append-drop, ◌∙◌, refl, sym, ap, subst, arith}
+use Rattle.std.proofs.Common.{◌≡◌, ◌+◌, ◌-◌, ◌≤◌, ◌<◌, ℕ, suc, List, [], ◌∷◌, ◌++◌, length, take, drop, slice_index, slice_range, Option, append_assoc, append-nil, length-append, take-append-drop, ◌∙◌, refl, sym, ap, subst, arith}
 use Rattle.std.proofs.Math.Seq.{take-add, drop-cons}
 use Rattle.std.proofs.lemmas.List.{take_rest, length-take, length-take-le, take-take}
 use Rattle.std.proofs.lemmas.List.Folds.{drop_split}
@@ -7,8 +7,7 @@ use Rattle.std.specs.Io.KnownBytes.{Appends, Consumes, Keeps}
 use Rattle.std.proofs.KnownBytes.{Appends-nil, Appends-trans, Appends-kept, Consumes-nil, Consumes-trans}
 use Rattle.std.specs.declared.io.traits.Read.{Ghosts}
 use Rattle.far_script.specs.declared.input.Input.{Input}
-use Rattle.far_script.specs.Flow.{Prints, Reads, unread, IsSpent, IsWhole}
-use Rattle.std.specs.Prelude.{IfSome, unwrap_or}
+use Rattle.far_script.specs.Flow.{Prints, Reads, unread, IsSpent}
 
 -- what a writer took in parts
 pub written-on : (u v w : Option (List ℕ)) (bytes : List ℕ) (n m : ℕ) → Appends u v (take n bytes) → Appends v w (take m (drop n bytes)) → Appends u w (take (n + m) bytes)
@@ -140,24 +139,6 @@ no-first (x ∷ xs) ys h = cc h
 pub no-rest : (xs ys : List ℕ) → xs ++ ys ≡ [] → ys ≡ []
 no-rest [] ys h = h
 no-rest (x ∷ xs) ys h = cc h
-
--- the bytes of a script that was read to its end
-all-known : (known left : Option (List ℕ)) (came script : List ℕ) → Consumes known left came → unwrap_or left [] ≡ [] → came ≡ script → IfSome known (λ bytes. script ≡ bytes)
-all-known None left came script p e same = tt
-all-known (Some xs) None came script p e same = absurd p
-all-known (Some xs) (Some ys) came script p e same = sym same ∙ sym (append-nil came) ∙ ap (λ (t : List ℕ). came ++ t) (sym e) ∙ sym p
-
-within-bound : (a b n m : ℕ) → a + n ≡ b → b ≡ 16777216 → n ≡ m → m ≤ 16777216
-within-bound a b n m p q r = omega (arith, p, q, r)
-
-module _ {R : Type 0} (read : Ghosts R) where
-  pub whole-read : (old new : Input R read) (reader : R) (script : List ℕ) → Reads read old script new → old.source.reader ≡ reader → old.source.bytes ≡ 16777216 → unread read old ≡ [] → IsSpent read new
-      → IsWhole (read.remaining reader) script
-  whole-read old new reader script p is bound none spent =
-      let all : p.came ≡ script = sym (ap (λ (t : List ℕ). t ++ p.came) none) ∙ p.taken ∙ ap (λ (t : List ℕ). script ++ t) spent.0 ∙ append-nil script in (
-        subst (λ (r : R). IfSome (read.remaining r) (λ bytes. script ≡ bytes)) is (all-known (read.remaining old.source.reader) (read.remaining new.source.reader) p.came script p.consumed (new.source.end spent.1) all),
-        within-bound new.source.bytes old.source.bytes (length p.came) (length script) p.counted bound (ap (λ (t : List ℕ). length t) all),
-      )
 
 pub range-empty : (xs : List ℕ) (from to : ℕ) → to ≤ from → slice_range xs from to ≡ []
 range-empty xs from to low = let k : to - from ≡ 0 = omega (arith, low) in rw k refl

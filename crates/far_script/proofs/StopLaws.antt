@@ -7,8 +7,8 @@ use Rattle.far_script.specs.declared.fault.ShellFault.{ShellFault}
 use Rattle.far_script.specs.declared.fault.ShellFault.TheVariants as fault
 use Rattle.far_script.specs.declared.input.Input.{Input}
 use Rattle.far_script.specs.Faults.{IfInput}
-use Rattle.far_script.specs.Flow.{Counts, Gives, IsSpent, Reads, StartsWith, Stops, unread}
-use Rattle.far_script.proofs.FlowLaws.{spent-nothing, spent-stays}
+use Rattle.far_script.specs.Flow.{Counts, Gives, IsFrontOf, IsSpent, Reads, StartsWith, Stops, unread}
+use Rattle.far_script.proofs.FlowLaws.{few-bytes, spent-nothing, spent-stays}
 
 -- a fault that is handed on
 pub handed-on : {T : Type 0} (r : Result T ShellFault) (why : ShellFault) (Q : ShellFault → Type 0) → IsErrAnd r (λ given. given ≡ why) → Q why → IfErr r Q
@@ -30,12 +30,14 @@ if-input fault.BadStart P Q f h = tt
 if-input fault.Input P Q f h = f h
 if-input fault.Output P Q f h = tt
 if-input fault.Memory P Q f h = tt
+if-input fault.Turns P Q f h = tt
 
 pub not-input : (why : ShellFault) (P : Type 0) → (why ≡ fault.Input → ⊥) → IfInput why P
 not-input fault.BadStart P other = tt
 not-input fault.Input P other = absurd (other refl)
 not-input fault.Output P other = tt
 not-input fault.Memory P other = tt
+not-input fault.Turns P other = tt
 
 starts-known : (known left : Option (List ℕ)) (came a bytes b : List ℕ) → Consumes known left came → a ++ came ≡ bytes ++ b → IfSome known (λ coming. a ++ coming ≡ bytes ++ (b ++ unwrap_or left []))
 starts-known None left came a bytes b p e = tt
@@ -128,3 +130,8 @@ module _ {R : Type 0} (read : Ghosts R) where
   gives-known input new reader why bytes rest is none g =
       subst (λ (r : R). IfSome (read.remaining r) (λ script. script ≡ bytes ++ rest)) is
       (subst (λ (z : List ℕ). IfSome (read.remaining input.source.reader) (λ script. z ++ script ≡ bytes ++ rest)) none g.0.0)
+
+  -- what was taken of a script of which nothing was read before
+  pub front-read : (input new : Input R read) (reader : R) (bytes : List ℕ) → Reads read input bytes new → input.source.reader ≡ reader → unread read input ≡ [] → IsFrontOf (read.remaining reader) bytes (coming read new)
+  front-read input new reader bytes p is none =
+      (gives-known input new reader fault.Memory bytes (coming read new) is none (starts read input new bytes p, tt), few-bytes read input new bytes p)

@@ -15,9 +15,9 @@ use Rattle.far_script.specs.Faults.{IfInput}
 abbrev pub Prints : Option (List ℕ) → List ℕ → List ℕ → Option (List ℕ) → List ℕ → Type 0
 Prints old held text new left = (sent : List ℕ) × Appends old new sent × (held ++ text ≡ sent ++ left)
 
--- all bytes of a script, where they are known, and within the bound
-abbrev pub IsWhole : Option (List ℕ) → List ℕ → Type 0
-IsWhole known script = IfSome known (λ bytes. script ≡ bytes) × (length script ≤ 16777216)
+-- the bytes of a script, where they are known, are these and the rest behind them; and these are within the bound
+abbrev pub IsFrontOf : Option (List ℕ) → List ℕ → List ℕ → Type 0
+IsFrontOf known bytes rest = IfSome known (λ script. script ≡ bytes ++ rest) × (length bytes ≤ 16777216)
 
 module _ {R : Type 0} (read : Ghosts R) where
   -- what was read and not taken yet

@@ -1,9 +1,11 @@
--- The line that opens a table.
-use Rattle.std.specs.Prelude.{ℕ, max, List, [], ◌∷◌, Option, None, Some, option_map, option_and_then, is_none, codes, if◌then◌else◌}
+-- The first line of a script.
+use Rattle.std.specs.Prelude.{ℕ, ◌≤◌, ⊤, max, nat_le, ◌&&◌, List, [], ◌∷◌, Option, None, Some, option_map, option_and_then, is_none, codes, if◌then◌else◌}
 use Rattle.std.specs.List.{slice_split}
 use Rattle.far_types.specs.declared.cell.Kind.{Kind}
 use Rattle.far_types.specs.declared.cell.Kind.TheVariants as kind
 use Rattle.far_types.specs.declared.limits.Limits.{Limits}
+use Rattle.far_script.specs.declared.opening.FirstLine.{FirstLine}
+use Rattle.far_script.specs.declared.opening.FirstLine.TheVariants as line
 use Rattle.far_script.specs.OneRecord.{is_comma}
 use Rattle.far_script.specs.Words.{word_of, rest_of, word_in, after, number_in, long_number_in, last_number_in, reads}
 
@@ -50,6 +52,33 @@ opening_in left =
     option_and_then (λ group. option_and_then (λ kinds. option_map (λ limits. (kinds, limits)) (limits_of group (after (after left))))
     (option_and_then kinds_of (word_in (after left)))) (number_in left)
 
--- what a line opens
-abbrev pub opening_of : List ℕ → Option Opened
-opening_of line = if reads (word_of line) (codes "schema") then opening_in (rest_of line) else None
+-- what the first line of a script says: a table is opened, or sessions share one, and each makes as many edits
+pub data Start : Type 0 where
+  Schema : Opened → Start
+  Threads : ℕ → ℕ → Start
+
+-- the same of a line as it was read
+abbrev pub start_of : FirstLine → Start
+start_of (line.Schema opening) = Schema (opening.kinds.items, opening.limits)
+start_of (line.Threads sessions edits) = Threads sessions edits
+
+-- there are as many sessions as may be, and each makes as many edits as it may
+abbrev pub IsWithin : Start → Type 0
+IsWithin (Schema opened) = ⊤
+IsWithin (Threads sessions edits) = (1 ≤ sessions) × (sessions ≤ 4) × (1 ≤ edits) × (edits ≤ 1000)
+
+-- a number from one to another
+abbrev pub between : ℕ → ℕ → Option ℕ → Option ℕ
+between least most None = None
+between least most (Some n) = if nat_le least n && nat_le n most then Some n else None
+
+-- SESSIONS EDITS
+abbrev pub threads_in : Option (List ℕ) → Option Start
+threads_in left = option_and_then (λ sessions. option_map (λ edits. Threads sessions edits) (between 1 1000 (last_number_in (after left)))) (between 1 4 (number_in left))
+
+-- what the first line of a script says, where it is one
+abbrev pub start_in : List ℕ → Option Start
+start_in text =
+    if reads (word_of text) (codes "schema") then option_map Schema (opening_in (rest_of text))
+    else if reads (word_of text) (codes "threads") then threads_in (rest_of text)
+    else None

@@ -64,6 +64,14 @@ key_text (Some (key.Text text)) = record_text (text ∷ []) ++ space
 abbrev pub total_text : Option Key × ℕ × ℤ → List ℕ
 total_text line = key_text line.0 ++ codes "count " ++ decimal line.1 ++ codes " sum " ++ signed_decimal line.2 ++ line_end
 
+-- what a gauge tells: the edits, the count and the sum
+abbrev pub reading_text : ℕ → ℕ → ℤ → List ℕ
+reading_text edits count sum = decimal edits ++ space ++ decimal count ++ space ++ signed_decimal sum ++ line_end
+
+-- what the gauge of a session's stripe tells
+abbrev pub gauge_text : ℕ → ℕ → ℕ → ℤ → List ℕ
+gauge_text session edits count sum = codes "session " ++ decimal session ++ codes " gauge " ++ reading_text edits count sum
+
 abbrev pub extrema_text : Option Key × ℤ × ℤ → List ℕ
 extrema_text line = key_text line.0 ++ codes "min " ++ signed_decimal line.1 ++ codes " max " ++ signed_decimal line.2 ++ line_end
 

@@ -15,6 +15,8 @@ pub enum ShellFault {
     Output,
     /// The shell itself was refused memory.
     Memory,
+    /// An edit of sessions on threads was tried as often as it may be, or was refused for what no other try mends.
+    Turns,
 }
 
 impl From<AllocError> for ShellFault {
@@ -59,6 +61,7 @@ impl ShellFault {
             ShellFault::BadStart => 2,
             ShellFault::Input | ShellFault::Output => 3,
             ShellFault::Memory => 4,
+            ShellFault::Turns => 5,
         }
     }
 }

@@ -18,7 +18,7 @@ mod words;
 
 pub use fault::ShellFault;
 pub use input::{Input, Line, Span};
-pub use opening::Opening;
+pub use opening::{FirstLine, Opening};
 pub use output::Output;
 pub use page::Page;
 pub use words::Words;

@@ -1,8 +1,8 @@
-// The line that opens a table.
-ghost use Rattle.std.specs.Prelude.{◌≡◌, ◌++◌, IfOk, IfErr, option_map, option_and_then, Some, None};
+// The first line of a script.
+ghost use Rattle.std.specs.Prelude.{◌≡◌, ◌≤◌, ◌++◌, IfOk, IfErr, IfSome, option_map, option_and_then, Some, None};
 ghost use Rattle.std.specs.List.{slice_split};
 ghost use Rattle.far_script.specs.OneRecord.{is_comma};
-ghost use Rattle.far_script.specs.Openings.{kind_named, kinds_named, kinds_of, usual_limits, given_limits, limits_of, opening_in, opening_of};
+ghost use Rattle.far_script.specs.Openings.{kind_named, kinds_named, kinds_of, usual_limits, given_limits, limits_of, opening_in, between, threads_in, start_in, start_of, IsWithin};
 
 use super::words::Words;
 use far_types::{Kind, Limits, Refusal};
@@ -16,6 +16,26 @@ pub struct Opening {
     pub kinds: Vec<Kind>,
     /// The limits, which nobody looked at yet.
     pub limits: Limits,
+}
+
+/// The most sessions of a script of threads.
+pub const MAX_SESSIONS: u32 = 4;
+
+/// The most edits that each session of a script of threads makes.
+pub const MAX_EDITS: u32 = 1_000;
+
+/// What the first line of a script says.
+#[derive(Drop, Debug)]
+pub enum FirstLine {
+    /// `schema ..`: a table is opened
+    Schema(Opening),
+    /// `threads SESSIONS EDITS`: sessions share a table, 1 to 4 of them, and each makes 1 to 1,000 edits
+    Threads {
+        /// How many sessions there are.
+        sessions: u32,
+        /// How many edits each makes.
+        edits: u32,
+    },
 }
 
 /// The kind of a column that a word names: `int` or `text`.
@@ -119,14 +139,42 @@ fn read_opening(alloc: Global, mut words: Words) -> Result<Option<Opening>, Refu
     }
 }
 
-/// What the first line of a script opens, or `None` where it is no such line. Refused with `NoMemory` (1) alone.
-pub fn first_line(alloc: Global, line: &str) -> Result<Option<Opening>, Refusal>
-    ensures opening { IfOk result (λ found. option_map (λ o. (o.kinds.items, o.limits)) found ≡ opening_of line.now) }
+/// The number, where it is from one to another.
+fn between(least: u32, most: u32, number: Option<u32>) -> Option<u32>
+    ensures number { result ≡ between least most number }
+    ensures within { IfSome result (λ n. (least ≤ n) × (n ≤ most)) }
+{
+    let number = number?;
+    if least <= number && number <= most {
+        Some(number)
+    } else {
+        None
+    }
+}
+
+/// `SESSIONS EDITS`
+fn read_threads(mut words: Words) -> Option<FirstLine>
+    ensures threads { option_map start_of result ≡ threads_in words.entry }
+    ensures within { IfSome result (λ first. IsWithin (start_of first)) }
+{
+    let sessions = between(1, MAX_SESSIONS, words.number())?;
+    let edits = between(1, MAX_EDITS, words.last_number())?;
+    Some(FirstLine::Threads { sessions, edits })
+}
+
+/// What the first line of a script says, or `None` where it is no such line. Refused with `NoMemory` (1) alone.
+pub fn first_line(alloc: Global, line: &str) -> Result<Option<FirstLine>, Refusal>
+    ensures start { IfOk result (λ found. option_map start_of found ≡ start_in line.now) }
+    ensures within { IfOk result (λ found. IfSome found (λ first. IsWithin (start_of first))) }
     ensures memory { IfErr result (λ e. e ≡ Refusal.NoMemory) }
 {
     let mut words = Words::new(line);
     match words.word() {
-        Some(word) if word == "schema" => read_opening(alloc, words),
+        Some(word) if word == "schema" => match read_opening(alloc, words)? {
+            Some(opening) => Ok(Some(FirstLine::Schema(opening))),
+            None => Ok(None),
+        },
+        Some(word) if word == "threads" => Ok(read_threads(words)),
         _ => Ok(None),
     }
 }

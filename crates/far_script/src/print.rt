@@ -1,6 +1,6 @@
 // Replies as lines.
 ghost use Rattle.std.specs.Prelude.{◌≡◌, ◌++◌, OnOk, IfErr, codes, length, take};
-ghost use Rattle.far_script.specs.Printing.{answer_text, carried_text, extrema_text, key_text, numbered_text, refusal_text, texts_of, total_text};
+ghost use Rattle.far_script.specs.Printing.{answer_text, carried_text, extrema_text, gauge_text, key_text, numbered_text, reading_text, refusal_text, texts_of, total_text};
 
 use super::page::Page;
 use far_types::{Answer, ExtremaLines, Key, Refusal, TotalLines};
@@ -112,6 +112,36 @@ fn all_extrema(page: &mut Page, lines: &ExtremaLines) -> Result<(), Refusal>
         extrema(page, line)?;
     }
     Ok(())
+}
+
+/// `EDITS COUNT SUM`
+fn reading(page: &mut Page, edits: u64, count: u64, sum: i128) -> Result<(), Refusal>
+    ensures ok { OnOk result (page.new ≡ page.old ++ reading_text edits count sum) }
+    ensures memory { IfErr result (λ e. e ≡ Refusal.NoMemory) }
+{
+    page.number(edits)?;
+    page.text(" ")?;
+    page.number(count)?;
+    page.text(" ")?;
+    page.wide(sum)?;
+    page.text("\n")
+}
+
+/// `session SESSION gauge EDITS COUNT SUM`
+pub fn gauge(
+    page: &mut Page,
+    session: u64,
+    edits: u64,
+    count: u64,
+    sum: i128,
+) -> Result<(), Refusal>
+    ensures ok { OnOk result (page.new ≡ page.old ++ gauge_text session edits count sum) }
+    ensures memory { IfErr result (λ e. e ≡ Refusal.NoMemory) }
+{
+    page.text("session ")?;
+    page.number(session)?;
+    page.text(" gauge ")?;
+    reading(page, edits, count, sum)
 }
 
 /// The lines of an answer, or `none`.

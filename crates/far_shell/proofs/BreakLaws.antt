@@ -1,5 +1,5 @@
 -- What was printed up to a fault.
-use Rattle.std.proofs.Common.{◌≡◌, ◌==◌, ◌+◌, ℕ, false, inl, inr, List, [], ◌∷◌, ◌++◌, length, take, Option, Some, None, append_assoc, append-nil, ◌∙◌, refl, sym, ap, subst}
+use Rattle.std.proofs.Common.{◌≡◌, ◌==◌, ℕ, false, inl, inr, List, [], ◌∷◌, ◌++◌, Option, Some, None, append_assoc, append-nil, ◌∙◌, refl, sym, ap, subst}
 use Rattle.std.specs.Prelude.{codes, IfSome, IsUtf8, unwrap_or}
 use Rattle.std.specs.List.{list_any}
 use Rattle.std.specs.Io.BufRead.{strip_last}
@@ -9,68 +9,27 @@ use Rattle.far_store.specs.declared.store.FarTickets.{Ghosts as Tickets}
 use Rattle.far_script.specs.declared.fault.ShellFault.{ShellFault}
 use Rattle.far_script.specs.declared.fault.ShellFault.TheVariants as fault
 use Rattle.far_script.specs.declared.input.Input.{Input}
-use Rattle.far_shell.specs.Breaks.{Lists, ListsNext, Breaks, BreaksIn, BreaksLater, BreaksOff, CutOff, EndsBy, Fails, HasNoTurn, IsBroken, IsFront, IsRejected, PrintsCut, Rejection, Rejects}
+use Rattle.far_commands.specs.Cuts.{Lists, Fails, PrintsCut}
+use Rattle.far_shell.specs.Breaks.{ListsNext, Breaks, BreaksIn, BreaksLater, BreaksOff, EndsBy, HasNotBegun, HasNoTurn, IsBroken, IsRefused, IsUnknown, Rejection, Rejects}
 use Rattle.far_script.specs.Faults.{IfInput}
 use Rattle.far_script.specs.Flow.{Counts, Gives, IsSpent, Prints, Reads, StartsWith, Stops}
-use Rattle.far_shell.specs.Progress.{At}
+use Rattle.far_commands.specs.Progress.{At}
 use Rattle.far_script.specs.Lines.{Blank, IsOneLine}
-use Rattle.far_shell.specs.Scripts.{Answers, IsScript, Opens}
+use Rattle.far_script.specs.Openings.{Opened, Schema, start_in}
+use Rattle.far_commands.proofs.CutLaws.{front-more}
+use Rattle.far_shell.specs.Scripts.{Answers, Begins, Opens}
+use Rattle.far_shell.specs.Sessions.{IsAnswered}
 use Rattle.far_script.proofs.FlowLaws.{no-first, prints, prints-then, prints-nothing-then, prints-then-nothing, reads-none}
-use Rattle.far_shell.proofs.ScriptLaws.{opens-then}
+use Rattle.far_shell.proofs.ScriptLaws.{begins-then, opens-then}
 use Rattle.far_script.proofs.StopLaws.{coming, counts-then, gives-then, if-input, spent-rest, starts, starts-split, starts-then, stops-here, stops-more, stops-then}
 
 -- a first line is rejected by no such fault
-rejected-input : (why : ShellFault) (line text : List ℕ) (P : Type 0) → Rejection why line text → IfInput why P
-rejected-input fault.BadStart line text P h = tt
-rejected-input fault.Input line text P h = absurd h
-rejected-input fault.Output line text P h = absurd h
-rejected-input fault.Memory line text P h = tt
-
--- nothing was printed
-pub cut-none : (why : ShellFault) (answer : List ℕ → Type 0) → (why ≡ fault.BadStart → ⊥) → CutOff why answer []
-cut-none fault.BadStart answer other = other refl
-cut-none fault.Input answer other = refl
-cut-none fault.Output answer other = inl refl
-cut-none fault.Memory answer other = inl refl
-
--- the faults that may come behind a front
-pub cut-output : (why : ShellFault) (answer : List ℕ → Type 0) (text rest : List ℕ) → why ≡ fault.Output → answer (text ++ rest) → CutOff why answer text
-cut-output why answer text rest is h = rw is (inr (rest, h))
-
-pub cut-memory : (why : ShellFault) (answer : List ℕ → Type 0) (text rest : List ℕ) → why ≡ fault.Memory → answer (text ++ rest) → CutOff why answer text
-cut-memory why answer text rest is h = rw is (inr (rest, h))
-
-front-more : (a b : List ℕ → Type 0) (text : List ℕ) → ((said : List ℕ) → a said → b said) → IsFront a text → IsFront b text
-front-more a b text f (inl none) = inl none
-front-more a b text f (inr h) = inr (h.0, f (text ++ h.0) h.1)
-
-pub cut-more : (why : ShellFault) (a b : List ℕ → Type 0) (text : List ℕ) → ((said : List ℕ) → a said → b said) → CutOff why a text → CutOff why b text
-cut-more fault.BadStart a b text f h = h
-cut-more fault.Input a b text f h = h
-cut-more fault.Output a b text f h = front-more a b text f h
-cut-more fault.Memory a b text f h = front-more a b text f h
-
-not-bad : {S K : Type 0} (tickets : Tickets S K) (why : ShellFault) (at : At K) {bytes text : List ℕ} → BreaksOff tickets at why bytes text → why ≡ fault.BadStart → ⊥
-not-bad tickets fault.BadStart at b e = b.cut
-not-bad tickets fault.Input at b e = cc e
-not-bad tickets fault.Output at b e = cc e
-not-bad tickets fault.Memory at b e = cc e
-
-pub prints-cut-none : (why : ShellFault) (answer : List ℕ → Type 0) (u v : Option (List ℕ)) (held left : List ℕ) → (why ≡ fault.BadStart → ⊥) → Prints u held [] v left → PrintsCut why answer u held v left
-prints-cut-none why answer u v held left other p = ([], p, cut-none why answer other)
-
-pub prints-cut-more : (why : ShellFault) (a b : List ℕ → Type 0) (u v w : Option (List ℕ)) (held mid left : List ℕ) → ((said : List ℕ) → a said → b said) → Prints u held [] v mid
-    → PrintsCut why a v mid w left → PrintsCut why b u held w left
-prints-cut-more why a b u v w held mid left f p q = (q.0, prints-nothing-then u v w held mid q.0 left p q.1, cut-more why a b q.0 f q.2)
-
-take-all : (xs ys : List ℕ) → take (length xs) (xs ++ ys) ≡ xs
-take-all [] [] = refl
-take-all [] (y ∷ ys) = refl
-take-all (x ∷ xs) ys = ap (λ (t : List ℕ). x ∷ t) (take-all xs ys)
-
--- the first bytes, as many as there are
-pub take-front : (xs ys : List ℕ) (n : ℕ) → length xs ≡ n → take n (xs ++ ys) ≡ xs
-take-front xs ys n e = subst (λ (k : ℕ). take k (xs ++ ys) ≡ xs) e (take-all xs ys)
+rejected-input : (why : ShellFault) (says : List ℕ → Type 0) (text : List ℕ) (P : Type 0) → Rejection why says text → IfInput why P
+rejected-input fault.BadStart says text P h = tt
+rejected-input fault.Input says text P h = absurd h
+rejected-input fault.Output says text P h = absurd h
+rejected-input fault.Memory says text P h = tt
+rejected-input fault.Turns says text P h = absurd h
 
 module _ {R : Type 0} (read : Ghosts R) where
   -- a whole line came, and is at fault with what came behind it
@@ -135,12 +94,13 @@ module _ {R : Type 0} (read : Ghosts R) {S K : Type 0} (tickets : Tickets S K) w
   )
 
   -- a script breaks off between two lines
-  pub breaks-between : (first after new : Input R read) (a b : Option (List ℕ)) (h k : List ℕ) (old at : At K) (bytes text : List ℕ) (why : ShellFault) → (why ≡ fault.BadStart → ⊥)
+  pub breaks-between : (first after new : Input R read) (a b : Option (List ℕ)) (h k : List ℕ) (old at : At K) (bytes text : List ℕ) (why : ShellFault) → (why ≡ fault.BadStart → ⊥) → (why ≡ fault.Turns → ⊥)
       → Reads read first bytes after → Prints a h text b k → Answers tickets old bytes text at → IfInput why (Stops read IsOneLine after new) → Ending first new a b h k old why
-  breaks-between first after new a b h k old at bytes text fault.BadStart other p q r s = absurd (other refl)
-  breaks-between first after new a b h k old at bytes text fault.Input other p q r s = stopped first after new a b h k old at bytes text p q r (s.0, s.1, s.2, s.3, inl s.4)
-  breaks-between first after new a b h k old at bytes text fault.Output other p q r s = between first after new a b h k old at bytes text fault.Output tt (refl, inl refl) p q r
-  breaks-between first after new a b h k old at bytes text fault.Memory other p q r s = between first after new a b h k old at bytes text fault.Memory tt (refl, inl refl) p q r
+  breaks-between first after new a b h k old at bytes text fault.BadStart other apart p q r s = absurd (other refl)
+  breaks-between first after new a b h k old at bytes text fault.Input other apart p q r s = stopped first after new a b h k old at bytes text p q r (s.0, s.1, s.2, s.3, inl s.4)
+  breaks-between first after new a b h k old at bytes text fault.Output other apart p q r s = between first after new a b h k old at bytes text fault.Output tt (refl, inl refl) p q r
+  breaks-between first after new a b h k old at bytes text fault.Memory other apart p q r s = between first after new a b h k old at bytes text fault.Memory tt (refl, inl refl) p q r
+  breaks-between first after new a b h k old at bytes text fault.Turns other apart p q r s = absurd (apart refl)
 
   -- within a line
   within-line : (first before mid new : Input R read) (a b c d : Option (List ℕ)) (h k l m : List ℕ) (old at : At K) (raw bytes text front : List ℕ) (why : ShellFault)
@@ -187,6 +147,7 @@ module _ {R : Type 0} (read : Ghosts R) {S K : Type 0} (tickets : Tickets S K) w
   breaks-line first before mid new a b c d h k l m old at line raw bytes text fault.Memory p q r one stripped s t u v =
       within-line first before mid new a b c d h k l m old at raw bytes text u.0 fault.Memory tt
       (one, front-more (λ said. Lists at line said) (ListsNext at raw) u.0 (λ said n. inr (subst (λ (z : List ℕ). Lists at z said) stripped n)) u.2) p q r s t u.1
+  breaks-line first before mid new a b c d h k l m old at line raw bytes text fault.Turns p q r one stripped s t u v = absurd u.2
 
   -- within the answer to the last line
   pub breaks-last : (first before mid new : Input R read) (a b c d : Option (List ℕ)) (h k l m : List ℕ) (old at : At K) (line bytes text : List ℕ) (why : ShellFault)
@@ -202,96 +163,74 @@ module _ {R : Type 0} (read : Ghosts R) {S K : Type 0} (tickets : Tickets S K) w
       within-last first before mid new a b c d h k l m old at line bytes text u.0 fault.Output tt (one, front-more (λ said. Lists at line said) (ListsNext at line) u.0 (λ said n. inl n) u.2) p q r s t u.1
   breaks-last first before mid new a b c d h k l m old at line bytes text fault.Memory p q r one s spent t u v =
       within-last first before mid new a b c d h k l m old at line bytes text u.0 fault.Memory tt (one, front-more (λ said. Lists at line said) (ListsNext at line) u.0 (λ said n. inl n) u.2) p q r s t u.1
+  breaks-last first before mid new a b c d h k l m old at line bytes text fault.Turns p q r one s spent t u v = absurd u.2
 
 -- a script of which nothing is printed
 pub starts-none : (known : Option (List ℕ)) → IfSome known (λ script. script ≡ [] ++ unwrap_or known [])
 starts-none None = tt
 starts-none (Some xs) = refl
 
-broken-first : {S K : Type 0} (tickets : Tickets S K) (why : ShellFault) (line text bytes rest : List ℕ) → Rejection why line text → (IsRejected line text → Rejects bytes (rest ≡ []) text) → IsBroken tickets why bytes rest text
-broken-first tickets fault.BadStart line text bytes rest h f = f h
-broken-first tickets fault.Input line text bytes rest h f = absurd h
-broken-first tickets fault.Output line text bytes rest h f = absurd h
-broken-first tickets fault.Memory line text bytes rest h f = inl h
+-- a first command is at fault
+not-begun : (why : ShellFault) (says : List ℕ → Type 0) (bytes rest text : List ℕ) → Rejection why says text → (says text → Rejects bytes (rest ≡ []) text) → HasNotBegun why bytes rest text
+not-begun fault.BadStart says bytes rest text h f = f h
+not-begun fault.Input says bytes rest text h f = absurd h
+not-begun fault.Output says bytes rest text h f = absurd h
+not-begun fault.Memory says bytes rest text h f = h
+not-begun fault.Turns says bytes rest text h f = absurd h
 
-broken-later : {S K : Type 0} (tickets : Tickets S K) (why : ShellFault) (bytes rest text : List ℕ) → (why ≡ fault.BadStart → ⊥) → BreaksLater tickets why bytes rest text → IsBroken tickets why bytes rest text
-broken-later tickets fault.BadStart bytes rest text other h = absurd (other refl)
-broken-later tickets fault.Input bytes rest text other h = inr h
-broken-later tickets fault.Output bytes rest text other h = inr h
-broken-later tickets fault.Memory bytes rest text other h = inr h
+broken-first : {S K : Type 0} (tickets : Tickets S K) (why : ShellFault) (bytes rest text : List ℕ) → HasNotBegun why bytes rest text → IsBroken tickets why bytes rest text
+broken-first tickets fault.BadStart bytes rest text h = h
+broken-first tickets fault.Input bytes rest text h = inl h
+broken-first tickets fault.Output bytes rest text h = inl h
+broken-first tickets fault.Memory bytes rest text h = inl h
+broken-first tickets fault.Turns bytes rest text h = absurd h
+
+broken-later : {S K : Type 0} (tickets : Tickets S K) (why : ShellFault) (bytes rest text : List ℕ) → BreaksLater tickets why bytes rest text → IsBroken tickets why bytes rest text
+broken-later tickets fault.BadStart bytes rest text h = absurd h.breaks.cut
+broken-later tickets fault.Input bytes rest text h = inr h
+broken-later tickets fault.Output bytes rest text h = inr h
+broken-later tickets fault.Memory bytes rest text h = inr h
+broken-later tickets fault.Turns bytes rest text h = absurd h.breaks.cut
 
 ends-by : {S K : Type 0} (tickets : Tickets S K) (why : ShellFault) (bytes rest text lost : List ℕ) → IsBroken tickets why bytes rest text → lost ≡ [] → EndsBy tickets why bytes rest text lost
 ends-by tickets fault.BadStart bytes rest text lost h none = (h, none)
 ends-by tickets fault.Input bytes rest text lost h none = (h, none)
 ends-by tickets fault.Output bytes rest text lost h none = inr (fault.Output, h)
 ends-by tickets fault.Memory bytes rest text lost h none = (h, none)
+ends-by tickets fault.Turns bytes rest text lost h none = (h, none)
 
-module _ {R : Type 0} (read : Ghosts R) {S K : Type 0} (tickets : Tickets S K) where
+module _ {R : Type 0} (read : Ghosts R) where
   -- how the first command of a script breaks off
   abbrev pub Starting : Input R read → Input R read → Option (List ℕ) → Option (List ℕ) → List ℕ → List ℕ → ShellFault → Type 0
-  Starting first new a b h k why = (bytes : List ℕ) × (rest : List ℕ) × (text : List ℕ) × Gives read why first new bytes rest × Prints a h text b k × IsBroken tickets why bytes rest text
+  Starting first new a b h k why = (bytes : List ℕ) × (rest : List ℕ) × (text : List ℕ) × Gives read why first new bytes rest × Prints a h text b k × HasNotBegun why bytes rest text
 
   -- no command was read yet
-  pub breaks-first : (first before new : Input R read) (a b : Option (List ℕ)) (h k blank : List ℕ) (blanks : List (List ℕ)) (why : ShellFault) → (why ≡ fault.BadStart → ⊥)
+  pub breaks-first : (first before new : Input R read) (a b : Option (List ℕ)) (h k blank : List ℕ) (blanks : List (List ℕ)) (why : ShellFault) → (why ≡ fault.BadStart → ⊥) → (why ≡ fault.Turns → ⊥)
       → Reads read first blank before → Blank blank blanks → Prints a h [] b k → IfInput why (Stops read (HasNoTurn (λ line behind. ¬ (IsUtf8 line))) before new) → Starting first new a b h k why
-  breaks-first first before new a b h k blank blanks fault.BadStart other p empty q s = absurd (other refl)
-  breaks-first first before new a b h k blank blanks fault.Input other p empty q s = (
+  breaks-first first before new a b h k blank blanks fault.BadStart other apart p empty q s = absurd (other refl)
+  breaks-first first before new a b h k blank blanks fault.Input other apart p empty q s = (
     blank ++ s.0,
     s.1,
     [],
     (starts-then read first before blank s.0 s.1 p s.2, counts-then read first before new blank s.0 p s.3),
     q,
-    inl (record { blanks = blanks; blank = blank; empty = empty; next = s.0; none = s.4; whole = refl }, refl),
+    (record { blanks = blanks; blank = blank; empty = empty; next = s.0; none = s.4; whole = refl }, refl),
   )
-  breaks-first first before new a b h k blank blanks fault.Output other p empty q s = ([], coming read first, [], (starts read first first [] (reads-none read first first refl), tt), q, inl refl)
-  breaks-first first before new a b h k blank blanks fault.Memory other p empty q s = ([], coming read first, [], (starts read first first [] (reads-none read first first refl), tt), q, inl refl)
+  breaks-first first before new a b h k blank blanks fault.Output other apart p empty q s = ([], coming read first, [], (starts read first first [] (reads-none read first first refl), tt), q, refl)
+  breaks-first first before new a b h k blank blanks fault.Memory other apart p empty q s = ([], coming read first, [], (starts read first first [] (reads-none read first first refl), tt), q, refl)
+  breaks-first first before new a b h k blank blanks fault.Turns other apart p empty q s = absurd (apart refl)
 
-  -- the first command, a whole line, opens no table
-  pub rejects-line : (old before mid : Input R read) (u v w : Option (List ℕ)) (held k l left bytes raw line given text : List ℕ) (blanks : List (List ℕ)) (why : ShellFault)
-      → Reads read old bytes before → Prints u held [] v k → Blank bytes blanks
-      → list_any (λ x. x == 10) raw ≡ false → line ≡ strip_last 13 raw → Reads read before (raw ++ 10 ∷ []) mid → Prints v k [] w l
-      → given ≡ line → left ≡ l ++ text → Rejection why given text
+  -- the first command is no first line
+  pub rejects-first : (old mid : Input R read) (u w : Option (List ℕ)) (held l left first line text : List ℕ) (why : ShellFault)
+      → Reads read old first mid → Begins first (IsSpent read mid) line → Prints u held [] w l → left ≡ l ++ text → Rejection why (IsUnknown line) text
       → Starting old mid u w held left why
-  rejects-line old before mid u v w held k l left bytes raw line given text blanks why p q b one stripped s t same e h = (
-    bytes ++ (raw ++ 10 ∷ []),
+  rejects-first old mid u w held l left first line text why p b q e h = (
+    first,
     coming read mid,
     text,
-    (starts-then read old before bytes (raw ++ 10 ∷ []) (coming read mid) p (starts read before mid (raw ++ 10 ∷ []) s), rejected-input why given text (Counts read old (bytes ++ (raw ++ 10 ∷ [])) mid) h),
-    prints-nothing-then u v w held k text left q (prints-nothing-then v w w k l text left t (prints w l text left e)),
-    broken-first tickets why given text (bytes ++ (raw ++ 10 ∷ [])) (coming read mid) h (λ rejected. record {
-      blanks = blanks;
-      blank = bytes;
-      empty = b;
-      line = raw;
-      one = one;
-      first = raw ++ 10 ∷ [];
-      whole = refl;
-      rejected = inl (refl, subst (λ (z : List ℕ). IsRejected z text) (same ∙ stripped) rejected);
-    }),
-  )
-
-  -- or the last one
-  pub rejects-last : (old before mid : Input R read) (u v w : Option (List ℕ)) (held k l left bytes line given text : List ℕ) (blanks : List (List ℕ)) (why : ShellFault)
-      → Reads read old bytes before → Prints u held [] v k → Blank bytes blanks
-      → list_any (λ x. x == 10) line ≡ false → Reads read before line mid → Prints v k [] w l → IsSpent read mid
-      → given ≡ line → left ≡ l ++ text → Rejection why given text
-      → Starting old mid u w held left why
-  rejects-last old before mid u v w held k l left bytes line given text blanks why p q b one s t spent same e h = (
-    bytes ++ line,
-    coming read mid,
-    text,
-    (starts-then read old before bytes line (coming read mid) p (starts read before mid line s), rejected-input why given text (Counts read old (bytes ++ line) mid) h),
-    prints-nothing-then u v w held k text left q (prints-nothing-then v w w k l text left t (prints w l text left e)),
-    broken-first tickets why given text (bytes ++ line) (coming read mid) h (λ rejected. record {
-      blanks = blanks;
-      blank = bytes;
-      empty = b;
-      line = line;
-      one = one;
-      first = line;
-      whole = refl;
-      rejected = inr (inl (refl, spent-rest read mid spent, subst (λ (z : List ℕ). IsRejected z text) same rejected));
-    }),
+    (starts read old mid first p, rejected-input why (IsUnknown line) text (Counts read old first mid) h),
+    prints-nothing-then u w w held l text left q (prints w l text left e),
+    not-begun why (IsUnknown line) first (coming read mid) text h (λ unknown. inl (line, begins-then first line (IsSpent read mid) (coming read mid ≡ []) (spent-rest read mid) b, inl unknown)),
   )
 
   -- or there is none
@@ -307,21 +246,50 @@ module _ {R : Type 0} (read : Ghosts R) {S K : Type 0} (tickets : Tickets S K) w
       tt,
     ),
     prints-nothing-then u v w held k [] l q t,
-    record { blanks = blanks; blank = bytes; empty = b; line = []; one = refl; first = []; whole = sym (append-nil bytes); rejected = inr (inr (refl, spent-rest read mid spent, refl)) },
+    inr ((blanks, b, spent-rest read mid spent), refl),
+  )
+
+module _ {R : Type 0} (read : Ghosts R) {S K : Type 0} (tickets : Tickets S K) where
+  -- how a script breaks off
+  abbrev pub Breaking : Input R read → Input R read → Option (List ℕ) → Option (List ℕ) → List ℕ → ShellFault → Type 0
+  Breaking first new a b left why = (bytes : List ℕ) × (rest : List ℕ) × (text : List ℕ) × Gives read why first new bytes rest × Prints a [] text b left × IsBroken tickets why bytes rest text
+
+  -- before its first command was understood
+  pub breaks-start : (old new : Input R read) (u w : Option (List ℕ)) (held left : List ℕ) (why : ShellFault) → held ≡ [] → Starting read old new u w held left why → Breaking old new u w left why
+  breaks-start old new u w held left why empty s =
+      (s.0, s.1, s.2, s.3, subst (λ (z : List ℕ). Prints u z s.2 w left) empty s.4, broken-first tickets why s.0 s.1 s.2 s.5)
+
+  -- the store of its table cannot be made
+  pub breaks-store : (old mid : Input R read) (u w : Option (List ℕ)) (held left first : List ℕ) → held ≡ [] → Reads read old first mid → Prints u held [] w left → Breaking old mid u w left fault.Memory
+  breaks-store old mid u w held left first empty p q =
+      (first, coming read mid, [], (starts read old mid first p, tt), subst (λ (z : List ℕ). Prints u z [] w left) empty q, inl refl)
+
+  -- the first command opens no table
+  pub rejects-table : (old mid : Input R read) (u w : Option (List ℕ)) (held l left first line text : List ℕ) (opened : Opened) (why : ShellFault) → held ≡ []
+      → Reads read old first mid → Begins first (IsSpent read mid) line → start_in line ≡ Some (Schema opened) → Prints u held [] w l → left ≡ l ++ text → Rejection why (IsRefused opened) text
+      → Breaking old mid u w left why
+  rejects-table old mid u w held l left first line text opened why empty p b asks q e h = (
+    first,
+    coming read mid,
+    text,
+    (starts read old mid first p, rejected-input why (IsRefused opened) text (Counts read old first mid) h),
+    subst (λ (z : List ℕ). Prints u z text w left) empty (prints-nothing-then u w w held l text left q (prints w l text left e)),
+    broken-first tickets why first (coming read mid) text (not-begun why (IsRefused opened) first (coming read mid) text h
+        (λ refused. inl (line, begins-then first line (IsSpent read mid) (coming read mid ≡ []) (spent-rest read mid) b, inr (opened, asks, refused)))),
   )
 
   -- behind the first command
   pub breaks-later : (old mid new : Input R read) (u v w : Option (List ℕ)) (held k left first bytes rest text : List ℕ) (at : At K) (why : ShellFault)
       → held ≡ [] → Reads read old first mid → Prints u held (codes "ok\n") v k → Opens first (IsSpent read mid) at
       → Gives read why mid new bytes rest → Prints v k text w left → BreaksOff tickets at why bytes text
-      → Starting old new u w [] left why
+      → Breaking old new u w left why
   breaks-later old mid new u v w held k left first bytes rest text at why empty p q o g t b = (
     first ++ bytes,
     rest,
     codes "ok\n" ++ text,
     gives-then read old mid new first bytes rest why p g,
     subst (λ (z : List ℕ). Prints u z (codes "ok\n" ++ text) w left) empty (prints-then u v w held (codes "ok\n") k text left q t),
-    broken-later tickets why (first ++ bytes) rest (codes "ok\n" ++ text) (not-bad tickets why at b)
+    broken-later tickets why (first ++ bytes) rest (codes "ok\n" ++ text)
         (record { first = first; at = at; more = bytes; tail = text; opens = opens-then first (IsSpent read mid) (bytes ++ rest ≡ []) at g.0.1 o; breaks = b; whole = refl; said = refl }),
   )
 
@@ -339,8 +307,8 @@ breaks-unwritten tickets splits u v w why bytes rest text left lost begins p b q
     let all = prints-then-nothing u v w [] text left lost p q in
     record { bytes = bytes; rest = rest; begins = begins; text = text; sent = all.0; lost = lost; written = all.1; said = all.2; ends = inr (why, b) }
 
--- a whole script is answered, and then a write fails
-pub whole-unwritten : {S K : Type 0} (tickets : Tickets S K) (splits : List ℕ → List ℕ → Type 0) (u v w : Option (List ℕ)) (script rest text left lost : List ℕ) → splits script rest → Prints u [] text v left → IsScript tickets script text → Prints v left [] w lost
+-- a script is answered, and then a write fails
+pub whole-unwritten : {S K : Type 0} (tickets : Tickets S K) (splits : List ℕ → List ℕ → Type 0) (u v w : Option (List ℕ)) (script rest text left lost : List ℕ) → splits script rest → Prints u [] text v left → IsAnswered tickets script (rest ≡ []) text → Prints v left [] w lost
     → Breaks tickets splits u w fault.Output
 whole-unwritten tickets splits u v w script rest text left lost begins p s q =
     let all = prints-then-nothing u v w [] text left lost p q in

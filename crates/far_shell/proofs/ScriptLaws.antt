@@ -1,19 +1,19 @@
 -- What is answered, one turn after another.
-use Rattle.std.proofs.Common.{◌≡◌, ◌==◌, ◌+◌, ◌-◌, ◌≤◌, ℕ, true, false, ◌⊎◌, inl, inr, List, [], ◌∷◌, ◌++◌, length, Option, append_assoc, append-nil, length-append, ◌∙◌, refl, sym, ap, subst, arith}
+use Rattle.std.proofs.Common.{◌≡◌, ◌==◌, ◌+◌, ◌≤◌, ℕ, true, false, ◌⊎◌, inl, inr, List, [], ◌∷◌, ◌++◌, length, Option, append_assoc, append-nil, length-append, ◌∙◌, refl, sym, ap, subst, arith}
 use Rattle.std.specs.List.{list_any, flat_map}
 use Rattle.std.proofs.lemmas.Grind.{flat_map-append}
 use Rattle.std.specs.declared.io.traits.Read.{Ghosts}
 use Rattle.far_store.specs.declared.store.FarTickets.{Ghosts as Tickets}
 use Rattle.far_script.specs.declared.input.Input.{Input}
 use Rattle.far_script.specs.Flow.{Prints, Reads, unread, IsSpent}
-use Rattle.far_shell.specs.Progress.{At}
-use Rattle.std.specs.Prelude.{codes, IsUtf8}
+use Rattle.far_commands.specs.Progress.{At}
+use Rattle.std.specs.Prelude.{codes}
 use Rattle.std.specs.Io.BufRead.{strip_last}
-use Rattle.far_shell.specs.Commands.{command_of}
-use Rattle.far_shell.specs.Replies.{ServesLine}
+use Rattle.far_commands.specs.Replies.{AnswersLine}
 use Rattle.far_script.specs.Lines.{Blank, without_return}
-use Rattle.far_shell.specs.Scripts.{Turn, bytes_of, text_of, IsTurn, AreTurns, Answers, AnswersLine, Ends, Opens, IsOpenedBy, IsScript}
-use Rattle.far_script.proofs.FlowLaws.{no-first, no-rest, prints, prints-nothing-then, prints-then, prints-then-nothing, reads-then, spent-nothing}
+use Rattle.far_shell.specs.Sessions.{IsAnswered}
+use Rattle.far_shell.specs.Scripts.{Turn, bytes_of, text_of, IsTurn, AreTurns, Answers, Begins, Ends, Opens}
+use Rattle.far_script.proofs.FlowLaws.{no-first, no-rest, prints-nothing-then, prints-then, prints-then-nothing, reads-then, spent-nothing}
 
 all-more : (f : Turn → List ℕ) (turns : List Turn) (turn : Turn) (whole : List ℕ) → whole ≡ flat_map f turns → whole ++ f turn ≡ flat_map f (turns ++ turn ∷ [])
 all-more f turns turn whole e = ap (λ (t : List ℕ). t ++ f turn) e ∙ ap (λ (t : List ℕ). flat_map f turns ++ t) (sym (append-nil (f turn))) ∙ sym (flat_map-append f turns (turn ∷ []))
@@ -29,15 +29,6 @@ module _ {S K : Type 0} (tickets : Tickets S K) where
 
   pub answers-more : (old mid new : At K) (bytes text : List ℕ) (turn : Turn) → Answers tickets old bytes text mid → IsTurn tickets mid turn new → Answers tickets old (bytes ++ bytes_of turn) (text ++ text_of turn) new
   answers-more old mid new bytes text turn h k = (h.0 ++ turn ∷ [], all-more bytes_of h.0 turn bytes h.1, all-more text_of h.0 turn text h.2, turns-more old mid new h.0 turn h.3 k)
-
-  -- a line that has a byte
-  pub answers-command : (old new : At K) (line rows text : List ℕ) → (length line ≡ 0 → ⊥) → IsUtf8 line → new.number ≡ old.number + 1
-      → ServesLine tickets new.number old.world (command_of old.world.state.table.schema line) rows text new.world → AnswersLine tickets old line rows text new
-  answers-command old new [] rows text some utf8 number serves = absurd (some refl)
-  answers-command old new (c ∷ cs) rows text some utf8 number serves = (utf8, number, serves)
-
-  pub answers-empty : (at : At K) (line : List ℕ) → line ≡ [] → AnswersLine tickets at line [] [] at
-  answers-empty at line e = rw e (refl, refl, refl)
 
 one-more : (rows : List ℕ) → length (10 ∷ rows) ≡ length rows + 1
 one-more rows = omega arith
@@ -92,24 +83,19 @@ either : {A B C D : Type 0} → (A → B) → (C → D) → A ⊎ C → B ⊎ D
 either f g (inl x) = inl (f x)
 either f g (inr y) = inr (g y)
 
-pub opens-then : {K : Type 0} (bytes : List ℕ) (P Q : Type 0) (at : At K) → (P → Q) → Opens bytes P at → Opens bytes Q at
-opens-then bytes P Q at f o = record {
-  blanks = o.blanks;
-  blank = o.blank;
-  empty = o.empty;
-  line = o.line;
-  one = o.one;
-  opens = either (λ x. x) (λ y. (y.0, y.1, f y.2)) o.opens;
+pub begins-then : (bytes line : List ℕ) (P Q : Type 0) → (P → Q) → Begins bytes P line → Begins bytes Q line
+begins-then bytes line P Q f b = record {
+  blanks = b.blanks;
+  blank = b.blank;
+  empty = b.empty;
+  raw = b.raw;
+  one = b.one;
+  some = b.some;
+  is = either (λ x. x) (λ y. (y.0, y.1, f y.2)) b.is;
 }
 
-opened-number : {K : Type 0} (bytes blank line : List ℕ) (P : Type 0) (at : At K)
-    → ((bytes ≡ blank ++ line ++ 10 ∷ []) × IsOpenedBy (without_return line) at) ⊎ ((bytes ≡ blank ++ line) × IsOpenedBy line at × P) → at.number ≡ 1
-opened-number bytes blank line P at (inl h) = h.1.3
-opened-number bytes blank line P at (inr h) = h.1.3
-
--- the number of the last command
-pub first-number : {K : Type 0} (bytes : List ℕ) (P : Type 0) (at : At K) → Opens bytes P at → at.number ≡ 1
-first-number bytes P at o = opened-number bytes o.blank o.line P at o.opens
+pub opens-then : {K : Type 0} (bytes : List ℕ) (P Q : Type 0) (at : At K) → (P → Q) → Opens bytes P at → Opens bytes Q at
+opens-then bytes P Q at f o = (o.0, o.1, begins-then bytes o.0 P Q f o.2, o.3, o.4)
 
 pub next-number : {S K : Type 0} (tickets : Tickets S K) (old new : At K) (line rows text : List ℕ) → AnswersLine tickets old line rows text new → new.number ≤ old.number + 1
 next-number tickets old new [] rows text h = let same = ap (λ at. at.number) h.2 in omega (arith, same)
@@ -120,39 +106,34 @@ module _ {R : Type 0} (read : Ghosts R) {S K : Type 0} (tickets : Tickets S K) w
   pub script-whole : (old mid new : Input R read) (first rest text : List ℕ) (u v w : Option (List ℕ)) (held k left : List ℕ) (at : At K) → held ≡ []
       → Reads read old first mid → Prints u held (codes "ok\n") v k → Opens first (IsSpent read mid) at
       → Reads read mid rest new → Prints v k text w left → Ends tickets at rest text → IsSpent read new
-      → (script : List ℕ) × (said : List ℕ) × Reads read old script new × Prints u [] said w left × IsScript tickets script said × IsSpent read new
+      → (script : List ℕ) × (said : List ℕ) × Reads read old script new × Prints u [] said w left × IsAnswered tickets script (IsSpent read new) said
   script-whole old mid new first rest text u v w held k left at empty r1 p1 o r2 p2 e spent = (
     first ++ rest,
     codes "ok\n" ++ text,
     reads-then read old mid new first rest r1 r2,
     subst (λ (t : List ℕ). Prints u t (codes "ok\n" ++ text) w left) empty (prints-then u v w held (codes "ok\n") k text left p1 p2),
-    record { first = first; rest = rest; tail = text; at = at; opens = opens-then first (IsSpent read mid) (rest ≡ []) at (λ s. spent-nothing read mid new rest s r2) o; ends = e; whole = refl; said = refl },
-    spent,
+    inl (record { first = first; rest = rest; tail = text; at = at; opens = opens-then first (IsSpent read mid) (rest ≡ []) at (λ s. spent-nothing read mid new rest s r2) o; ends = e; whole = refl; said = refl }, spent),
   )
 
-module _ {R : Type 0} (read : Ghosts R) {K : Type 0} where
+module _ {R : Type 0} (read : Ghosts R) where
   -- the first command, a whole line
-  pub opens-line : (old before mid : Input R read) (u v w : Option (List ℕ)) (held k l left bytes raw line text : List ℕ) (blanks : List (List ℕ)) (at : At K)
-      → Reads read old bytes before → Prints u held [] v k → Blank bytes blanks
-      → list_any (λ x. x == 10) raw ≡ false → line ≡ strip_last 13 raw → Reads read before (raw ++ 10 ∷ []) mid → Prints v k [] w l
-      → text ≡ line → IsOpenedBy text at → left ≡ l ++ codes "ok\n"
-      → (first : List ℕ) × Reads read old first mid × Prints u held (codes "ok\n") w left × Opens first (IsSpent read mid) at
-  opens-line old before mid u v w held k l left bytes raw line text blanks at p q b one stripped s t same o e = (
+  pub begins-line : (old before mid : Input R read) (bytes raw line text : List ℕ) (blanks : List (List ℕ))
+      → Reads read old bytes before → Blank bytes blanks → list_any (λ x. x == 10) raw ≡ false → line ≡ strip_last 13 raw → Reads read before (raw ++ 10 ∷ []) mid
+      → text ≡ line → (length line ≡ 0 → ⊥)
+      → (first : List ℕ) × Reads read old first mid × Begins first (IsSpent read mid) text
+  begins-line old before mid bytes raw line text blanks p b one stripped s same some = (
     bytes ++ (raw ++ 10 ∷ []),
     reads-then read old before mid bytes (raw ++ 10 ∷ []) p s,
-    prints-nothing-then u v w held k (codes "ok\n") left q (prints-nothing-then v w w k l (codes "ok\n") left t (prints w l (codes "ok\n") left e)),
-    record { blanks = blanks; blank = bytes; empty = b; line = raw; one = one; opens = inl (sym (append_assoc bytes raw (10 ∷ [])), subst (λ (z : List ℕ). IsOpenedBy z at) (same ∙ stripped) o) },
+    record { blanks = blanks; blank = bytes; empty = b; raw = raw; one = one; some = λ none. some (ap (λ (t : List ℕ). length t) (sym same ∙ none)); is = inl (refl, same ∙ stripped) },
   )
 
   -- or the last one
-  pub opens-last : (old before mid : Input R read) (u v w : Option (List ℕ)) (held k l left bytes line text : List ℕ) (blanks : List (List ℕ)) (at : At K)
-      → Reads read old bytes before → Prints u held [] v k → Blank bytes blanks
-      → list_any (λ x. x == 10) line ≡ false → Reads read before line mid → Prints v k [] w l → IsSpent read mid
-      → text ≡ line → IsOpenedBy text at → left ≡ l ++ codes "ok\n"
-      → (first : List ℕ) × Reads read old first mid × Prints u held (codes "ok\n") w left × Opens first (IsSpent read mid) at
-  opens-last old before mid u v w held k l left bytes line text blanks at p q b one s t spent same o e = (
+  pub begins-last : (old before mid : Input R read) (bytes line text : List ℕ) (blanks : List (List ℕ))
+      → Reads read old bytes before → Blank bytes blanks → list_any (λ x. x == 10) line ≡ false → Reads read before line mid → IsSpent read mid
+      → text ≡ line → (length line ≡ 0 → ⊥)
+      → (first : List ℕ) × Reads read old first mid × Begins first (IsSpent read mid) text
+  begins-last old before mid bytes line text blanks p b one s spent same some = (
     bytes ++ line,
     reads-then read old before mid bytes line p s,
-    prints-nothing-then u v w held k (codes "ok\n") left q (prints-nothing-then v w w k l (codes "ok\n") left t (prints w l (codes "ok\n") left e)),
-    record { blanks = blanks; blank = bytes; empty = b; line = line; one = one; opens = inr (refl, subst (λ (z : List ℕ). IsOpenedBy z at) same o, spent) },
+    record { blanks = blanks; blank = bytes; empty = b; raw = line; one = one; some = λ none. some (ap (λ (t : List ℕ). length t) (sym same ∙ none)); is = inr (refl, same, spent) },
   )

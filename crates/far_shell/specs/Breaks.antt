@@ -1,79 +1,51 @@
 -- What was printed of a script that a fault ends early.
-use Rattle.std.specs.Prelude.{◌≡◌, ◌⊎◌, ◌<◌, ℕ, List, [], ◌∷◌, ◌++◌, length, take, Option, None, Some, IsUtf8, codes}
+use Rattle.std.specs.Prelude.{◌≡◌, ◌⊎◌, ℕ, List, [], ◌∷◌, ◌++◌, Option, None, Some, IsUtf8, codes}
 use Rattle.std.specs.Io.KnownBytes.{Appends}
-use Rattle.far_types.specs.declared.cell.Kind.{Kind}
 use Rattle.far_types.specs.declared.refusal.Refusal.TheVariants as refusal
 use Rattle.far_types.specs.Bounds.{IsSchema, AreLimits}
 use Rattle.far_store.specs.declared.store.FarTickets.{Ghosts as Tickets}
 use Rattle.far_script.specs.declared.fault.ShellFault.{ShellFault}
 use Rattle.far_script.specs.declared.fault.ShellFault.TheVariants as fault
-use Rattle.far_shell.specs.declared.command.Command.{Command}
-use Rattle.far_shell.specs.declared.command.Command.TheVariants as command
-use Rattle.far_frame.specs.State.{live}
-use Rattle.far_shell.specs.Commands.{command_of}
-use Rattle.far_script.specs.Flow.{Prints}
-use Rattle.far_shell.specs.Listings.{listing_of}
-use Rattle.far_script.specs.Openings.{Opened, opening_of}
+use Rattle.far_commands.specs.Cuts.{Fails, IsFront, Lists}
+use Rattle.far_script.specs.Openings.{Opened, Schema, start_in}
 use Rattle.far_script.specs.Printing.{refusal_text}
-use Rattle.far_shell.specs.Progress.{At}
+use Rattle.far_commands.specs.Progress.{At}
 use Rattle.far_script.specs.Lines.{Blank, IsOneLine, without_return}
-use Rattle.far_shell.specs.Scripts.{Answers, IsScript, Opens}
-
--- a front of an answer; it may be empty
-abbrev pub IsFront : (List ℕ → Type 0) → List ℕ → Type 0
-IsFront answer text = (text ≡ []) ⊎ ((rest : List ℕ) × answer (text ++ rest))
-
--- what is printed of the answer that a fault ends: nothing where the input is at fault
-abbrev pub CutOff : ShellFault → (List ℕ → Type 0) → List ℕ → Type 0
-CutOff fault.BadStart answer text = ⊥
-CutOff fault.Input answer text = text ≡ []
-CutOff fault.Output answer text = IsFront answer text
-CutOff fault.Memory answer text = IsFront answer text
-
--- a fault comes, and of an answer a front is printed
-abbrev pub PrintsCut : ShellFault → (List ℕ → Type 0) → Option (List ℕ) → List ℕ → Option (List ℕ) → List ℕ → Type 0
-PrintsCut why answer old held new left = (text : List ℕ) × Prints old held text new left × CutOff why answer text
-
--- a load whose bytes did not all come, or are no text
-abbrev pub FailsBy : Option Command → List ℕ → Type 0
-FailsBy asked behind = (count : ℕ) × (asked ≡ Some (command.Load count)) × ((length behind < count) ⊎ ¬ (IsUtf8 (take count behind)))
-
--- a line that cannot be answered with the bytes behind it: it is no text, or such a load
-abbrev pub Fails : List Kind → List ℕ → List ℕ → Type 0
-Fails kinds line behind = ¬ (IsUtf8 line) ⊎ FailsBy (command_of kinds line) behind
+use Rattle.far_shell.specs.Scripts.{Answers, Begins, Opens}
+use Rattle.far_shell.specs.Sessions.{AsksSessions, IsAnswered}
 
 -- bytes that begin with no line that can be answered: none has its end, or the first is at fault
 abbrev pub HasNoTurn : (List ℕ → List ℕ → Type 0) → List ℕ → Type 0
 HasNoTurn fails bytes = IsOneLine bytes
     ⊎ ((line : List ℕ) × (behind : List ℕ) × IsOneLine line × (bytes ≡ line ++ 10 ∷ behind) × fails (without_return line) behind)
 
--- a line opens no table, and this is printed for it
+-- a line is no first line, and this is printed for it
+abbrev pub IsUnknown : List ℕ → List ℕ → Type 0
+IsUnknown line text = (start_in line ≡ None) × (text ≡ codes "syntax command 1\n")
+
+-- a table of these columns and limits may not be, and this is printed for it
+abbrev pub IsRefused : Opened → List ℕ → Type 0
+IsRefused opened text = ¬ (IsSchema opened.0 × AreLimits opened.1) × (text ≡ refusal_text refusal.BadSchema)
+
+-- a line opens no table and asks for no sessions, and this is printed for it
 abbrev pub IsRejected : List ℕ → List ℕ → Type 0
-IsRejected line text = ((opening_of line ≡ None) × (text ≡ codes "syntax command 1\n"))
-    ⊎ ((opened : Opened) × (opening_of line ≡ Some opened) × ¬ (IsSchema opened.0 × AreLimits opened.1) × (text ≡ refusal_text refusal.BadSchema))
+IsRejected line text = IsUnknown line text ⊎ ((opened : Opened) × (start_in line ≡ Some (Schema opened)) × IsRefused opened text)
 
--- what a fault has printed for a first line
-abbrev pub Rejection : ShellFault → List ℕ → List ℕ → Type 0
-Rejection fault.BadStart line text = IsRejected line text
-Rejection fault.Input line text = ⊥
-Rejection fault.Output line text = ⊥
-Rejection fault.Memory line text = text ≡ []
+-- what a fault has printed for a first line: why, where the line is at fault
+abbrev pub Rejection : ShellFault → (List ℕ → Type 0) → List ℕ → Type 0
+Rejection fault.BadStart why text = why text
+Rejection fault.Input why text = ⊥
+Rejection fault.Output why text = ⊥
+Rejection fault.Memory why text = text ≡ []
+Rejection fault.Turns why text = ⊥
 
--- a first line is rejected; it may lack its end only where nothing comes behind it. Or there is no command at all
-abbrev pub RejectsLine : List ℕ → List ℕ → Type 0 → List ℕ → Type 0
-RejectsLine line bytes spent text = ((bytes ≡ line ++ 10 ∷ []) × IsRejected (without_return line) text) ⊎ ((bytes ≡ line) × spent × IsRejected line text)
-    ⊎ ((bytes ≡ []) × spent × (text ≡ []))
+-- a script has no command
+abbrev pub HasNoCommand : List ℕ → Type 0 → Type 0
+HasNoCommand bytes spent = (blanks : List (List ℕ)) × Blank bytes blanks × spent
 
--- the first command of a script opens no table
-pub record Rejects (bytes : List ℕ) (spent : Type 0) (text : List ℕ) : Type 0 where
-  pub blanks : List (List ℕ)
-  pub blank : List ℕ
-  pub empty : Blank blank blanks
-  pub line : List ℕ
-  pub one : IsOneLine line
-  pub first : List ℕ
-  pub rejected : RejectsLine line first spent text
-  pub whole : bytes ≡ blank ++ first
+-- the first command of a script is at fault, or there is none
+abbrev pub Rejects : List ℕ → Type 0 → List ℕ → Type 0
+Rejects bytes spent text = ((line : List ℕ) × Begins bytes spent line × IsRejected line text) ⊎ (HasNoCommand bytes spent × (text ≡ []))
 
 -- no first command came: behind empty lines none has its end, or the first is no text
 pub record HasNoStart (bytes : List ℕ) : Type 0 where
@@ -84,11 +56,15 @@ pub record HasNoStart (bytes : List ℕ) : Type 0 where
   pub none : HasNoTurn (λ line behind. ¬ (IsUtf8 line)) next
   pub whole : bytes ≡ blank ++ next
 
-module _ {K : Type 0} where
-  -- a line asks for a dump, and this is what is listed
-  abbrev pub Lists : At K → List ℕ → List ℕ → Type 0
-  Lists at line text = (command_of at.world.state.table.schema line ≡ Some command.Dump) × (text ≡ listing_of (live at.world.state))
+-- a fault comes before any first command was understood, and this is printed
+abbrev pub HasNotBegun : ShellFault → List ℕ → List ℕ → List ℕ → Type 0
+HasNotBegun fault.BadStart bytes rest text = Rejects bytes (rest ≡ []) text
+HasNotBegun fault.Input bytes rest text = HasNoStart bytes × (text ≡ [])
+HasNotBegun fault.Output bytes rest text = text ≡ []
+HasNotBegun fault.Memory bytes rest text = text ≡ []
+HasNotBegun fault.Turns bytes rest text = ⊥
 
+module _ {K : Type 0} where
   -- the same of a line that may have lost a carriage return
   abbrev pub ListsNext : At K → List ℕ → List ℕ → Type 0
   ListsNext at bytes text = Lists at bytes text ⊎ Lists at (without_return bytes) text
@@ -100,6 +76,7 @@ module _ {K : Type 0} where
   BreaksIn fault.Input at next front = (front ≡ []) × HasNoTurn (Fails at.world.state.table.schema) next
   BreaksIn fault.Output at next front = IsOneLine next × IsFront (ListsNext at next) front
   BreaksIn fault.Memory at next front = IsOneLine next × IsFront (ListsNext at next) front
+  BreaksIn fault.Turns at next front = ⊥
 
 module _ {S K : Type 0} (tickets : Tickets S K) where
   -- behind the first command a script breaks off: whole lines are answered, and then no more
@@ -127,17 +104,19 @@ module _ {S K : Type 0} (tickets : Tickets S K) where
 
   -- what these first bytes of a script, with the rest behind them, are answered up to a fault
   abbrev pub IsBroken : ShellFault → List ℕ → List ℕ → List ℕ → Type 0
-  IsBroken fault.BadStart bytes rest text = Rejects bytes (rest ≡ []) text
-  IsBroken fault.Input bytes rest text = (HasNoStart bytes × (text ≡ [])) ⊎ BreaksLater fault.Input bytes rest text
-  IsBroken fault.Output bytes rest text = (text ≡ []) ⊎ BreaksLater fault.Output bytes rest text
-  IsBroken fault.Memory bytes rest text = (text ≡ []) ⊎ BreaksLater fault.Memory bytes rest text
+  IsBroken fault.BadStart bytes rest text = HasNotBegun fault.BadStart bytes rest text
+  IsBroken fault.Input bytes rest text = HasNotBegun fault.Input bytes rest text ⊎ BreaksLater fault.Input bytes rest text
+  IsBroken fault.Output bytes rest text = HasNotBegun fault.Output bytes rest text ⊎ BreaksLater fault.Output bytes rest text
+  IsBroken fault.Memory bytes rest text = HasNotBegun fault.Memory bytes rest text ⊎ BreaksLater fault.Memory bytes rest text
+  IsBroken fault.Turns bytes rest text = (text ≡ []) × ((sessions : ℕ) × (edits : ℕ) × AsksSessions bytes (rest ≡ []) sessions edits)
 
   -- the same, with what the writer did not take: all was written, unless the fault is the writer's
   abbrev pub EndsBy : ShellFault → List ℕ → List ℕ → List ℕ → List ℕ → Type 0
   EndsBy fault.BadStart bytes rest text lost = IsBroken fault.BadStart bytes rest text × (lost ≡ [])
   EndsBy fault.Input bytes rest text lost = IsBroken fault.Input bytes rest text × (lost ≡ [])
   EndsBy fault.Memory bytes rest text lost = IsBroken fault.Memory bytes rest text × (lost ≡ [])
-  EndsBy fault.Output bytes rest text lost = IsScript tickets bytes text ⊎ ((why : ShellFault) × IsBroken why bytes rest text)
+  EndsBy fault.Turns bytes rest text lost = IsBroken fault.Turns bytes rest text × (lost ≡ [])
+  EndsBy fault.Output bytes rest text lost = IsAnswered tickets bytes (rest ≡ []) text ⊎ ((why : ShellFault) × IsBroken why bytes rest text)
 
   -- a script ends early: of what its first bytes are answered a front was written. How it is split is told by the first
   -- argument

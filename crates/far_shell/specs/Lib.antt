@@ -1,9 +1,3 @@
-pub mod Commands
-pub mod Recounts
-pub mod Renewals
-pub mod Replies
 pub mod Scripts
+pub mod Sessions
 pub mod Breaks
-pub mod Listings
-pub mod Pieces
-pub mod Progress

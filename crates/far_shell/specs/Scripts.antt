@@ -1,15 +1,12 @@
 -- What the lines of a script are answered, and a whole script.
-use Rattle.std.specs.Prelude.{◌≡◌, ◌⊎◌, ℕ, ◌+◌, List, [], ◌∷◌, ◌++◌, Some, codes, IsUtf8}
+use Rattle.std.specs.Prelude.{◌≡◌, ◌⊎◌, ℕ, List, [], ◌∷◌, ◌++◌, Some, codes}
 use Rattle.std.specs.List.{flat_map}
-use Rattle.far_types.specs.Bounds.{IsSchema, AreLimits}
 use Rattle.far_store.specs.declared.store.FarTickets.{Ghosts as Tickets}
-use Rattle.far_frame.specs.State.{empty_state}
-use Rattle.far_frame.specs.Worlds.{World}
 use Rattle.far_script.specs.Lines.{Blank, IsOneLine, without_return}
-use Rattle.far_script.specs.Openings.{Opened, opening_of}
-use Rattle.far_shell.specs.Commands.{command_of}
-use Rattle.far_shell.specs.Progress.{At}
-use Rattle.far_shell.specs.Replies.{ServesLine}
+use Rattle.far_script.specs.Openings.{Opened, Schema, start_in}
+use Rattle.far_commands.specs.Progress.{At}
+use Rattle.far_commands.specs.Replies.{AnswersLine}
+use Rattle.far_commands.specs.Tables.{IsEmpty}
 
 -- one line of a script without its line feed, the bytes behind it that belong to it, and what is printed for it
 pub record Turn : Type 0 where
@@ -24,40 +21,30 @@ bytes_of turn = turn.line ++ 10 ∷ turn.rows
 abbrev pub text_of : Turn → List ℕ
 text_of turn = turn.text
 
+-- the first command of a script is this line: empty lines stand before it, and it has a byte. It may lack its end only where nothing comes
+-- behind it
+pub record Begins (bytes : List ℕ) (spent : Type 0) (line : List ℕ) : Type 0 where
+  pub blanks : List (List ℕ)
+  pub blank : List ℕ
+  pub empty : Blank blank blanks
+  pub raw : List ℕ
+  pub one : IsOneLine raw
+  pub some : ¬ (line ≡ [])
+  pub is : ((bytes ≡ blank ++ (raw ++ 10 ∷ [])) × (line ≡ without_return raw)) ⊎ ((bytes ≡ blank ++ raw) × (line ≡ raw) × spent)
+
 module _ {K : Type 0} where
-  -- an empty table of these columns and limits, which are what a table may have. No job was begun and no fault was met yet
-  pub record IsEmpty (opened : Opened) (world : World K) : Type 0 where
-    pub schema : IsSchema opened.0
-    pub limits : AreLimits opened.1
-    pub state : world.state ≡ empty_state opened.0 opened.1 0
-    pub begun : world.begun ≡ 0
-    pub jobs : world.jobs ≡ []
-    pub faults : world.faults ≡ 0
+  -- a script stands behind its first command, which opened an empty table
+  abbrev pub IsNew : Opened → At K → Type 0
+  IsNew opened at = IsEmpty opened at.world × (at.number ≡ 1)
 
-  -- a line opens an empty table of its columns and limits
-  abbrev pub IsOpenedBy : List ℕ → At K → Type 0
-  IsOpenedBy line at = (opened : Opened) × (opening_of line ≡ Some opened) × IsEmpty opened at.world × (at.number ≡ 1)
-
-  -- the first command of a script opens a table; it may lack its end only where nothing comes behind it
-  pub record Opens (bytes : List ℕ) (spent : Type 0) (at : At K) : Type 0 where
-    pub blanks : List (List ℕ)
-    pub blank : List ℕ
-    pub empty : Blank blank blanks
-    pub line : List ℕ
-    pub one : IsOneLine line
-    pub opens : ((bytes ≡ blank ++ line ++ 10 ∷ []) × IsOpenedBy (without_return line) at) ⊎ ((bytes ≡ blank ++ line) × IsOpenedBy line at × spent)
+  -- the first command of a script opens an empty table of its columns and limits
+  abbrev pub Opens : List ℕ → Type 0 → At K → Type 0
+  Opens bytes spent at = (line : List ℕ) × (opened : Opened) × Begins bytes spent line × (start_in line ≡ Some (Schema opened)) × IsNew opened at
 
 module _ {S K : Type 0} (tickets : Tickets S K) where
-  -- an empty line is no command; any other is text, and the next command
-  abbrev pub AnswersLine : At K → List ℕ → List ℕ → List ℕ → At K → Type 0
-  AnswersLine old [] rows text new = (rows ≡ []) × (text ≡ []) × (new ≡ old)
-  AnswersLine old (c ∷ cs) rows text new =
-      IsUtf8 (c ∷ cs) × (new.number ≡ old.number + 1)
-      × ServesLine tickets new.number old.world (command_of old.world.state.table.schema (c ∷ cs)) rows text new.world
-
   -- one turn
   abbrev pub IsTurn : At K → Turn → At K → Type 0
-  IsTurn old turn new = IsOneLine turn.line × AnswersLine old (without_return turn.line) turn.rows turn.text new
+  IsTurn old turn new = IsOneLine turn.line × AnswersLine tickets old (without_return turn.line) turn.rows turn.text new
 
   -- turns follow one another
   abbrev pub AreTurns : At K → List Turn → At K → Type 0
@@ -78,7 +65,7 @@ module _ {S K : Type 0} (tickets : Tickets S K) where
     pub line : IsOneLine last
     pub tail : List ℕ
     pub new : At K
-    pub answers : AnswersLine mid last [] tail new
+    pub answers : AnswersLine tickets mid last [] tail new
     pub whole : script ≡ bytes ++ last
     pub said : text ≡ printed ++ tail
 

@@ -189,3 +189,19 @@ fn each_line_is_answered_before_the_next_is_read(rt: HostRuntime) {
     let outcome = run_script(&rt, user, &mut screen);
     assert!(rt; outcome == Ok(()));
 }
+
+/// What one session leaves with one edit.
+const ONE_EDIT: &[u8] = b"session 0 gauge 1 1 1\ncount 1 sum 1\n";
+
+#[test]
+fn nothing_is_read_behind_sessions(rt: HostRuntime) {
+    let source = Source {
+        first: b"threads 1 1\n",
+        more: 100,
+        at_a_time: 12,
+        fails_in: 2,
+    };
+    let mut given = Vec::new(rt.alloc());
+    assert!(rt; run_script(&rt, source, &mut given) == Ok(()));
+    assert!(rt; given.as_slice() == ONE_EDIT);
+}

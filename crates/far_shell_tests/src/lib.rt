@@ -7,3 +7,5 @@ mod ends;
 mod lent;
 #[cfg(test)]
 mod random;
+#[cfg(test)]
+mod sessions;

@@ -74,7 +74,7 @@ fn ends<R: AllocGlobal + Sync + Threads + Wait>(rt: &R, script: &[u8]) -> bool {
     let mut given = Vec::new(rt.alloc());
     match run_script(rt, script, &mut given) {
         Ok(()) | Err(ShellFault::BadStart | ShellFault::Input) => true,
-        Err(ShellFault::Output | ShellFault::Memory) => false,
+        Err(ShellFault::Output | ShellFault::Memory | ShellFault::Turns) => false,
     }
 }
 

@@ -1,8 +1,9 @@
 #![tactic(auto)]
 //! Runs a script: reads it from standard input, and writes its replies to standard output.
 //!
-//! The exit status is 0 at the end of the script, refusals included; 2 where its first command opens no table; 3 where a
-//! read or a write fails, or the script is too long or no UTF-8; 4 where memory is refused.
+//! The exit status is 0 at the end of the script, refusals included; 2 where its first command opens no table and asks for no sessions;
+//! 3 where a read or a write fails, or the script is too long or no UTF-8; 4 where memory is refused; 5 where sessions give up on an
+//! edit.
 
 use far_shell::run_script;
 use std::io;

@@ -45,6 +45,7 @@ impl<R: Read + Drop> Input<R> {
     ) -> Result<Option<usize>, ShellFault>
         ensures read { OnOk result (Reads R.Read self.old [] self.new) }
         ensures fault { IfErr result (λ fault. fault ≢ ShellFault.BadStart) }
+        ensures turns { IfErr result (λ fault. fault ≢ ShellFault.Turns) }
         ensures stopped { IfErr result (λ fault. IfInput fault (Stops R.Read IsOneLine self.old self.new)) }
         ensures asked { self.new.source.reads ≤ self.old.source.reads }
         ensures printed { Prints (W.contents writer.old) output.old.page [] (W.contents writer.new) output.new.page }
@@ -89,6 +90,7 @@ impl<R: Read + Drop> Input<R> {
     ) -> Result<Line, ShellFault>
         ensures line { IfOk result (λ line. Holds R.Read self.new (span_of R.Read line) × TakesLine R.Read self.old line self.new) }
         ensures fault { IfErr result (λ fault. fault ≢ ShellFault.BadStart) }
+        ensures turns { IfErr result (λ fault. fault ≢ ShellFault.Turns) }
         ensures stopped { IfErr result (λ fault. IfInput fault (Stops R.Read IsOneLine self.old self.new)) }
         ensures asked { self.new.source.reads ≤ self.old.source.reads }
         ensures printed { Prints (W.contents writer.old) output.old.page [] (W.contents writer.new) output.new.page }
@@ -115,6 +117,7 @@ impl<R: Read + Drop> Input<R> {
     ) -> Result<Span, ShellFault>
         ensures span { IfOk result (λ span. Holds R.Read self.new span × (length (spanned R.Read self.new span) ≡ count) × Reads R.Read self.old (spanned R.Read self.new span) self.new) }
         ensures fault { IfErr result (λ fault. fault ≢ ShellFault.BadStart) }
+        ensures turns { IfErr result (λ fault. fault ≢ ShellFault.Turns) }
         ensures stopped { IfErr result (λ fault. IfInput fault (Stops R.Read (λ bytes. length bytes < count) self.old self.new)) }
         ensures asked { self.new.source.reads ≤ self.old.source.reads }
         ensures printed { Prints (W.contents writer.old) output.old.page [] (W.contents writer.new) output.new.page }

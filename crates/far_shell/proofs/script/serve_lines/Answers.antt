@@ -42,7 +42,7 @@ returns-in_err-line-clause-err g c =
     let i = c.loop-turn.invariant in
     let printed = prints-then-nothing (g.W.Write.contents c.args.writer.now) (g.W.Write.contents c.loop-turn.writer) (g.W.Write.contents c.line.new.writer) c.args.output.now.page i.1 c.loop-turn.output.page c.line.new.output.page i.3 c.in_err-line.ensures.printed in
     handed-on c.from_residual.result c.in_err-line.field-0.0 _ c.from_residual.ensures.1
-    (breaks-between g.R.Read g.S.FarTickets c.args.input.now c.loop-turn.input c.line.new.self (g.W.Write.contents c.args.writer.now) (g.W.Write.contents c.line.new.writer) c.args.output.now.page c.line.new.output.page c.args.progress.now c.loop-turn.progress i.0 i.1 c.in_err-line.field-0.0 c.in_err-line.ensures.fault i.2 printed i.4 c.in_err-line.ensures.stopped)
+    (breaks-between g.R.Read g.S.FarTickets c.args.input.now c.loop-turn.input c.line.new.self (g.W.Write.contents c.args.writer.now) (g.W.Write.contents c.line.new.writer) c.args.output.now.page c.line.new.output.page c.args.progress.now c.loop-turn.progress i.0 i.1 c.in_err-line.field-0.0 c.in_err-line.ensures.fault c.in_err-line.ensures.turns i.2 printed i.4 c.in_err-line.ensures.stopped)
 
 pub returns-in_err-answer_line-in-Whole-clause-err : goal.returns-in_err-answer_line-in-Whole-clause-err
 returns-in_err-answer_line-in-Whole-clause-err g c =
@@ -71,7 +71,7 @@ returns-in_err-flush_if_full-clause-err g c =
     c.args.progress.now c.loop-turn.progress c.answer_line.new.progress _ t.1.0 a.0 a.1 i.0 i.1 c.flush_if_full.new.self.page (g.W.Write.contents c.flush_if_full.new.writer)
     i.2 i.3 i.4 t.1.1 t.1.2 t.1.3 c.in_ok-line.ensures.printed a.2 a.3 a.4 c.in_err-flush_if_full.ensures.printed in
     handed-on c.from_residual-in_err-flush_if_full.result fault.Output _ (rw c.in_err-flush_if_full.ensures.fault at c.from_residual-in_err-flush_if_full.ensures.1)
-    (breaks-between g.R.Read g.S.FarTickets c.args.input.now c.answer_line.new.input c.answer_line.new.input (g.W.Write.contents c.args.writer.now) (g.W.Write.contents c.flush_if_full.new.writer) c.args.output.now.page c.flush_if_full.new.self.page c.args.progress.now c.answer_line.new.progress m.0 m.1 fault.Output (λ e. cc e) m.2 m.3 m.4 tt)
+    (breaks-between g.R.Read g.S.FarTickets c.args.input.now c.answer_line.new.input c.answer_line.new.input (g.W.Write.contents c.args.writer.now) (g.W.Write.contents c.flush_if_full.new.writer) c.args.output.now.page c.flush_if_full.new.self.page c.args.progress.now c.answer_line.new.progress m.0 m.1 fault.Output (λ e. cc e) (λ e. cc e) m.2 m.3 m.4 tt)
 
 pub returns-clause-err : goal.returns-clause-err
 returns-clause-err g c =

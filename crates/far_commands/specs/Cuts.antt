@@ -1,0 +1,40 @@
+-- What is printed of an answer that a fault ends, and which lines cannot be answered.
+use Rattle.std.specs.Prelude.{◌≡◌, ◌⊎◌, ◌<◌, ℕ, List, [], ◌++◌, length, take, Option, Some, IsUtf8}
+use Rattle.far_types.specs.declared.cell.Kind.{Kind}
+use Rattle.far_frame.specs.State.{live}
+use Rattle.far_script.specs.declared.fault.ShellFault.{ShellFault}
+use Rattle.far_script.specs.declared.fault.ShellFault.TheVariants as fault
+use Rattle.far_script.specs.Flow.{Prints}
+use Rattle.far_commands.specs.declared.command.Command.{Command}
+use Rattle.far_commands.specs.declared.command.Command.TheVariants as command
+use Rattle.far_commands.specs.Commands.{command_of}
+use Rattle.far_commands.specs.Listings.{listing_of}
+use Rattle.far_commands.specs.Progress.{At}
+
+-- a front of an answer; it may be empty
+abbrev pub IsFront : (List ℕ → Type 0) → List ℕ → Type 0
+IsFront answer text = (text ≡ []) ⊎ ((rest : List ℕ) × answer (text ++ rest))
+
+-- what is printed of the answer that a fault ends: nothing where the input is at fault
+abbrev pub CutOff : ShellFault → (List ℕ → Type 0) → List ℕ → Type 0
+CutOff fault.BadStart answer text = ⊥
+CutOff fault.Input answer text = text ≡ []
+CutOff fault.Output answer text = IsFront answer text
+CutOff fault.Memory answer text = IsFront answer text
+CutOff fault.Turns answer text = ⊥
+
+-- a fault comes, and of an answer a front is printed
+abbrev pub PrintsCut : ShellFault → (List ℕ → Type 0) → Option (List ℕ) → List ℕ → Option (List ℕ) → List ℕ → Type 0
+PrintsCut why answer old held new left = (text : List ℕ) × Prints old held text new left × CutOff why answer text
+
+-- a load whose bytes did not all come, or are no text
+abbrev pub FailsBy : Option Command → List ℕ → Type 0
+FailsBy asked behind = (count : ℕ) × (asked ≡ Some (command.Load count)) × ((length behind < count) ⊎ ¬ (IsUtf8 (take count behind)))
+
+-- a line that cannot be answered with the bytes behind it: it is no text, or such a load
+abbrev pub Fails : List Kind → List ℕ → List ℕ → Type 0
+Fails kinds line behind = ¬ (IsUtf8 line) ⊎ FailsBy (command_of kinds line) behind
+
+-- a line asks for a dump, and this is what is listed
+abbrev pub Lists : {K : Type 0} → At K → List ℕ → List ℕ → Type 0
+Lists at line text = (command_of at.world.state.table.schema line ≡ Some command.Dump) × (text ≡ listing_of (live at.world.state))

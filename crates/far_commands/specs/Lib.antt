@@ -1,0 +1,9 @@
+pub mod Commands
+pub mod Recounts
+pub mod Renewals
+pub mod Replies
+pub mod Tables
+pub mod Cuts
+pub mod Listings
+pub mod Pieces
+pub mod Progress

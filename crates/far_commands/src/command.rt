@@ -1,0 +1,218 @@
+// Lines as commands.
+ghost use Rattle.std.specs.Prelude.{◌≡◌, IfOk, IfErr, option_map, option_and_then, slice_get, Some, None};
+ghost use Rattle.far_commands.specs.Commands.{lend_of, object_in, compact_of, movement_of, offload_of, command_of, insert_of, set_of, scan_of, command_by};
+ghost use Rattle.far_script.specs.Words.{last_number_in};
+
+use far_frame::Step;
+use far_script::Words;
+use far_script::field::{kind_of, lone_cell, row};
+use far_script::opening::read_kind;
+use far_script::verb::{Movement, Verb, read_verb};
+use far_script::watch::spec;
+use far_types::{Edit, Kind, Name, Refusal};
+use std::alloc::Global;
+
+/// A command of a script, behind the line that opens the table.
+#[derive(Drop, Debug)]
+pub enum Command {
+    /// `insert CSV`, `set PLACE COLUMN CSV`, `remove PLACE`,
+    /// `watch FOLD COLUMN [by COLUMN] [if COLUMN OPERATOR CONSTANT]..`, `unwatch AGGREGATE`, `scan AGGREGATE GROUP`,
+    /// `ask AGGREGATE`, `lend COLUMN FROM TO`, `pin COLUMN GROUP`, `unpin COLUMN GROUP`, `evac COLUMN GROUP`,
+    /// `fetch COLUMN GROUP`, `carry JOB`, `commit JOB`, `install JOB`, `compact KIND SEGMENT`, `prefetch COLUMN`,
+    /// `offload AGGREGATE GROUP`, `merge JOB`: a step of the table
+    Step(Step),
+    /// `load BYTES`: the bytes behind the line are rows
+    Load(u32),
+    /// `dump`
+    Dump,
+    /// `renew CAPACITY`: the table goes on with a new store
+    Renew(u32),
+    /// `recount AGGREGATE`: the answer of an aggregate, computed from scratch
+    Recount(u32),
+}
+
+/// `CSV`: exactly one record.
+fn insert(alloc: Global, kinds: &[Kind], words: Words) -> Result<Option<Command>, Refusal>
+    ensures command { IfOk result (λ command. command ≡ insert_of kinds.now words.entry) }
+    ensures memory { IfErr result (λ e. e ≡ Refusal.NoMemory) }
+{
+    let Some(text) = words.rest() else {
+        return Ok(None);
+    };
+    match row(alloc, kinds, text)? {
+        Some(row) => Ok(Some(Command::Step(Step::Edit(Edit::Insert(row))))),
+        None => Ok(None),
+    }
+}
+
+/// `PLACE COLUMN CSV`: exactly one record of one field.
+fn set(alloc: Global, kinds: &[Kind], mut words: Words) -> Result<Option<Command>, Refusal>
+    ensures command { IfOk result (λ command. command ≡ set_of kinds.now words.entry) }
+    ensures memory { IfErr result (λ e. e ≡ Refusal.NoMemory) }
+{
+    let Some(place) = words.number() else {
+        return Ok(None);
+    };
+    let Some(column) = words.number() else {
+        return Ok(None);
+    };
+    let Some(text) = words.rest() else {
+        return Ok(None);
+    };
+    match lone_cell(alloc, kind_of(kinds, column as usize), text)? {
+        Some(cell) => Ok(Some(Command::Step(Step::Edit(Edit::Set {
+            place,
+            column,
+            cell,
+        })))),
+        None => Ok(None),
+    }
+}
+
+/// `AGGREGATE GROUP`
+fn scan(mut words: Words) -> Option<Command>
+    ensures { result ≡ scan_of words.entry }
+{
+    let aggregate = words.number()?;
+    let group = words.last_number()?;
+    Some(Command::Step(Step::ScanGroup(aggregate, group)))
+}
+
+/// `COLUMN FROM TO`
+fn lend(mut words: Words) -> Option<Step>
+    ensures { result ≡ lend_of words.entry }
+{
+    let column = words.number()?;
+    let from = words.number()?;
+    let to = words.last_number()?;
+    Some(Step::Lend { column, from, to })
+}
+
+/// `COLUMN GROUP`
+fn object(mut words: Words) -> Option<Name>
+    ensures { result ≡ object_in words.entry }
+{
+    let column = words.number()?;
+    let group = words.last_number()?;
+    Some(Name { column, group })
+}
+
+/// `KIND SEGMENT`
+fn compact(mut words: Words) -> Option<Step>
+    ensures { result ≡ compact_of words.entry }
+{
+    let kind = read_kind(words.word()?)?;
+    let segment = words.last_number()?;
+    Some(Step::Compact(kind, segment))
+}
+
+/// `AGGREGATE GROUP`
+fn offload(mut words: Words) -> Option<Step>
+    ensures { result ≡ offload_of words.entry }
+{
+    let aggregate = words.number()?;
+    let group = words.last_number()?;
+    Some(Step::BeginOffload { aggregate, group })
+}
+
+/// What a word that is about objects or jobs says with the rest of its line.
+fn movement_step(verb: Movement, words: Words) -> Option<Step>
+    ensures { result ≡ movement_of verb words.entry }
+{
+    match verb {
+        Movement::Lend => lend(words),
+        Movement::Pin => {
+            let Name { column, group } = object(words)?;
+            Some(Step::Pin { column, group })
+        }
+        Movement::Unpin => {
+            let Name { column, group } = object(words)?;
+            Some(Step::Unpin { column, group })
+        }
+        Movement::Evac => {
+            let Name { column, group } = object(words)?;
+            Some(Step::BeginEvac { column, group })
+        }
+        Movement::Fetch => {
+            let Name { column, group } = object(words)?;
+            Some(Step::BeginFetch { column, group })
+        }
+        Movement::Carry => Some(Step::Carry(words.last_long_number()?)),
+        Movement::Commit => Some(Step::Commit(words.last_long_number()?)),
+        Movement::Install => Some(Step::Install(words.last_long_number()?)),
+        Movement::Compact => compact(words),
+        Movement::Prefetch => Some(Step::Prefetch(words.last_number()?)),
+        Movement::Offload => offload(words),
+        Movement::Merge => Some(Step::Merge(words.last_long_number()?)),
+    }
+}
+
+/// What a verb says with the rest of its line.
+fn complete(
+    alloc: Global,
+    kinds: &[Kind],
+    verb: Verb,
+    words: Words,
+) -> Result<Option<Command>, Refusal>
+    ensures command { IfOk result (λ command. command ≡ command_by kinds.now verb words.entry) }
+    ensures memory { IfErr result (λ e. e ≡ Refusal.NoMemory) }
+{
+    match verb {
+        Verb::Insert => insert(alloc, kinds, words),
+        Verb::Set => set(alloc, kinds, words),
+        Verb::Remove => match words.last_number() {
+            Some(place) => Ok(Some(Command::Step(Step::Edit(Edit::Remove(place))))),
+            None => Ok(None),
+        },
+        Verb::Watch => match spec(alloc, kinds, words)? {
+            Some(spec) => Ok(Some(Command::Step(Step::Watch(spec)))),
+            None => Ok(None),
+        },
+        Verb::Unwatch => match words.last_number() {
+            Some(aggregate) => Ok(Some(Command::Step(Step::Unwatch(aggregate)))),
+            None => Ok(None),
+        },
+        Verb::Scan => Ok(scan(words)),
+        Verb::Ask => match words.last_number() {
+            Some(aggregate) => Ok(Some(Command::Step(Step::Ask(aggregate)))),
+            None => Ok(None),
+        },
+        Verb::Load => match words.last_number() {
+            Some(bytes) => Ok(Some(Command::Load(bytes))),
+            None => Ok(None),
+        },
+        Verb::Move(verb) => match movement_step(verb, words) {
+            Some(step) => Ok(Some(Command::Step(step))),
+            None => Ok(None),
+        },
+        Verb::Dump => Ok(if words.is_empty() {
+            Some(Command::Dump)
+        } else {
+            None
+        }),
+        Verb::Renew => match words.last_number() {
+            Some(capacity) => Ok(Some(Command::Renew(capacity))),
+            None => Ok(None),
+        },
+        Verb::Recount => match words.last_number() {
+            Some(aggregate) => Ok(Some(Command::Recount(aggregate))),
+            None => Ok(None),
+        },
+    }
+}
+
+/// The command that a line spells over a table of these columns, or `None` where it spells none. Refused with `NoMemory`
+/// (1) alone.
+pub fn parse(alloc: Global, kinds: &[Kind], line: &str) -> Result<Option<Command>, Refusal>
+    ensures command { IfOk result (λ command. command ≡ command_of kinds.now line.now) }
+    ensures memory { IfErr result (λ e. e ≡ Refusal.NoMemory) }
+{
+    let mut words = Words::new(line);
+    let Some(word) = words.word() else {
+        return Ok(None);
+    };
+    match read_verb(word) {
+        Some(verb) => complete(alloc, kinds, verb, words),
+        None => Ok(None),
+    }
+}

@@ -1,0 +1,19 @@
+#![tactic(auto)]
+//! The commands of the script language over a table: each line is read as a command and answered.
+
+mod command;
+mod listing;
+mod loading;
+mod opening;
+mod pieces;
+mod progress;
+mod recounting;
+mod renewing;
+mod resources;
+mod serve;
+
+pub use command::Command;
+pub use opening::open_table;
+pub use progress::Progress;
+pub use resources::{Agents, Resources};
+pub use serve::answer_line;

@@ -1,0 +1,158 @@
+// The rows of a table as text.
+ghost use Rattle.std.specs.Prelude.{◌≡◌, ◌≢◌, map, drop, length, ◌++◌, OnOk, IfErr};
+ghost use Rattle.std.specs.Fmt.{signed_decimal};
+ghost use Rattle.far_types.specs.Lent.{lent_cell};
+ghost use Rattle.csv.specs.Writing.{default_writer, fields_text};
+ghost use Rattle.far_types.specs.Table.{rows_of};
+ghost use Rattle.far_frame.specs.State.{live};
+ghost use Rattle.far_commands.specs.Cuts.{PrintsCut};
+ghost use Rattle.far_script.specs.Flow.{Prints};
+ghost use Rattle.far_commands.specs.Listings.{cell_text, dump_text, field_in_record, is_live, listing_of, row_line};
+
+use far_frame::{Frame, View};
+use far_rows::RowRef;
+use far_script::print::{numbered, refused};
+use far_script::{Output, Page, ShellFault};
+use far_store::FarTickets;
+use far_types::{CellRef, Refusal};
+use std::io::Write;
+
+/// A field of a record of one field, or of several.
+fn field(page: &mut Page, is_lone: bool, text: &[u8]) -> Result<(), Refusal>
+    ensures ok { OnOk result (page.new ≡ page.old ++ field_in_record is_lone text.now) }
+    ensures memory { IfErr result (λ e. e ≡ Refusal.NoMemory) }
+{
+    if is_lone {
+        page.lone_field(text)
+    } else {
+        page.field(text)
+    }
+}
+
+/// A number as a field: it needs no quotes, alone in its record or not.
+#[inline(always)]
+fn number(page: &mut Page, _is_lone: bool, value: i64) -> Result<(), Refusal>
+    ensures ok { OnOk result (page.new ≡ page.old ++ field_in_record _is_lone (signed_decimal value)) }
+    ensures memory { IfErr result (λ e. e ≡ Refusal.NoMemory) }
+{
+    page.signed(value)
+}
+
+/// A cell as a field. It is built into its callers, which know what kind of cell they lend.
+#[inline(always)]
+pub fn cell(page: &mut Page, is_lone: bool, cell: CellRef) -> Result<(), Refusal>
+    ensures ok { OnOk result (page.new ≡ page.old ++ field_in_record is_lone (cell_text (lent_cell cell.entry))) }
+    ensures memory { IfErr result (λ e. e ≡ Refusal.NoMemory) }
+{
+    match cell {
+        CellRef::Int(value) => number(page, is_lone, value),
+        CellRef::Text(text) => field(page, is_lone, text.as_bytes()),
+        CellRef::Missing => page.text("\\N"),
+    }
+}
+
+/// The fields of a row behind its first.
+fn more_fields<S: FarTickets>(page: &mut Page, row: &RowRef<'_, S>) -> Result<(), Refusal>
+    ensures ok { OnOk result (page.new ≡ page.old ++ fields_text default_writer (map cell_text (drop 1 row.now))) }
+    ensures memory { IfErr result (λ e. e ≡ Refusal.NoMemory) }
+{
+    for column in 1..row.len() {
+        let Some(lent) = row.get(column) else {
+            return Ok(());
+        };
+        page.byte(b',')?;
+        cell(page, false, lent)?;
+    }
+    Ok(())
+}
+
+/// A row as a line.
+fn print_row<S: FarTickets>(page: &mut Page, row: &RowRef<'_, S>) -> Result<(), Refusal>
+    ensures ok { OnOk result (page.new ≡ page.old ++ row_line row.now) }
+    ensures memory { IfErr result (λ e. e ≡ Refusal.NoMemory) }
+{
+    match row.get(0) {
+        None => page.text("\"\"")?,
+        Some(first) => {
+            cell(page, row.len() == 1, first)?;
+            more_fields(page, row)?;
+        }
+    }
+    page.byte(b'\n')?;
+    Ok(())
+}
+
+/// Whether there is a row at a place.
+fn is_live<S: FarTickets>(view: &View<'_, S>, place: u32) -> bool
+    ensures { result ≡ is_live place view.now.table.places }
+{
+    match view.is_alive(place) {
+        Some(alive) => alive,
+        None => false,
+    }
+}
+
+/// How many rows are alive.
+fn live_rows<S: FarTickets>(frame: &Frame<S>) -> u64
+    ensures { result ≡ length (rows_of frame.now.table.places) }
+{
+    let view = frame.scope();
+    let mut count = 0u64;
+    for place in 0..frame.places() {
+        if is_live(&view, place) {
+            count += 1;
+        }
+    }
+    count
+}
+
+/// `rows COUNT`, and the live rows in the order of their places, as the csv writer writes them.
+fn dump_rows<S: FarTickets, W: Write>(
+    frame: &Frame<S>,
+    output: &mut Output,
+    writer: &mut W,
+) -> Result<(), ShellFault>
+    ensures ok { OnOk result (Prints (W.contents writer.old) output.old.page (dump_text frame.now.table) (W.contents writer.new) output.new.page) }
+    ensures err { IfErr result (λ fault. PrintsCut fault (λ said. said ≡ dump_text frame.now.table) (W.contents writer.old) output.old.page (W.contents writer.new) output.new.page) }
+    ensures fault { IfErr result (λ fault. fault ≢ ShellFault.Input) }
+{
+    let view = frame.scope();
+    output.reply.truncate(0);
+    numbered(&mut output.reply, "rows", live_rows(frame))?;
+    output.add()?;
+    for place in 0..frame.places() {
+        if is_live(&view, place) {
+            let cells = view.row_ref(place)?;
+            output.reply.truncate(0);
+            print_row(&mut output.reply, &cells)?;
+            output.add()?;
+            output.flush_if_full(writer)?;
+        }
+    }
+    Ok(())
+}
+
+/// The live rows, or the refusal where an object of them is away: it comes before any row.
+#[inline(never)]
+pub fn dump<S: FarTickets, W: Write>(
+    frame: &Frame<S>,
+    output: &mut Output,
+    writer: &mut W,
+) -> Result<(), ShellFault>
+    ensures ok { OnOk result (Prints (W.contents writer.old) output.old.page (listing_of (live frame.now)) (W.contents writer.new) output.new.page) }
+    ensures err { IfErr result (λ fault. PrintsCut fault (λ said. said ≡ listing_of (live frame.now)) (W.contents writer.old) output.old.page (W.contents writer.new) output.new.page) }
+    ensures fault { IfErr result (λ fault. fault ≢ ShellFault.Input) }
+{
+    match frame.scope().all() {
+        Ok(()) => {
+            dump_rows(frame, output, writer)?;
+            Ok(())
+        }
+        Err(refusal) => {
+            output.reply.truncate(0);
+            refused(&mut output.reply, &refusal)?;
+            output.add()?;
+            Ok(())
+        }
+    }
+}

@@ -1,0 +1,28 @@
+// The table that a line opens.
+ghost use Rattle.std.specs.Prelude.{◌≡◌, ◌⊎◌, IfOk, IfErr};
+ghost use Rattle.far_types.specs.Bounds.{IsSchema, AreLimits};
+ghost use Rattle.far_commands.specs.Tables.{IsEmpty};
+
+use far_frame::{Frame, World};
+use far_script::Opening;
+use far_store::FarStore;
+use far_types::{Refusal, Schema};
+use std::alloc::Global;
+
+/// The table that a line asks for, over a store. Refused with `BadSchema` (2) exactly where its columns or its limits are not what a
+/// table may have, else with `NoMemory` (1) alone.
+pub fn open_table<S: FarStore>(
+    alloc: Global,
+    store: S,
+    opening: Opening,
+) -> Result<World<S>, Refusal>
+    ensures ok { IfOk result (IsEmpty (opening.kinds.items, opening.limits)) }
+    ensures bad { IfErr result (λ e. ((e ≡ Refusal.BadSchema) × ¬ (IsSchema opening.kinds.items × AreLimits opening.limits)) ⊎ (e ≡ Refusal.NoMemory)) }
+{
+    let schema = Schema::new(opening.kinds)?;
+    let frame = Frame::open(alloc, schema, opening.limits, 0)?;
+    let Ok(world) = World::new(alloc, frame, store) else {
+        unreachable!()
+    };
+    Ok(world)
+}

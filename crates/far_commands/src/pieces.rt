@@ -1,0 +1,143 @@
+// Lent parts of columns, and row groups to fetch next, as lines.
+ghost use Rattle.std.specs.Prelude.{◌≡◌, ◌++◌, ◌∷◌, [], map, OnOk, IfErr};
+ghost use Rattle.csv.specs.Writing.{default_writer, fields_text};
+ghost use Rattle.far_types.specs.declared.cell.Cell.{Cell};
+ghost use Rattle.far_types.specs.Lent.{int_cell, lent_cell, text_cell};
+ghost use Rattle.far_frame.specs.Lending.{int_piece, text_piece};
+ghost use Rattle.far_commands.specs.Listings.{cell_text, row_line};
+ghost use Rattle.far_commands.specs.Pieces.{flag_text, next_text, piece_text, pieces_text};
+ghost use Rattle.far_script.specs.Printing.{texts_of};
+
+use super::listing::cell;
+use far_frame::{IntPiece, TextPiece};
+use far_script::Page;
+use far_types::{CellRef, Refusal, Text};
+
+/// A value of a piece, which may be missing.
+trait Value {
+    /// The cell that it is.
+    ghost cell: { Self → Cell };
+
+    /// The value, lent in place as a cell.
+    fn lend(&self) -> CellRef<'_>
+        ensures { lent_cell result ≡ cell self.now };
+}
+
+impl Value for Option<i64> {
+    ghost cell = { int_cell };
+
+    fn lend(&self) -> CellRef<'_> {
+        CellRef::of_int(*self)
+    }
+}
+
+impl Value for Option<Text> {
+    ghost cell = { text_cell };
+
+    fn lend(&self) -> CellRef<'_> {
+        match self {
+            Some(text) => CellRef::Text(text.as_str()),
+            None => CellRef::Missing,
+        }
+    }
+}
+
+/// What stands for a place that is alive, and for one that is not.
+fn mark(alive: bool) -> u8
+    ensures { result ∷ [] ≡ flag_text alive }
+{
+    if alive { b'+' } else { b'-' }
+}
+
+/// The marks of places.
+fn marks(page: &mut Page, flags: &[bool]) -> Result<(), Refusal>
+    ensures ok { OnOk result (page.new ≡ page.old ++ texts_of flag_text flags.now) }
+    ensures memory { IfErr result (λ e. e ≡ Refusal.NoMemory) }
+{
+    for alive in flags {
+        page.byte(mark(*alive))?;
+    }
+    Ok(())
+}
+
+/// The fields of a row behind its first.
+fn more_values<V: Value>(page: &mut Page, values: &[V]) -> Result<(), Refusal>
+    ensures ok { OnOk result (page.new ≡ page.old ++ fields_text default_writer (map cell_text (map V.cell values.now))) }
+    ensures memory { IfErr result (λ e. e ≡ Refusal.NoMemory) }
+{
+    for value in values {
+        page.byte(b',')?;
+        cell(page, false, value.lend())?;
+    }
+    Ok(())
+}
+
+/// Values as a row, with the end of its line.
+fn row<V: Value>(page: &mut Page, values: &[V]) -> Result<(), Refusal>
+    ensures ok { OnOk result (page.new ≡ page.old ++ row_line (map V.cell values.now)) }
+    ensures memory { IfErr result (λ e. e ≡ Refusal.NoMemory) }
+{
+    match values {
+        [] => page.text("\"\"\n"),
+        [first, rest @ ..] => {
+            cell(page, rest.is_empty(), first.lend())?;
+            more_values(page, rest)?;
+            page.text("\n")
+        }
+    }
+}
+
+/// `piece FLAGS VALUES`
+fn piece<V: Value>(page: &mut Page, values: &[V], flags: &[bool]) -> Result<(), Refusal>
+    ensures ok { OnOk result (page.new ≡ page.old ++ piece_text record { cells = map V.cell values.now; flags = flags.now }) }
+    ensures memory { IfErr result (λ e. e ≡ Refusal.NoMemory) }
+{
+    page.text("piece ")?;
+    marks(page, flags)?;
+    page.text(" ")?;
+    row(page, values)
+}
+
+/// The lines of pieces of numbers, or `empty`.
+pub fn ints(page: &mut Page, pieces: &[IntPiece]) -> Result<(), Refusal>
+    ensures ok { OnOk result (page.new ≡ page.old ++ pieces_text (map int_piece pieces.now)) }
+    ensures memory { IfErr result (λ e. e ≡ Refusal.NoMemory) }
+{
+    if pieces.is_empty() {
+        return page.text("empty\n");
+    }
+    for lent in pieces {
+        piece(page, lent.values.as_slice(), lent.flags.as_slice())?;
+    }
+    Ok(())
+}
+
+/// The lines of pieces of texts, or `empty`.
+pub fn texts(page: &mut Page, pieces: &[TextPiece]) -> Result<(), Refusal>
+    ensures ok { OnOk result (page.new ≡ page.old ++ pieces_text (map text_piece pieces.now)) }
+    ensures memory { IfErr result (λ e. e ≡ Refusal.NoMemory) }
+{
+    if pieces.is_empty() {
+        return page.text("empty\n");
+    }
+    for lent in pieces {
+        piece(page, lent.values.as_slice(), lent.flags.as_slice())?;
+    }
+    Ok(())
+}
+
+/// `next` and the row groups, or `next none`.
+pub fn next(page: &mut Page, groups: &[u32]) -> Result<(), Refusal>
+    ensures ok { OnOk result (page.new ≡ page.old ++ next_text groups.now) }
+    ensures memory { IfErr result (λ e. e ≡ Refusal.NoMemory) }
+{
+    if groups.is_empty() {
+        return page.text("next none\n");
+    }
+    page.text("next")?;
+    for group in groups {
+        page.text(" ")?;
+        page.number(u64::from(*group))?;
+    }
+    page.text("\n")
+}

@@ -1,0 +1,35 @@
+// The table of a script, and how many commands it had.
+ghost use Rattle.std.specs.Prelude.{◌≡◌, ◌≤◌};
+
+use far_frame::World;
+use far_store::FarStore;
+use std::marker::Model;
+
+/// Where a script stands. Contracts see the table with all that is beside it, and the number of the last command. A command meets one
+/// fault of the store at most.
+#[derive(Drop)]
+pub struct Progress<S: FarStore> {
+    pub(crate) world: World<S>,
+    pub(crate) number: u32,
+}
+
+impl<S: FarStore> Model for Progress<S> {
+    ghost use Rattle.std.specs.Prelude.{◌≤◌};
+    ghost use Rattle.far_commands.specs.Progress.{At};
+
+    ghost Value = { At S.Ticket };
+
+    ghost view = { λ progress. record { world = progress.world; number = progress.number } };
+
+    ghost invariant = { λ progress. progress.world.faults ≤ progress.number };
+}
+
+impl<S: FarStore> Progress<S> {
+    /// A script behind its first command, which opened this table.
+    pub fn new(world: World<S>) -> Progress<S>
+        requires few { world.faults ≤ 1 }
+        ensures { result ≡ record { world = world; number = 1 } }
+    {
+        Progress { world, number: 1 }
+    }
+}

@@ -1,0 +1,97 @@
+// A table that goes on with a new store.
+ghost use Rattle.std.specs.Prelude.{◌≡◌, ◌++◌, ◌+◌, ◌≤◌, ◌<◌, ◌^◌, OnOk, IfErr};
+ghost use Rattle.far_frame.specs.Renewing.{IsMigratedTo};
+ghost use Rattle.far_commands.specs.Renewals.{IsRenewed, IsNotRenewed, Renews};
+
+use super::opening::open_table;
+use super::resources::Resources;
+use far_frame::World;
+use far_script::print::refused;
+use far_script::{Opening, Page};
+use far_store::FarStore;
+use far_types::{Kind, Limits, Refusal};
+use std::mem;
+
+/// The smallest limits that a table may have.
+const SMALLEST: Limits = Limits {
+    group: 1,
+    places: 1,
+    edits: 1,
+    int_segments: 1,
+    int_size: 1,
+    text_segments: 1,
+    text_size: 64,
+};
+
+/// An empty table, which stands in for another while that moves. Refused with `NoMemory` (1) alone.
+fn stand_in<S: FarStore, A: Resources<S>>(resources: &A) -> Result<World<S>, Refusal>
+    ensures memory { IfErr result (λ e. e ≡ Refusal.NoMemory) }
+{
+    let mut kinds = Vec::new(resources.alloc());
+    kinds.push(Kind::Int)?;
+    let opening = Opening {
+        kinds,
+        limits: SMALLEST,
+    };
+    let store = resources.store(0)?;
+    match open_table(resources.alloc(), store, opening) {
+        Ok(world) => Ok(world),
+        Err(_) => Err(Refusal::NoMemory),
+    }
+}
+
+/// Moves a table to a store. Refused as `World::migrate` is; then the table is moved back, jobs included, but for its count of faults.
+fn migrate<S: FarStore>(world: &mut World<S>, empty: World<S>, store: S) -> Result<(), Refusal>
+    requires few { world.old.faults < 2 ^ 62 }
+    ensures renewed { OnOk result (IsMigratedTo S.content S.content (S.name store) world.old world.new) }
+    ensures back { IfErr result (λ e. IsNotRenewed world.old e world.new) }
+{
+    let moved = mem::replace(world, empty);
+    match moved.migrate(store) {
+        Ok(new) => {
+            *world = new;
+            Ok(())
+        }
+        Err((refusal, back)) => {
+            *world = back;
+            Err(refusal)
+        }
+    }
+}
+
+/// The same table with its far copies in a new store of this capacity. Refused as `World::migrate` is, and with `NoMemory` (1) where
+/// no store can be made; then the table is as it was, jobs included, but for its count of faults.
+fn go_on<S: FarStore, A: Resources<S>>(
+    resources: &A,
+    world: &mut World<S>,
+    capacity: u32,
+) -> Result<(), Refusal>
+    requires few { world.old.faults < 2 ^ 62 }
+    ensures renewed { OnOk result (IsRenewed S.FarTickets capacity world.old world.new) }
+    ensures back { IfErr result (λ e. IsNotRenewed world.old e world.new) }
+{
+    let store = resources.store(u64::from(capacity))?;
+    let empty = stand_in(resources)?;
+    migrate(world, empty, store)
+}
+
+/// Goes on with a new store of this capacity, and prints `renewed`, or the refusal. It stands apart, since the tables that move
+/// have a large frame, which each command would pay for.
+#[inline(never)]
+pub fn renew<S: FarStore, A: Resources<S>>(
+    resources: &A,
+    world: &mut World<S>,
+    capacity: u32,
+    reply: &mut Page,
+) -> Result<(), Refusal>
+    requires few { world.old.faults < 2 ^ 62 }
+    ensures ok { OnOk result (Renews S.FarTickets capacity world.old reply.new world.new) }
+    ensures faults { world.new.faults ≤ world.old.faults + 1 }
+    ensures memory { IfErr result (λ e. e ≡ Refusal.NoMemory) }
+{
+    reply.truncate(0);
+    match go_on(resources, world, capacity) {
+        Ok(()) => reply.text("renewed\n"),
+        Err(refusal) => refused(reply, &refusal),
+    }
+}

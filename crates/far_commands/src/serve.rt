@@ -1,0 +1,185 @@
+// Lines as commands, and their answers.
+ghost use Rattle.std.specs.Prelude.{◌≡◌, ℕ, List, [], ◌++◌, ◌+◌, ◌≤◌, ◌<◌, ◌^◌, IfErr, OnOk, IsUtf8, Some};
+ghost use Rattle.far_frame.specs.declared.step.Reply.{Reply};
+ghost use Rattle.far_frame.specs.State.{live};
+ghost use Rattle.far_frame.specs.Steps.{IsStep};
+ghost use Rattle.far_commands.specs.Cuts.{Fails, FailsBy, Lists, PrintsCut};
+ghost use Rattle.far_commands.specs.Commands.{command_of};
+ghost use Rattle.far_script.specs.Faults.{IfInput};
+ghost use Rattle.far_script.specs.Flow.{Prints, Reads, Stops, Holds, spanned};
+ghost use Rattle.far_script.specs.Printing.{numbered_text};
+ghost use Rattle.far_commands.specs.Listings.{listing_of};
+ghost use Rattle.far_commands.specs.Replies.{Serves, ServesLine, Takes, done_text, reply_text, AnswersLine};
+
+use super::command::{Command, parse};
+use super::listing::dump;
+use super::loading::load;
+use super::pieces::{ints, next, texts};
+use super::progress::Progress;
+use super::recounting::recount;
+use super::renewing::renew;
+use super::resources::Resources;
+use far_frame::{Reply, Step, World};
+use far_script::print::{answer, numbered, refused};
+use far_script::{Input, Output, Page, ShellFault, Span};
+use far_store::FarStore;
+use far_types::Refusal;
+use std::io::{Read, Write};
+
+/// What a step is answered that is done and has nothing to say.
+fn done(step: &Step) -> &'static str
+    ensures { result.now ≡ done_text step.now }
+{
+    match step {
+        Step::Carry(_) => "carried\n",
+        _ => "ok\n",
+    }
+}
+
+/// The line of a reply, or the lines of an answer or of a part of a column; the text is that of a reply that has nothing
+/// to say.
+pub fn print_reply(page: &mut Page, done: &str, reply: &Reply) -> Result<(), Refusal>
+    ensures ok { OnOk result (page.new ≡ page.old ++ reply_text done.now reply.now) }
+    ensures memory { IfErr result (λ e. e ≡ Refusal.NoMemory) }
+{
+    match reply {
+        Reply::Place(place) => numbered(page, "place", u64::from(*place)),
+        Reply::Done => page.text(done),
+        Reply::Aggregate(aggregate) => numbered(page, "aggregate", u64::from(*aggregate)),
+        Reply::Answer(found) => answer(page, found),
+        Reply::Ints(copies) => ints(page, copies.as_slice()),
+        Reply::Texts(copies) => texts(page, copies.as_slice()),
+        Reply::Job(job) => numbered(page, "job", *job),
+        Reply::Next(groups) => next(page, groups.as_slice()),
+        Reply::Refused(refusal) => refused(page, refusal),
+    }
+}
+
+/// Takes a step, and prints its reply.
+fn take_step<S: FarStore>(world: &mut World<S>, step: Step, reply: &mut Page) -> Result<(), Refusal>
+    requires few { world.old.faults < 2 ^ 62 }
+    ensures ok { OnOk result (Takes S.FarTickets world.old step reply.new world.new) }
+    ensures faults { world.new.faults ≤ world.old.faults + 1 }
+    ensures memory { IfErr result (λ e. e ≡ Refusal.NoMemory) }
+{
+    reply.truncate(0);
+    let done = done(&step);
+    let given = world.serve(step);
+    print_reply(reply, done, &given)
+}
+
+/// Answers a command, with the bytes behind its line that belong to it.
+fn answer_command<S: FarStore, A: Resources<S>, R: Read + Drop, W: Write>(
+    resources: &A,
+    world: &mut World<S>,
+    command: Command,
+    input: &mut Input<R>,
+    output: &mut Output,
+    writer: &mut W,
+) -> Result<(), ShellFault>
+    requires few { world.old.faults < 2 ^ 62 }
+    ensures ok { OnOk result ((rows : List ℕ) × (text : List ℕ) × Reads R.Read input.old rows input.new × Prints (W.contents writer.old) output.old.page text (W.contents writer.new) output.new.page × Serves S.FarTickets world.old command rows text world.new) }
+    ensures err { IfErr result (λ fault. PrintsCut fault (λ said. (command ≡ Command.Dump) × (said ≡ listing_of (live world.old.state))) (W.contents writer.old) output.old.page (W.contents writer.new) output.new.page) }
+    ensures stopped { IfErr result (λ fault. IfInput fault (Stops R.Read (λ behind. FailsBy (Some command) behind) input.old input.new)) }
+    ensures faults { world.new.faults ≤ world.old.faults + 1 }
+    ensures asked { input.new.source.reads ≤ input.old.source.reads }
+{
+    match command {
+        Command::Step(step) => {
+            take_step(world, step, &mut output.reply)?;
+            output.add()?;
+            Ok(())
+        }
+        Command::Load(count) => {
+            let rows = input.bytes(output, writer, count as usize)?;
+            load(
+                resources.alloc(),
+                world,
+                input.text(rows)?,
+                &mut output.reply,
+            )?;
+            output.add()?;
+            Ok(())
+        }
+        Command::Dump => {
+            dump(world.frame(), output, writer)?;
+            Ok(())
+        }
+        Command::Renew(capacity) => {
+            renew(resources, world, capacity, &mut output.reply)?;
+            output.add()?;
+            Ok(())
+        }
+        Command::Recount(aggregate) => {
+            recount(resources, world, aggregate, &mut output.reply)?;
+            output.add()?;
+            Ok(())
+        }
+    }
+}
+
+/// Answers a line that is not empty: the command that it spells, or else `syntax command NUMBER`.
+fn answer_words<S: FarStore, A: Resources<S>, R: Read + Drop, W: Write>(
+    resources: &A,
+    world: &mut World<S>,
+    line: Span,
+    number: u32,
+    input: &mut Input<R>,
+    output: &mut Output,
+    writer: &mut W,
+) -> Result<(), ShellFault>
+    requires held { Holds R.Read input.old line }
+    requires few { world.old.faults < 2 ^ 62 }
+    ensures text { OnOk result (IsUtf8 (spanned R.Read input.old line)) }
+    ensures ok { OnOk result ((rows : List ℕ) × (text : List ℕ) × Reads R.Read input.old rows input.new × Prints (W.contents writer.old) output.old.page text (W.contents writer.new) output.new.page × ServesLine S.FarTickets number world.old (command_of world.old.state.table.schema (spanned R.Read input.old line)) rows text world.new) }
+    ensures err { IfErr result (λ fault. PrintsCut fault (λ said. (command_of world.old.state.table.schema (spanned R.Read input.old line) ≡ Some Command.Dump) × (said ≡ listing_of (live world.old.state))) (W.contents writer.old) output.old.page (W.contents writer.new) output.new.page) }
+    ensures stopped { IfErr result (λ fault. IfInput fault (Stops R.Read (λ behind. Fails world.old.state.table.schema (spanned R.Read input.old line) behind) input.old input.new)) }
+    ensures faults { world.new.faults ≤ world.old.faults + 1 }
+    ensures asked { input.new.source.reads ≤ input.old.source.reads }
+{
+    match parse(
+        resources.alloc(),
+        world.frame().schema().as_slice(),
+        input.text(line)?,
+    )? {
+        Some(command) => answer_command(resources, world, command, input, output, writer),
+        None => {
+            output.reply.truncate(0);
+            numbered(&mut output.reply, "syntax command", u64::from(number))?;
+            output.add()?;
+            Ok(())
+        }
+    }
+}
+
+/// Answers a line: an empty one is no command, and any other the next one.
+pub fn answer_line<S: FarStore, A: Resources<S>, R: Read + Drop, W: Write>(
+    resources: &A,
+    progress: &mut Progress<S>,
+    line: Span,
+    input: &mut Input<R>,
+    output: &mut Output,
+    writer: &mut W,
+) -> Result<(), ShellFault>
+    requires held { Holds R.Read input.old line }
+    requires few { progress.old.number < 4294967295 }
+    ensures ok { OnOk result ((rows : List ℕ) × (text : List ℕ) × Reads R.Read input.old rows input.new × Prints (W.contents writer.old) output.old.page text (W.contents writer.new) output.new.page × AnswersLine S.FarTickets progress.old (spanned R.Read input.old line) rows text progress.new) }
+    ensures err { IfErr result (λ fault. PrintsCut fault (λ said. Lists progress.old (spanned R.Read input.old line) said) (W.contents writer.old) output.old.page (W.contents writer.new) output.new.page) }
+    ensures stopped { IfErr result (λ fault. IfInput fault (Stops R.Read (λ behind. Fails progress.old.world.state.table.schema (spanned R.Read input.old line) behind) input.old input.new)) }
+    ensures asked { input.new.source.reads ≤ input.old.source.reads }
+{
+    if line.is_empty() {
+        return Ok(());
+    }
+    progress.number += 1;
+    answer_words(
+        resources,
+        &mut progress.world,
+        line,
+        progress.number,
+        input,
+        output,
+        writer,
+    )?;
+    Ok(())
+}

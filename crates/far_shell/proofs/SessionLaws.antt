@@ -1,0 +1,79 @@
+-- Scripts of sessions on threads.
+use Rattle.std.proofs.Common.{◌≡◌, ◌+◌, ◌<◌, ◌≤◌, ℕ, ◌⊎◌, inl, inr, List, [], ◌++◌, length, drop, get_or, Option, Some, append_assoc, append-nil, ◌∙◌, refl, sym, ap, subst}
+use Rattle.std.specs.Io.KnownBytes.{Appends}
+use Rattle.std.proofs.lemmas.List.{drop_more}
+use Rattle.std.specs.declared.io.traits.Read.{Ghosts}
+use Rattle.far_history.specs.declared.reading.Reading.{Reading}
+use Rattle.far_store.specs.declared.store.FarTickets.{Ghosts as Tickets}
+use Rattle.far_script.specs.declared.fault.ShellFault.{ShellFault}
+use Rattle.far_script.specs.declared.fault.ShellFault.TheVariants as fault
+use Rattle.far_script.specs.declared.input.Input.{Input}
+use Rattle.far_script.specs.Flow.{IsSpent, Prints, Reads}
+use Rattle.far_script.specs.Openings.{Threads, start_in}
+use Rattle.far_script.proofs.FlowLaws.{prints, prints-nothing-then}
+use Rattle.far_script.proofs.StopLaws.{coming, spent-rest, starts}
+use Rattle.far_shell.specs.Scripts.{Begins}
+use Rattle.far_shell.specs.Sessions.{CutOutcome, IsAnswered, IsThreads, TellsOutcome, gauges_text, line_of}
+use Rattle.far_shell.proofs.BreakLaws.{Breaking}
+use Rattle.far_commands.proofs.RowLaws.{drop-past}
+use Rattle.far_shell.proofs.ScriptLaws.{begins-then}
+
+-- a gauge line more
+pub gauges-more : (readings : List Reading) (i : ℕ) (told : Reading) (page after whole : List ℕ) → i < length readings → after ≡ page ++ line_of i (get_or readings i told)
+    → page ++ gauges_text i (drop i readings) ≡ whole → after ++ gauges_text (i + 1) (drop (i + 1) readings) ≡ whole
+gauges-more readings i told page after whole low grown e =
+    rw grown (append_assoc page (line_of i (get_or readings i told)) (gauges_text (i + 1) (drop (i + 1) readings))
+    ∙ sym (ap (λ (rest : List Reading). page ++ gauges_text i rest) (drop_more readings i told low)) ∙ e)
+
+-- none is left
+pub gauges-end : (readings : List Reading) (i : ℕ) (page whole : List ℕ) → length readings ≤ i → page ++ gauges_text i (drop i readings) ≡ whole → page ≡ whole
+gauges-end readings i page whole past e = sym (append-nil page) ∙ sym (ap (λ (rest : List Reading). page ++ gauges_text i rest) (drop-past readings i past)) ∙ e
+
+-- sessions that were stopped, and nothing is written
+pub cut-stopped : (why : ShellFault) (sessions edits : ℕ) → (why ≡ fault.Memory) ⊎ (why ≡ fault.Turns) → CutOutcome why sessions edits []
+cut-stopped why sessions edits (inl memory) = rw memory refl
+cut-stopped why sessions edits (inr turns) = rw turns refl
+
+-- a write failed
+pub cut-unwritten : (old new : Option (List ℕ)) (sessions edits : ℕ) (text page left : List ℕ) → TellsOutcome sessions edits text → page ≡ text → Prints old page [] new left
+    → (sent : List ℕ) × CutOutcome fault.Output sessions edits sent × Appends old new sent
+cut-unwritten old new sessions edits text page left told is p =
+    (p.0, (left, subst (λ (z : List ℕ). TellsOutcome sessions edits z) (sym is ∙ sym (append-nil page) ∙ p.2) told), p.1)
+
+either : {A B C D : Type 0} → (A → B) → (C → D) → A ⊎ C → B ⊎ D
+either f g (inl x) = inl (f x)
+either f g (inr y) = inr (g y)
+
+-- nothing comes behind, in other words
+pub answered-then : {S K : Type 0} (tickets : Tickets S K) (bytes text : List ℕ) (P Q : Type 0) → (P → Q) → IsAnswered tickets bytes P text → IsAnswered tickets bytes Q text
+answered-then tickets bytes text P Q f a =
+    either (λ s. (s.0, f s.1)) (λ (t : IsThreads bytes P text). record { sessions = t.sessions; edits = t.edits; asks = (t.asks.0, begins-then bytes t.asks.0 P Q f t.asks.1, t.asks.2); told = t.told }) a
+
+module _ {R : Type 0} (read : Ghosts R) {S K : Type 0} (tickets : Tickets S K) where
+  -- a script begins with sessions, and they ended
+  pub sessions-whole : (old mid : Input R read) (u w : Option (List ℕ)) (held l left first line text : List ℕ) (sessions edits : ℕ) → held ≡ []
+      → Reads read old first mid → Begins first (IsSpent read mid) line → start_in line ≡ Some (Threads sessions edits) → Prints u held [] w l → left ≡ l ++ text → TellsOutcome sessions edits text
+      → (bytes : List ℕ) × (said : List ℕ) × Reads read old bytes mid × Prints u [] said w left × IsAnswered tickets bytes (IsSpent read mid) said
+  sessions-whole old mid u w held l left first line text sessions edits empty p b asks q e told = (
+    first,
+    text,
+    p,
+    subst (λ (z : List ℕ). Prints u z text w left) empty (prints-nothing-then u w w held l text left q (prints w l text left e)),
+    inr (record { sessions = sessions; edits = edits; asks = (line, b, asks); told = told }),
+  )
+
+  -- or they were stopped
+  pub sessions-stopped : (old mid : Input R read) (u w : Option (List ℕ)) (held l left first line : List ℕ) (sessions edits : ℕ) (why : ShellFault) → held ≡ []
+      → Reads read old first mid → Begins first (IsSpent read mid) line → start_in line ≡ Some (Threads sessions edits) → Prints u held [] w l → left ≡ l → (why ≡ fault.Memory) ⊎ (why ≡ fault.Turns)
+      → Breaking read tickets old mid u w left why
+  sessions-stopped old mid u w held l left first line sessions edits why empty p b asks q e (inl memory) =
+      rw (memory, e) (first, coming read mid, [], (starts read old mid first p, tt), subst (λ (z : List ℕ). Prints u z [] w l) empty q, inl refl)
+  sessions-stopped old mid u w held l left first line sessions edits why empty p b asks q e (inr turns) =
+      rw (turns, e) (
+        first,
+        coming read mid,
+        [],
+        (starts read old mid first p, tt),
+        subst (λ (z : List ℕ). Prints u z [] w l) empty q,
+        (refl, (sessions, edits, (line, begins-then first line (IsSpent read mid) (coming read mid ≡ []) (spent-rest read mid) b, asks))),
+      )

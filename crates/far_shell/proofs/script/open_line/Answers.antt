@@ -1,9 +1,0 @@
-use Rattle.std.proofs.Common.{[], append-nil, ◌∙◌, refl, sym}
-use Rattle.far_script.specs.declared.fault.ShellFault.TheVariants as fault
-use Rattle.far_script.proofs.StopLaws.{handed-on}
-use Rattle.far_shell.proofs.script.open_line.Goals as goal
-
-pub returns-in_err-text-in-Ok-clause-err : goal.returns-in_err-text-in-Ok-clause-err
-returns-in_err-text-in-Ok-clause-err g c =
-    handed-on c.from_residual-in_err-text-in-Ok.result fault.Memory _ c.from_residual-in_err-text-in-Ok.ensures.1
-    ([], c.in_err-text-in-Ok.ensures.err ∙ sym (append-nil c.args.output.now.page), refl)

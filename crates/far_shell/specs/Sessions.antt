@@ -1,0 +1,59 @@
+-- What a script of sessions on threads is answered.
+use Rattle.std.specs.Prelude.{◌≡◌, ◌⊎◌, ℕ, ◌+◌, List, [], ◌∷◌, ◌++◌, Some}
+use Rattle.far_history.specs.declared.reading.Reading.{Reading}
+use Rattle.far_store.specs.declared.store.FarTickets.{Ghosts as Tickets}
+use Rattle.far_threads.specs.declared.outcome.Outcome.{Outcome}
+use Rattle.far_threads.specs.declared.outcome.Stop.{Stop}
+use Rattle.far_threads.specs.declared.outcome.Stop.TheVariants as stop
+use Rattle.far_threads.specs.Runs.{IsOutcome}
+use Rattle.far_script.specs.declared.fault.ShellFault.{ShellFault}
+use Rattle.far_script.specs.declared.fault.ShellFault.TheVariants as fault
+use Rattle.far_script.specs.Openings.{Threads, start_in}
+use Rattle.far_script.specs.Printing.{answer_text, gauge_text}
+use Rattle.far_shell.specs.Scripts.{Begins, IsScript}
+
+-- the gauge line of a session
+abbrev pub line_of : ℕ → Reading → List ℕ
+line_of session reading = gauge_text session reading.edits reading.count reading.sum
+
+-- the gauge lines of sessions, from one on
+abbrev pub gauges_text : ℕ → List Reading → List ℕ
+gauges_text session [] = []
+gauges_text session (reading ∷ readings) = line_of session reading ++ gauges_text (session + 1) readings
+
+-- what sessions leave, as it is printed: the gauge lines of sessions 0, 1 and so on, and the answer over all they did
+abbrev pub outcome_text : Outcome → List ℕ
+outcome_text o = gauges_text 0 o.gauges.items ++ answer_text o.answer
+
+-- a text tells how so many sessions ended, each with so many edits
+abbrev pub TellsOutcome : ℕ → ℕ → List ℕ → Type 0
+TellsOutcome sessions edits text = (o : Outcome) × IsOutcome sessions edits o × (text ≡ outcome_text o)
+
+-- what ends a script whose sessions are stopped
+abbrev pub fault_of : Stop → ShellFault
+fault_of stop.Memory = fault.Memory
+fault_of stop.Turns = fault.Turns
+
+-- what was written of how sessions ended where a fault comes: a front where the writer is at fault, and else nothing
+abbrev pub CutOutcome : ShellFault → ℕ → ℕ → List ℕ → Type 0
+CutOutcome fault.BadStart sessions edits sent = ⊥
+CutOutcome fault.Input sessions edits sent = ⊥
+CutOutcome fault.Output sessions edits sent = (lost : List ℕ) × TellsOutcome sessions edits (sent ++ lost)
+CutOutcome fault.Memory sessions edits sent = sent ≡ []
+CutOutcome fault.Turns sessions edits sent = sent ≡ []
+
+-- the first command of a script asks for so many sessions, each with so many edits
+abbrev pub AsksSessions : List ℕ → Type 0 → ℕ → ℕ → Type 0
+AsksSessions bytes spent sessions edits = (line : List ℕ) × Begins bytes spent line × (start_in line ≡ Some (Threads sessions edits))
+
+-- a script begins with sessions, and is answered by how they ended. What stands behind its first command says nothing
+pub record IsThreads (bytes : List ℕ) (spent : Type 0) (text : List ℕ) : Type 0 where
+  pub sessions : ℕ
+  pub edits : ℕ
+  pub asks : AsksSessions bytes spent sessions edits
+  pub told : TellsOutcome sessions edits text
+
+module _ {S K : Type 0} (tickets : Tickets S K) where
+  -- a script is answered by a text: these bytes are all of it, or its first command asks for sessions
+  abbrev pub IsAnswered : List ℕ → Type 0 → List ℕ → Type 0
+  IsAnswered bytes spent text = (IsScript tickets bytes text × spent) ⊎ IsThreads bytes spent text

@@ -1,0 +1,99 @@
+// Sessions on threads, and what they leave as it is printed.
+ghost use Rattle.std.specs.Prelude.{◌≡◌, ◌⊎◌, ◌≤◌, ℕ, List, ◌++◌, IfOk, IfErr, OnOk, OnErr};
+ghost use Rattle.std.specs.Io.KnownBytes.{Appends};
+ghost use Rattle.far_shell.specs.Sessions.{CutOutcome, TellsOutcome, fault_of, gauges_text, line_of, outcome_text};
+
+use far_history::Reading;
+use far_script::print::{answer, gauge};
+use far_script::{Output, Page, ShellFault};
+use far_threads::{Outcome, Stop, run_sessions};
+use far_types::Refusal;
+use std::io::Write;
+use std::sync::Wait;
+use std::thread::Threads;
+
+/// What ends a script whose sessions were stopped.
+fn fault_of(stop: Stop) -> ShellFault
+    ensures fault { result ≡ fault_of stop }
+    ensures one { (result ≡ ShellFault.Memory) ⊎ (result ≡ ShellFault.Turns) }
+{
+    match stop {
+        Stop::Memory => ShellFault::Memory,
+        Stop::Turns => ShellFault::Turns,
+    }
+}
+
+/// The gauge line of a session.
+fn gauge_line(page: &mut Page, session: u64, told: &Reading) -> Result<(), Refusal>
+    ensures ok { OnOk result (page.new ≡ page.old ++ line_of session told.now) }
+    ensures memory { IfErr result (λ e. e ≡ Refusal.NoMemory) }
+{
+    gauge(page, session, told.edits, told.count, told.sum)
+}
+
+/// The gauge lines of sessions 0, 1 and so on.
+fn gauges(page: &mut Page, readings: &[Reading]) -> Result<(), Refusal>
+    ensures ok { OnOk result (page.new ≡ page.old ++ gauges_text 0 readings.now) }
+    ensures memory { IfErr result (λ e. e ≡ Refusal.NoMemory) }
+{
+    for session in 0..readings.len() {
+        gauge_line(page, session as u64, &readings[session])?;
+    }
+    Ok(())
+}
+
+/// The gauge lines of the sessions, and the answer over all they did.
+fn outcome(page: &mut Page, outcome: &Outcome) -> Result<(), Refusal>
+    ensures ok { OnOk result (page.new ≡ page.old ++ outcome_text outcome.now) }
+    ensures memory { IfErr result (λ e. e ≡ Refusal.NoMemory) }
+{
+    gauges(page, outcome.gauges.as_slice())?;
+    answer(page, &outcome.answer)
+}
+
+/// Lets sessions share a table, and prints how they ended, whole or not at all.
+pub fn print_sessions<T: AllocGlobal + Sync + Threads + Wait>(
+    rt: &T,
+    sessions: u32,
+    edits: u32,
+    output: &mut Output,
+) -> Result<(), ShellFault>
+    requires sessions { (1 ≤ sessions) × (sessions ≤ 4) }
+    requires edits { (1 ≤ edits) × (edits ≤ 1000) }
+    ensures ok { OnOk result ((text : List ℕ) × TellsOutcome sessions edits text × (output.new.page ≡ output.old.page ++ text)) }
+    ensures err { OnErr result (output.new.page ≡ output.old.page) }
+    ensures fault { IfErr result (λ fault. (fault ≡ ShellFault.Memory) ⊎ (fault ≡ ShellFault.Turns)) }
+{
+    match run_sessions(rt, rt.alloc(), sessions, edits) {
+        Ok(told) => {
+            output.reply.truncate(0);
+            outcome(&mut output.reply, &told)?;
+            output.add()?;
+            Ok(())
+        }
+        Err(stop) => Err(fault_of(stop)),
+    }
+}
+
+/// What a script that is the line `threads SESSIONS EDITS` runs: so many sessions, each on a thread of its own where one can be made,
+/// share a table of one column of numbers, and each inserts so many rows of the number 1 on its home stripe, while a worker in the
+/// background sends objects away. When all have ended, the gauge of each one's home stripe and the answer over all stripes are written.
+///
+/// Ends with `Memory` where a call is refused memory, and with `Turns` where an edit was tried 10,000 times or is refused for what no
+/// other try mends; then nothing is written. Ends with `Output` where a write fails.
+pub fn run_threads<T: AllocGlobal + Sync + Threads + Wait, W: Write>(
+    rt: &T,
+    sessions: u32,
+    edits: u32,
+    writer: &mut W,
+) -> Result<(), ShellFault>
+    requires sessions { (1 ≤ sessions) × (sessions ≤ 4) }
+    requires edits { (1 ≤ edits) × (edits ≤ 1000) }
+    ensures ok { OnOk result ((text : List ℕ) × TellsOutcome sessions edits text × Appends (W.contents writer.old) (W.contents writer.new) text) }
+    ensures err { IfErr result (λ fault. (sent : List ℕ) × CutOutcome fault sessions edits sent × Appends (W.contents writer.old) (W.contents writer.new) sent) }
+{
+    let mut output = Output::new(rt.alloc());
+    print_sessions(rt, sessions, edits, &mut output)?;
+    output.flush(writer)?;
+    Ok(())
+}

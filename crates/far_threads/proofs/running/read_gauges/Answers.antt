@@ -1,0 +1,29 @@
+use Rattle.std.proofs.Common.{rules, ◌≡◌, List, [], ◌∷◌, ◌++◌, sym, ap, ◌∙◌, subst, length, IsOk}
+use Rattle.std.proofs.lemmas.List.{map-id}
+use Rattle.std.proofs.lemmas.Iterator.Adapters.{YieldsList-from_vec}
+use Rattle.std.proofs.lemmas.Iterator.Consumers.{YieldsList-end}
+use Rattle.far_threads.specs.Runs.{Ended}
+use Rattle.far_threads.proofs.ReadingLaws.{AreRead, read-more, readings-count, readings-of}
+use Rattle.far_threads.proofs.running.read_gauges.Goals as goal
+use Rattle.far_threads.proofs.running.read_gauges.Goals.{After-drop-one-iterator-2}
+
+pub loop-one-init : goal.loop-one-init
+loop-one-init g c = subst (AreRead g.N.Naming.plan []) (sym c.new-readings.ensures.items) tt
+
+pub loop-one-preserved : goal.loop-one-preserved
+loop-one-preserved g c =
+    subst (AreRead g.N.Naming.plan (c.loop-one.yielded ++ c.in-Some.one ∷ [])) (sym c.in_ok-push.ensures.items)
+    (read-more g.N.Naming.plan c.loop-one.yielded c.loop-one.readings.items c.in-Some.one c.in_ok-read_gauge.field-0 c.loop-one.invariant c.in_ok-read_gauge.ensures)
+
+-- all were read
+all-read : (g : _) (c : After-drop-one-iterator-2 g) → AreRead g.N.Naming.plan c.args.worked.items c.loop-one.readings.items
+all-read g c =
+    let end = YieldsList-end (YieldsList-from_vec c.args.worked.items (cc) (cc)) c.loop-one.yielded c.loop-one.one-iterator c.loop-one.yielded_by c.next.result c.next.new.self c.in-None.is c.next.ensures.steps in
+    let all : c.loop-one.yielded ≡ c.args.worked.items = sym (map-id c.loop-one.yielded) ∙ end.0 in
+    subst (λ (worked : List Ended). AreRead g.N.Naming.plan worked c.loop-one.readings.items) all c.loop-one.invariant
+
+pub returns-clause-count : goal.returns-clause-count
+returns-clause-count g c = readings-count g.N.Naming.plan g.N.Naming.plan.sessions c.args.edits c.args.worked.items _ (all-read g c) c.requires
+
+pub returns-clause-readings : goal.returns-clause-readings
+returns-clause-readings g c = readings-of g.N.Naming.plan g.N.Naming.plan.sessions c.args.edits c.args.worked.items _ (all-read g c) c.requires

@@ -1,0 +1,29 @@
+// The worker in the background.
+ghost use Rattle.std.specs.Prelude.{◌≡◌};
+
+use crate::outcome::Stop;
+use far_history::Naming;
+use far_shared::{Shared, Site};
+use far_store::{FarStore, Meter};
+use far_types::Refusal;
+use std::sync::Wait;
+
+/// Tries so many evacuations, one stripe after the other. One that is refused is passed over.
+///
+/// Ends with `Memory` where one is refused memory.
+pub(crate) fn evacuate_all<N: Naming, B: Site, S: FarStore, R: Wait>(
+    rt: &R,
+    shared: &Shared<N, B, S>,
+    store: &S,
+    tries: u32,
+) -> Result<(), Stop>
+    requires store { S.name store.now ≡ B.store }
+{
+    for k in 0..tries {
+        let mut meter = Meter::new();
+        if let Err(Refusal::NoMemory) = shared.evacuate_once(rt, k % 4, store, &mut meter) {
+            return Err(Stop::Memory);
+        }
+    }
+    Ok(())
+}

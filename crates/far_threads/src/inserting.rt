@@ -1,0 +1,69 @@
+// The edits of a session.
+ghost use Rattle.std.specs.Prelude.{◌≡◌, ℕ, ◌<◌, IfOk, OnOk};
+ghost use Rattle.far_sessions.specs.Known.{at};
+ghost use Rattle.far_threads.specs.Runs.{Makes, row_of_one};
+
+use crate::clearing::clear_way;
+use crate::outcome::Stop;
+use far_history::Naming;
+use far_sessions::Session;
+use far_shared::{Shared, Site};
+use far_store::FarStore;
+use far_types::{Cell, Edit, Row};
+use std::alloc::Global;
+use std::sync::Wait;
+
+/// How often one edit is tried.
+const MOST_TRIES: u32 = 10_000;
+
+/// The row that is inserted: the number 1.
+fn row_of_one(alloc: Global) -> Result<Row, Stop>
+    ensures { IfOk result (λ row. row ≡ row_of_one) }
+{
+    let mut cells = Vec::new(alloc);
+    cells.push(Cell::Int(1))?;
+    Ok(Row::new(cells))
+}
+
+/// Inserts a row on a stripe, with as many tries as it may take.
+fn insert_one<N: Naming, B: Site, S: FarStore, R: Wait>(
+    rt: &R,
+    alloc: Global,
+    shared: &Shared<N, B, S>,
+    store: &S,
+    me: &mut Session<B>,
+    stripe: u32,
+) -> Result<(), Stop>
+    requires store { S.name store.now ≡ B.store }
+    requires stripe { stripe < 4 }
+    ensures ok { OnOk result (Makes 1 (at me.old stripe) (at me.new stripe)) }
+{
+    for turn in 0..MOST_TRIES {
+        let edit = Edit::Insert(row_of_one(alloc)?);
+        match shared.apply(rt, me, stripe, edit) {
+            Ok(_) => return Ok(()),
+            Err(refusal) => clear_way(rt, shared, store, stripe, refusal)?,
+        }
+    }
+    Err(Stop::Turns)
+}
+
+/// Inserts so many rows on a stripe.
+pub(crate) fn insert_all<N: Naming, B: Site, S: FarStore, R: Wait>(
+    rt: &R,
+    alloc: Global,
+    shared: &Shared<N, B, S>,
+    store: &S,
+    me: &mut Session<B>,
+    stripe: u32,
+    edits: u32,
+) -> Result<(), Stop>
+    requires store { S.name store.now ≡ B.store }
+    requires stripe { stripe < 4 }
+    ensures ok { OnOk result (Makes edits (at me.old stripe) (at me.new stripe)) }
+{
+    for made in 0..edits {
+        insert_one(rt, alloc, shared, store, me, stripe)?;
+    }
+    Ok(())
+}

@@ -1,0 +1,132 @@
+// How a run begins: the names of its plan, of its cells and of its store are picked, each by a call.
+ghost use Rattle.std.specs.Prelude.{◌≡◌, ◌≤◌, IfOk, IsOkAnd, OnOk};
+ghost use Rattle.far_sessions.specs.Known.{newcomers};
+ghost use Rattle.far_shared.specs.Opening.{AreNamed};
+ghost use Rattle.far_threads.specs.Runs.{IsOutcome, IsRun};
+
+use crate::outcome::{Outcome, Stop};
+use crate::planning::plan_for;
+use crate::running::run_shared;
+use far_history::Naming;
+use far_sessions::Session;
+use far_shared::{Made, Plan, Shared, Site};
+use far_store::{AgentStore, FarStore};
+use far_types::Refusal;
+use std::alloc::Global;
+use std::marker::Brand;
+use std::sync::Wait;
+use std::thread::Threads;
+
+/// The most contents that the store of a run takes.
+const STORE_CAPACITY: u64 = 1_048_576;
+
+/// What becomes of what was made; `Memory` where it was not.
+///
+/// It knows nothing of what was made: to take a shared table out of a result costs the proof of a function minutes, and here it costs
+/// none.
+fn once_made<T: Drop, U, F: FnOnce(T) -> Result<U, Stop> + Drop>(
+    made: Result<T, Refusal>,
+    run: F,
+) -> Result<U, Stop>
+    requires { IfOk made (λ x. F.pre run x) }
+    ensures { OnOk result (IsOkAnd made (λ x. F.post run x result)) }
+{
+    match made {
+        Ok(made) => run(made),
+        Err(_) => Err(Stop::Memory),
+    }
+}
+
+/// Opens a table whose cells and store have these names, and runs its sessions.
+fn opened<N: Naming + Send + Sync, B: Site + Send + Sync, S: FarStore, R: Threads + Wait + Sync>(
+    rt: &R,
+    alloc: Global,
+    made: Made<N, S>,
+    store: &S,
+    edits: u32,
+) -> Result<Outcome, Stop>
+    requires names { AreNamed made B.cells }
+    requires store { S.name store.now ≡ B.store }
+    ensures { IfOk result (IsRun N.plan edits) }
+{
+    once_made(
+        made.open::<B>(alloc),
+        |opened: (Shared<N, B, S>, Vec<Session<B>>)| -> Result<Outcome, Stop>
+            requires store { S.name store.now ≡ B.store }
+            requires sessions { opened.1.items ≡ newcomers N.plan.sessions }
+            ensures { IfOk result (IsRun N.plan edits) }
+        {
+            let (shared, sessions) = opened;
+            run_shared(rt, alloc, &shared, store, sessions, edits)
+        },
+    )
+}
+
+/// Gives the cells of a table and its store their names, and runs the sessions.
+fn named<N: Naming + Send + Sync, S: FarStore, R: Threads + Wait + Sync>(
+    rt: &R,
+    alloc: Global,
+    made: Made<N, S>,
+    store: &S,
+    edits: u32,
+) -> Result<Outcome, Stop>
+    ensures { IfOk result (IsRun N.plan edits) }
+{
+    opened::<N, Brand, S, R>(rt, alloc, made, store, edits)
+}
+
+/// Makes the table of a plan that has this name, and runs its sessions over a store.
+fn made_over<N: Naming + Send + Sync, S: FarStore, R: Threads + Wait + Sync>(
+    rt: &R,
+    alloc: Global,
+    plan: Plan,
+    store: &S,
+    edits: u32,
+) -> Result<Outcome, Stop>
+    requires { plan ≡ N.plan }
+    ensures { IfOk result (IsRun N.plan edits) }
+{
+    once_made(
+        plan.make::<N, S>(alloc),
+        |made: Made<N, S>| -> Result<Outcome, Stop>
+            ensures { IfOk result (IsRun N.plan edits) }
+        { named(rt, alloc, made, store, edits) },
+    )
+}
+
+/// Makes a store in this process, and runs the sessions of a plan that has this name.
+fn planned<N: Naming + Send + Sync, R: Threads + Wait + Sync>(
+    rt: &R,
+    alloc: Global,
+    plan: Plan,
+    edits: u32,
+) -> Result<Outcome, Stop>
+    requires { plan ≡ N.plan }
+    ensures { IfOk result (IsRun plan edits) }
+{
+    let Ok(store) = AgentStore::new(rt, alloc, STORE_CAPACITY) else {
+        return Err(Stop::Memory);
+    };
+    made_over::<N, AgentStore<&R>, R>(rt, alloc, plan, &store, edits)
+}
+
+/// Runs sessions on threads over one shared table: each inserts so many rows of the number 1 on its home stripe, while a worker in the
+/// background tries as many evacuations, one stripe after the other. When all have ended, the gauge of each session's home stripe is
+/// read, and the gauge is asked over all stripes.
+///
+/// A session whose edit meets an object that is away fetches it and tries again; where there is no room it sends an object away and
+/// tries again. Ends with `Memory` where a call is refused memory, and with `Turns` where an edit was tried 10,000 times or is refused
+/// for another reason.
+pub fn run_sessions<R: Threads + Wait + Sync>(
+    rt: &R,
+    alloc: Global,
+    sessions: u32,
+    edits: u32,
+) -> Result<Outcome, Stop>
+    requires some { 1 ≤ sessions }
+    requires few { sessions ≤ 4 }
+    ensures ok { IfOk result (IsOutcome sessions edits) }
+{
+    let plan = plan_for(alloc, sessions)?;
+    planned::<Brand, R>(rt, alloc, plan, edits)
+}

@@ -1,0 +1,44 @@
+// How a run of sessions ends.
+ghost use Rattle.std.specs.Prelude.{◌≡◌};
+
+use far_history::Reading;
+use far_types::Answer;
+use std::alloc::{AllocError, AllocFailed};
+
+/// What a run of sessions leaves, as it is read when all sessions have ended.
+#[derive(Drop, Debug)]
+pub struct Outcome {
+    /// The gauge of each session's home stripe, in the order of the sessions.
+    pub gauges: Vec<Reading>,
+    /// What the gauge answers over all stripes.
+    pub answer: Answer,
+}
+
+/// What ends a run of sessions early.
+#[derive(Clone, Copy, Debug, PartialEq, Eq)]
+pub enum Stop {
+    /// A call was refused memory.
+    Memory,
+    /// An edit was tried 10,000 times, or was refused for what no other try mends.
+    Turns,
+}
+
+impl From<AllocError> for Stop {
+    ghost use Rattle.far_threads.specs.declared.outcome.Stop.TheVariants.{Memory};
+
+    ghost from_gives = { λ _ stop. stop ≡ Memory };
+
+    fn from(_e: AllocError) -> Stop {
+        Stop::Memory
+    }
+}
+
+impl<T: Drop> From<AllocFailed<T>> for Stop {
+    ghost use Rattle.far_threads.specs.declared.outcome.Stop.TheVariants.{Memory};
+
+    ghost from_gives = { λ _ stop. stop ≡ Memory };
+
+    fn from(_e: AllocFailed<T>) -> Stop {
+        Stop::Memory
+    }
+}
