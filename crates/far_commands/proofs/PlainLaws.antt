@@ -1,6 +1,6 @@
 -- A number, and the mark of no value, are written as they are: they have no byte that the csv writer sets apart.
 use Rattle.std.proofs.Common.{◌≡◌, ◌==◌, ◌+◌, ◌/◌, ◌%◌, ◌<◌, ℕ, zero, suc, Bool, true, false, List, [], ◌∷◌, length, decimal, refl, arith, ◌∙◌, if◌then◌else◌}
-use Rattle.std.specs.Prelude.{ℤ, pos, negsuc, nat_lt, ◌||◌}
+use Rattle.std.specs.Prelude.{ℤ, pos, negsuc, nat_lt}
 use Rattle.std.specs.Fmt.{digit_glyph, digits, digits_onto, signed_decimal}
 use Rattle.std.proofs.lemmas.Bool.{eqb-true}
 use Rattle.csv.specs.Quoting.{needs_byte}

@@ -84,4 +84,4 @@ module _ {S K : Type 0} (tickets : Tickets S K) where
   AnswersLine old [] rows text new = (rows ≡ []) × (text ≡ []) × (new ≡ old)
   AnswersLine old (c ∷ cs) rows text new =
       IsUtf8 (c ∷ cs) × (new.number ≡ old.number + 1)
-      × ServesLine tickets new.number old.world (command_of old.world.state.table.schema (c ∷ cs)) rows text new.world
+      × ServesLine new.number old.world (command_of old.world.state.table.schema (c ∷ cs)) rows text new.world
