@@ -1,94 +1,64 @@
 // Rows that are to come: worked examples.
-ghost use Rattle.std.specs.Prelude.{◌≡◌, [], ◌∷◌, length, true, false, IfOk};
-ghost use Rattle.std.specs.List.{list_any};
-ghost use Rattle.far_types.specs.declared.cell.Kind.TheVariants.{Int, Text as Texts};
-ghost use Rattle.far_types.specs.Cells.{is_of_kind, is_too_long};
-ghost use Rattle.far_types.specs.Edits.{kinds_fit};
+ghost use Rattle.std.specs.Prelude.{◌≡◌, length};
 
+use crate::fixture::{Values, row};
 use far_rows::{NewRow, Slot};
-use far_types::{Cell, Kind, Refusal, Row, Text};
+use far_types::{CellRef, Refusal, Text};
 use std::alloc::Global;
-use std::test::Fail;
 
-pub fn number_cell(number: Option<i64>) -> Cell
-    ensures kind { is_of_kind Kind.Int result ≡ true }
-    ensures short { is_too_long result ≡ false }
+/// The values of two rows.
+static FIRST: Values<'static> = (
+    CellRef::Text("one"),
+    CellRef::Int(1),
+    CellRef::Missing,
+    CellRef::Missing,
+);
+
+static SECOND: Values<'static> = (
+    CellRef::Text("two"),
+    CellRef::Missing,
+    CellRef::Missing,
+    CellRef::Int(2),
+);
+
+/// Whether a row of two columns of texts and two of numbers has these values.
+fn has(row: &NewRow, texts: [Option<&str>; 2], numbers: [Option<i64>; 2]) -> bool
+    requires { length row.now.texts ≡ 2 }
 {
-    match number {
-        Some(number) => Cell::Int(number),
-        None => Cell::Missing,
+    row.numbers() == numbers.as_slice()
+        && is_text(&row.texts()[0], texts[0])
+        && is_text(&row.texts()[1], texts[1])
+}
+
+/// Whether both are the same text, or none.
+fn is_text(text: &Option<Text>, due: Option<&str>) -> bool {
+    match (text, due) {
+        (Some(text), Some(due)) => text.as_str() == due,
+        (None, None) => true,
+        _ => false,
     }
 }
 
-pub fn text_cell(alloc: Global, text: Option<&str>) -> Result<Cell, Refusal>
-    ensures kind { IfOk result (λ cell. is_of_kind Kind.Text cell ≡ true) }
-    ensures short { IfOk result (λ cell. is_too_long cell ≡ false) }
-{
-    match text {
-        Some(text) if text.len() > 4096 => Err(Refusal::TextTooLong),
-        Some(text) => Ok(Cell::Text(Text::new(String::from_str(alloc, text)?))),
-        None => Ok(Cell::Missing),
-    }
-}
-
-/// A row of a number, a text and another number, each of which may be missing.
-fn row(alloc: Global, numbers: [Option<i64>; 2], text: Option<&str>) -> Result<Row, Refusal>
-    ensures width { IfOk result (λ row. length row ≡ 3) }
-    ensures kinds { IfOk result (λ row. kinds_fit (Int ∷ Texts ∷ Int ∷ []) row ≡ true) }
-    ensures short { IfOk result (λ row. list_any is_too_long row ≡ false) }
-{
-    let first = number_cell(numbers[0]);
-    let text = text_cell(alloc, text)?;
-    let last = number_cell(numbers[1]);
-    Ok(Row::new(Vec::from_array(alloc, [first, text, last])?))
-}
-
-/// A row without a value, of two columns of numbers and one of texts, at the second call where the first finds no memory.
-fn no_values(alloc: Global) -> Result<NewRow, Refusal>
-    ensures numbers { IfOk result (λ row. length row.numbers ≡ 2) }
-    ensures texts { IfOk result (λ row. length row.texts ≡ 1) }
-{
-    match NewRow::new(alloc, 2, 1) {
-        Err(Refusal::NoMemory) => NewRow::new(alloc, 2, 1),
+/// Whether a row has no value at first, and of two rows that it takes the cells of, one after the other, keeps the last.
+fn keeps_the_last(alloc: Global) -> Result<bool, Refusal> {
+    let slots = [
+        Slot::Text(0),
+        Slot::Number(0),
+        Slot::Text(1),
+        Slot::Number(1),
+    ];
+    let taken = match NewRow::new(alloc, 2, 2) {
+        Err(Refusal::NoMemory) => NewRow::new(alloc, 2, 2),
         reply => reply,
-    }
-}
-
-/// The numbers of a row that is to come, and its text.
-fn values(row: &NewRow) -> ([Option<i64>; 2], Option<&str>)
-    requires numbers { length row.now.numbers ≡ 2 }
-    requires texts { length row.now.texts ≡ 1 }
-{
-    let numbers = row.numbers();
-    let text = match &row.texts()[0] {
-        Some(text) => Some(text.as_str()),
-        None => None,
     };
-    ([numbers[0], numbers[1]], text)
-}
-
-/// A row that takes the cells of two rows, one after the other.
-fn taken_twice(alloc: Global) -> Result<NewRow, Refusal>
-    ensures numbers { IfOk result (λ row. length row.numbers ≡ 2) }
-    ensures texts { IfOk result (λ row. length row.texts ≡ 1) }
-{
-    let slots = [Slot::Number(0), Slot::Text(0), Slot::Number(1)];
-    let mut taken = no_values(alloc)?;
-    taken.fill(&slots, row(alloc, [Some(1), None], Some("one"))?);
-    taken.fill(&slots, row(alloc, [None, Some(2)], Some("two"))?);
-    Ok(taken)
+    let mut taken = taken?;
+    let is_empty = has(&taken, [None, None], [None, None]);
+    taken.fill(&slots, row(alloc, &FIRST)?);
+    taken.fill(&slots, row(alloc, &SECOND)?);
+    Ok(is_empty && has(&taken, [Some("two"), None], [None, Some(2)]))
 }
 
 #[test]
-fn a_row_has_no_value_at_first(rt: HostRuntime) -> Result<(), Fail> {
-    let row = no_values(rt.alloc())?;
-    assert_eq!(rt; values(&row), ([None, None], None));
-    Ok(())
-}
-
-#[test]
-fn of_two_rows_the_last_is_kept(rt: HostRuntime) -> Result<(), Fail> {
-    let row = taken_twice(rt.alloc())?;
-    assert_eq!(rt; values(&row), ([None, Some(2)], Some("two")));
-    Ok(())
+fn of_two_rows_the_last_is_kept(rt: HostRuntime) {
+    assert_eq!(rt; keeps_the_last(rt.alloc()), Ok(true));
 }

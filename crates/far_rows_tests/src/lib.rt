@@ -10,6 +10,8 @@ mod fixture;
 #[cfg(test)]
 mod grouping;
 #[cfg(test)]
+mod look;
+#[cfg(test)]
 mod moving;
 #[cfg(test)]
 mod opening;

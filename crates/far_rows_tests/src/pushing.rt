@@ -1,37 +1,70 @@
 // Rows that are pushed: worked examples.
-use crate::fixture::{FIRST, FOURTH, Fixture, LIMITS, SECOND, THIRD, Values};
-use crate::script::{Call, Step, answered, is_due, play};
-use far_fixtures::agent;
-use far_store::FarStore;
-use far_types::{Limits, Refusal};
-use std::alloc::Global;
+use crate::fixture::{LIMITS, Values};
+use crate::look::Look;
+use crate::script::{CASE, Call, Case, Step, play};
+use far_types::CellRef::{Int, Missing, Text};
+use far_types::{CellRef, Limits, Refusal};
 use std::test::Fail;
 
+/// The values of two row groups.
+pub const FIRST: Values<'static> = (Text("one"), Int(1), Text(""), Missing);
+
+pub const SECOND: Values<'static> = (Missing, Int(-2), Text("zwei"), Int(20));
+
+pub const THIRD: Values<'static> = (Text("three"), Missing, Missing, Int(i64::MIN));
+
+pub const FOURTH: Values<'static> = (Missing, Missing, Missing, Missing);
+
+/// The first of them are pushed.
+pub const ONE_ROW: &[Step] = &[Step::Does(Call::Push(FIRST))];
+
+pub const THREE_ROWS: &[Step] = &[
+    Step::Does(Call::Push(FIRST)),
+    Step::Does(Call::Push(SECOND)),
+    Step::Does(Call::Push(THIRD)),
+];
+
+pub const FOUR_ROWS: &[Step] = &[
+    Step::Does(Call::Push(FIRST)),
+    Step::Does(Call::Push(SECOND)),
+    Step::Does(Call::Push(THIRD)),
+    Step::Does(Call::Push(FOURTH)),
+];
+
+/// The table has the first of them, all alive, and no other.
+pub const HAS_ONE: Step = Step::Is(Look::Rows(&[FIRST]));
+
+pub const HAS_TWO: Step = Step::Is(Look::Rows(&[FIRST, SECOND]));
+
+pub const HAS_THREE: Step = Step::Is(Look::Rows(&[FIRST, SECOND, THIRD]));
+
+pub const HAS_FOUR: Step = Step::Is(Look::Rows(&[FIRST, SECOND, THIRD, FOURTH]));
+
 /// Each row is asked for, pushed and read back.
-static PUSHED: [Step; 13] = [
-    Step::Rows(0),
-    Step::Call(Call::MayPush(FIRST), Ok(())),
-    Step::Call(Call::Push(FIRST), Ok(())),
-    Step::Rows(1),
-    Step::Call(Call::MayPush(SECOND), Ok(())),
-    Step::Call(Call::Push(SECOND), Ok(())),
-    Step::Rows(2),
-    Step::Call(Call::MayPush(THIRD), Ok(())),
-    Step::Call(Call::Push(THIRD), Ok(())),
-    Step::Rows(3),
-    Step::Call(Call::MayPush(FOURTH), Ok(())),
-    Step::Call(Call::Push(FOURTH), Ok(())),
-    Step::Rows(4),
+const PUSHED: &[Step] = &[
+    Step::Is(Look::Rows(&[])),
+    Step::Does(Call::MayPush(FIRST)),
+    Step::Does(Call::Push(FIRST)),
+    HAS_ONE,
+    Step::Does(Call::MayPush(SECOND)),
+    Step::Does(Call::Push(SECOND)),
+    HAS_TWO,
+    Step::Does(Call::MayPush(THIRD)),
+    Step::Does(Call::Push(THIRD)),
+    HAS_THREE,
+    Step::Does(Call::MayPush(FOURTH)),
+    Step::Does(Call::Push(FOURTH)),
+    HAS_FOUR,
 ];
 
 /// Two row groups take all room for numbers.
-static NO_NUMBERS: [Step; 2] = [
-    Step::Call(Call::MayPush(FIRST), Err(Refusal::RegionFull)),
-    Step::Rows(4),
+const NO_NUMBERS: &[Step] = &[
+    Step::Refuses(Call::MayPush(FIRST), Refusal::RegionFull),
+    HAS_FOUR,
 ];
 
 /// A text of thirty letters, of which two make a form too long.
-const LONG: Option<&str> = Some("aaaaaaaaaaaaaaaaaaaaaaaaaaaaaa");
+const LONG: CellRef<'static> = Text("aaaaaaaaaaaaaaaaaaaaaaaaaaaaaa");
 
 /// One segment for the texts of two columns.
 const ONE_SEGMENT: Limits = Limits {
@@ -39,82 +72,97 @@ const ONE_SEGMENT: Limits = Limits {
     ..LIMITS
 };
 
-const TWO_LONG: Values<'static> = (LONG, None, LONG, None);
+const TWO_LONG: Values<'static> = (LONG, Missing, LONG, Missing);
 
-const ONE_LONG: Values<'static> = (None, Some(1), LONG, Some(2));
+const ONE_LONG: Values<'static> = (Missing, Int(1), LONG, Int(2));
 
 /// A row with one long text fits in it, and neither two such texts do nor another such row.
-static NO_TEXTS: [Step; 6] = [
-    Step::Call(Call::MayPush(TWO_LONG), Err(Refusal::RegionFull)),
-    Step::Call(Call::Push(ONE_LONG), Ok(())),
-    Step::Call(Call::MayPush(ONE_LONG), Err(Refusal::ChunkFull)),
-    Step::Alive(0, Some(true)),
-    Step::Alive(1, None),
-    Step::Values(0, ONE_LONG),
+const NO_TEXTS: &[Step] = &[
+    Step::Refuses(Call::MayPush(TWO_LONG), Refusal::RegionFull),
+    Step::Does(Call::Push(ONE_LONG)),
+    Step::Refuses(Call::MayPush(ONE_LONG), Refusal::ChunkFull),
+    Step::Is(Look::Alive(0, Some(true))),
+    Step::Is(Look::Alive(1, None)),
+    Step::Is(Look::Values(0, ONE_LONG)),
 ];
 
-/// A text of so many letters `a`.
-fn letters(alloc: Global, count: usize) -> Result<String, Refusal> {
-    let mut letters = String::new(alloc);
-    for _ in 0..count {
-        letters.push_str("a")?;
-    }
-    Ok(letters)
+// A text, 64 times.
+macro_rules! eight_times {
+    ($text:tt) => {
+        eight_times_all!($text, $text, $text, $text, $text, $text, $text, $text)
+    };
 }
 
-/// Whether a row with so many letters is refused, be it in the first column of texts or in the second.
-fn is_too_long<S: FarStore>(
-    alloc: Global,
-    fixture: &Fixture<'_, S>,
-    count: usize,
-) -> Result<bool, Refusal> {
-    let letters = letters(alloc, count)?;
-    let text = Some(letters.as_str());
-    let first = fixture.may_push(alloc, (text, Some(1), None, Some(2)));
-    let second = fixture.may_push(alloc, (None, Some(1), text, Some(2)));
-    Ok(is_due(first, Err(Refusal::ChunkFull))? && is_due(second, Err(Refusal::ChunkFull))?)
+macro_rules! eight_times_all {
+    ($($text:tt),*) => {
+        concat!(
+            $($text),*, $($text),*, $($text),*, $($text),*, $($text),*, $($text),*, $($text),*, $($text),*
+        )
+    };
 }
 
-/// Whether texts, of which one alone fills a form, are refused.
-fn are_too_long<S: FarStore>(alloc: Global, fixture: &Fixture<'_, S>) -> Result<bool, Refusal> {
-    for count in [64, 100, 4096] {
-        if !is_too_long(alloc, fixture, count)? {
-            return Ok(false);
-        }
-    }
-    Ok(fixture.has_first(1))
+/// Texts of so many letters, of which one alone fills a form.
+const LETTERS_64: &str = "aaaaaaaaaaaaaaaaaaaaaaaaaaaaaaaaaaaaaaaaaaaaaaaaaaaaaaaaaaaaaaaa";
+
+const LETTERS_100: &str = concat!(
+    "aaaaaaaaaaaaaaaaaaaaaaaaaaaaaaaaaaaaaaaaaaaaaaaaaa",
+    "aaaaaaaaaaaaaaaaaaaaaaaaaaaaaaaaaaaaaaaaaaaaaaaaaa"
+);
+
+const LETTERS_4096: &str = eight_times!(
+    "aaaaaaaaaaaaaaaaaaaaaaaaaaaaaaaaaaaaaaaaaaaaaaaaaaaaaaaaaaaaaaaa"
+);
+
+// A row with a text is refused, be it in the first column of texts or in the second.
+macro_rules! is_too_long {
+    ($text:expr) => {
+        &[
+            Step::Refuses(
+                Call::MayPush((Text($text), Int(1), Missing, Int(2))),
+                Refusal::ChunkFull,
+            ),
+            Step::Refuses(
+                Call::MayPush((Missing, Int(1), Text($text), Int(2))),
+                Refusal::ChunkFull,
+            ),
+        ]
+    };
 }
 
-/// Whether long texts are refused behind a row, and the next row is not.
-fn only_short<S: FarStore>(alloc: Global, fixture: &mut Fixture<'_, S>) -> Result<bool, Refusal> {
-    let refused = are_too_long(alloc, fixture)?;
-    fixture.push(alloc, SECOND)?;
-    Ok(refused && fixture.has_first(2))
-}
+/// The next row is pushed.
+const ONLY_SHORT: &[Step] = &[HAS_ONE, Step::Does(Call::Push(SECOND)), HAS_TWO];
 
-fn only_short_over<S: FarStore>(alloc: Global, store: &S) -> Result<bool, Refusal> {
-    let mut fixture = Fixture::filled(alloc, store, LIMITS, 1)?;
-    only_short(alloc, &mut fixture)
-}
+static CASES: [Case; 4] = [
+    Case {
+        name: "rows that are pushed read back",
+        parts: &[PUSHED],
+        ..CASE
+    },
+    Case {
+        name: "a row group without room for its numbers is refused",
+        parts: &[FOUR_ROWS, NO_NUMBERS],
+        ..CASE
+    },
+    Case {
+        name: "a row group without room for its texts is refused",
+        limits: ONE_SEGMENT,
+        parts: &[NO_TEXTS],
+        ..CASE
+    },
+    Case {
+        name: "a text that is too long for a form is refused",
+        parts: &[
+            ONE_ROW,
+            is_too_long!(LETTERS_64),
+            is_too_long!(LETTERS_100),
+            is_too_long!(LETTERS_4096),
+            ONLY_SHORT,
+        ],
+        ..CASE
+    },
+];
 
 #[test]
-fn rows_that_are_pushed_read_back(rt: HostRuntime) -> Result<(), Fail> {
-    answered(play(&rt, rt.alloc(), LIMITS, 0, &PUSHED))
-}
-
-#[test]
-fn a_row_group_without_room_for_its_numbers_is_refused(rt: HostRuntime) -> Result<(), Fail> {
-    answered(play(&rt, rt.alloc(), LIMITS, 4, &NO_NUMBERS))
-}
-
-#[test]
-fn a_row_group_without_room_for_its_texts_is_refused(rt: HostRuntime) -> Result<(), Fail> {
-    answered(play(&rt, rt.alloc(), ONE_SEGMENT, 0, &NO_TEXTS))
-}
-
-#[test]
-fn a_text_that_is_too_long_for_a_form_is_refused(rt: HostRuntime) -> Result<(), Fail> {
-    let store = agent(&rt, 4)?;
-    assert!(rt; only_short_over(rt.alloc(), &store)?);
-    Ok(())
+fn rows_are_pushed_as_far_as_there_is_room(rt: HostRuntime) -> Result<(), Fail> {
+    play(&rt, rt.alloc(), &CASES)
 }

@@ -1,20 +1,20 @@
 // Random calls on a table, against plain lists, call by call.
 mod plain;
 
-use crate::fixture::{Fixture, LIMITS, Values};
-use crate::script::{Call, Set, reply};
-use far_fixtures::agent;
+use crate::fixture::{Fixture, LIMITS};
+use crate::look::is_cell;
+use crate::script::{Call, store};
 use far_random::Draws;
 use far_store::FarStore;
-use far_types::{Limits, Refusal};
+use far_types::{CellRef, Limits, Refusal};
 use plain::Plain;
 use std::alloc::Global;
-use std::test::Fail;
+use std::sync::Wait;
 
 // How many runs of how many calls.
 const RUNS: u64 = 20;
 
-const STEPS: u32 = 250;
+const STEPS: u32 = 400;
 
 // How many places a row group has, and the table at most.
 const SIZE: usize = 3;
@@ -37,47 +37,36 @@ const LARGE: Limits = Limits {
 };
 
 /// Texts that are drawn: the form of a row group is too long with two of those of thirty letters.
-static WORDS: [Option<&str>; 8] = [
-    None,
-    Some(""),
-    Some("a"),
-    Some("pear"),
-    Some("häuser"),
-    Some("€"),
-    Some("a plain text of thirty letters"),
-    Some("another text of some length"),
+static TEXTS: [CellRef<'static>; 8] = [
+    CellRef::Missing,
+    CellRef::Text(""),
+    CellRef::Text("a"),
+    CellRef::Text("pear"),
+    CellRef::Text("häuser"),
+    CellRef::Text("€"),
+    CellRef::Text("a plain text of thirty letters"),
+    CellRef::Text("another text of some length"),
 ];
 
-fn drawn_text(draws: &mut Draws) -> Option<&'static str> {
-    WORDS.get(draws.below(8) as usize).copied().flatten()
-}
-
-/// A number that is missing one time in five.
-fn drawn_number(draws: &mut Draws) -> Option<i64> {
+/// A value for a column: one of the texts, or a number, which is missing one time in five.
+fn drawn(draws: &mut Draws, column: usize) -> CellRef<'static> {
+    if column % 2 == 0 {
+        let text = draws.below(8) as usize;
+        return *TEXTS.get(text).unwrap_or(&CellRef::Missing);
+    }
     let number = draws.below(1_000);
     if number % 5 == 0 {
-        None
-    } else {
-        Some(i64::from(number).wrapping_sub(500))
+        return CellRef::Missing;
     }
+    CellRef::Int(i64::from(number).wrapping_sub(500))
 }
 
-/// The row to be pushed.
-fn drawn_row(draws: &mut Draws) -> Values<'static> {
-    let first = drawn_text(draws);
-    let second = drawn_number(draws);
-    let third = drawn_text(draws);
-    (first, second, third, drawn_number(draws))
-}
-
-/// A value for a place.
-fn drawn_set(draws: &mut Draws, place: usize) -> Set {
-    match draws.below(4) {
-        0 => Set::Text(place, 0, drawn_text(draws)),
-        1 => Set::Text(place, 2, drawn_text(draws)),
-        2 => Set::Number(place, 1, drawn_number(draws)),
-        _ => Set::Number(place, 3, drawn_number(draws)),
-    }
+/// A call that pushes a row.
+fn drawn_push(draws: &mut Draws) -> Call {
+    let first = drawn(draws, 0);
+    let second = drawn(draws, 1);
+    let third = drawn(draws, 2);
+    Call::Push((first, second, third, drawn(draws, 3)))
 }
 
 /// The next call on a table of so many places.
@@ -85,29 +74,16 @@ fn drawn_call(draws: &mut Draws, len: usize) -> Call {
     let place = draws.index_or_end(len);
     let column = draws.below(4) as usize;
     let group = u32::try_from(place / SIZE).unwrap_or(u32::MAX);
-    match draws.below(28) {
-        0..=4 if len < PLACES => Call::Push(drawn_row(draws)),
-        0..=12 => Call::Set(drawn_set(draws, place)),
+    match draws.below(29) {
+        0..=4 if len < PLACES => drawn_push(draws),
+        0..=12 => Call::Set(column, place, drawn(draws, column)),
         13 => Call::Clear(place),
         14 => Call::Pin(column, group),
         15 | 16 => Call::Unpin(column, group),
         17..=19 => Call::Evacuate(column, group),
         20..=26 => Call::FetchBack(column, group),
-        _ => Call::Compact(draws.below(64)),
-    }
-}
-
-/// What a call should answer. There is room for all objects, and a call that changes nothing is not drawn.
-fn due(plain: &mut Plain, call: Call) -> Result<(), Refusal> {
-    match call {
-        Call::Push(values) => plain.push(values),
-        Call::Set(set) => plain.set(set),
-        Call::Clear(place) => plain.clear(place),
-        Call::Pin(column, group) => plain.pin(column, group),
-        Call::Unpin(column, group) => plain.unpin(column, group),
-        Call::Evacuate(column, group) => plain.evacuate(column, group),
-        Call::FetchBack(column, group) => plain.fetch_back(column, group),
-        _ => Ok(()),
+        27 => Call::CompactNumbers(draws.below(64)),
+        _ => Call::CompactTexts(draws.below(64)),
     }
 }
 
@@ -122,64 +98,79 @@ fn agree<S: FarStore>(fixture: &Fixture<'_, S>, plain: &Plain) -> bool {
 }
 
 fn agree_at<S: FarStore>(fixture: &Fixture<'_, S>, plain: &Plain, place: usize) -> bool {
-    let group = u32::try_from(place / SIZE).unwrap_or(u32::MAX);
-    fixture.values(place) == plain.values(place)
-        && fixture.rows().is_alive(place) == plain.is_alive(place)
-        && fixture.rows().here(group) == plain.here(place / SIZE)
-}
-
-/// Makes one call: whether its reply, and the whole table after it, are as they should be.
-fn is_right<S: FarStore>(
-    alloc: Global,
-    fixture: &mut Fixture<'_, S>,
-    plain: &mut Plain,
-    call: Call,
-) -> Result<bool, Refusal> {
-    let reply = reply(alloc, fixture, call);
-    let due = due(plain, call);
-    if reply == Err(Refusal::NoMemory) || due == Err(Refusal::NoMemory) {
-        return Err(Refusal::NoMemory);
+    for column in 0..4 {
+        if !is_same(
+            fixture.rows().cell(column, place),
+            plain.cell(column, place),
+        ) {
+            return false;
+        }
     }
-    Ok(reply == due && agree(fixture, plain))
+    let group = place / SIZE;
+    fixture.rows().is_alive(place) == plain.is_alive(place)
+        && fixture
+            .rows()
+            .here(u32::try_from(group).unwrap_or(u32::MAX))
+            == plain.here(group)
 }
 
-/// Makes calls: which is the first that is not right.
+/// Whether both are the same cell, or the same refusal.
+fn is_same(one: Result<CellRef<'_>, Refusal>, other: Result<CellRef<'_>, Refusal>) -> bool {
+    one.err() == other.err() && is_cell(one.ok(), other.ok())
+}
+
+/// Makes the calls of a seed: which is the first whose reply, or the whole table after it, is not as it should be.
 fn first_wrong<S: FarStore>(
     alloc: Global,
     fixture: &mut Fixture<'_, S>,
     plain: &mut Plain,
-    draws: &mut Draws,
-) -> Result<Option<u32>, Refusal> {
+    seed: u64,
+) -> Option<u32> {
+    let mut draws = Draws::new(seed);
     for step in 0..STEPS {
-        let call = drawn_call(draws, plain.len());
-        if !is_right(alloc, fixture, plain, call)? {
-            return Ok(Some(step));
+        let call = drawn_call(&mut draws, plain.len());
+        if fixture.answer(alloc, &call) != plain.answer(&call) || !agree(fixture, plain) {
+            return Some(step);
         }
     }
-    Ok(None)
+    None
 }
 
-/// Makes the calls of a seed on a table of its own.
+/// The same on a table of its own.
 fn first_wrong_of<S: FarStore>(
     alloc: Global,
     store: &S,
     seed: u64,
 ) -> Result<Option<u32>, Refusal> {
-    let mut fixture = Fixture::new(alloc, store, LARGE)?;
-    first_wrong(
-        alloc,
-        &mut fixture,
-        &mut Plain::new(alloc),
-        &mut Draws::new(seed),
-    )
+    let mut fixture = Fixture::new(alloc, store, store, &LARGE)?;
+    let mut plain = Plain::new(alloc)?;
+    Ok(first_wrong(alloc, &mut fixture, &mut plain, seed))
+}
+
+/// The first run that is not right, and its first call that is not.
+fn first_wrong_run<S: FarStore>(alloc: Global, store: &S) -> Result<Option<(u64, u32)>, Refusal> {
+    for seed in 0..RUNS {
+        match first_wrong_of(alloc, store, seed) {
+            Ok(None) => {}
+            Ok(Some(step)) => return Ok(Some((seed, step))),
+            Err(refusal) => return Err(refusal),
+        }
+    }
+    Ok(None)
+}
+
+/// The same over a store of its own.
+fn first_wrong_over<R: Wait + Sync + Drop + Copy>(
+    rt: R,
+    alloc: Global,
+) -> Result<Option<(u64, u32)>, Refusal> {
+    match store(rt, alloc, 65_536, 0) {
+        Ok(store) => first_wrong_run(alloc, &store),
+        Err(refusal) => Err(refusal),
+    }
 }
 
 #[test]
-fn random_calls_on_a_table_agree_with_plain_lists(rt: HostRuntime) -> Result<(), Fail> {
-    let store = agent(&rt, 65_536)?;
-    for seed in 0..RUNS {
-        let wrong = first_wrong_of(rt.alloc(), &store, seed)?;
-        assert_eq!(rt; wrong, None, "seed {seed}");
-    }
-    Ok(())
+fn random_calls_on_a_table_agree_with_plain_lists(rt: HostRuntime) {
+    assert_eq!(rt; first_wrong_over(&rt, rt.alloc()), Ok(None));
 }

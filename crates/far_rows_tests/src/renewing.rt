@@ -1,158 +1,117 @@
 // Tables that go into another store: worked examples.
-use crate::fixture::{Fixture, LIMITS};
-use crate::moving::{AWAY, bring_back, come_back, send_away};
-use crate::script::is_due;
-use far_store::{AgentStore, FarStore, FaultyStore};
+use crate::moving::{
+    ALL_AWAY, ALL_BACK, MOVED_ALL, MOVED_NUMBERS, MOVED_TEXTS, NUMBERS_AWAY, NUMBERS_BACK,
+    TEXTS_AWAY, TEXTS_BACK, WHILE_ALL_AWAY, WHILE_NUMBERS_AWAY, WHILE_TEXTS_AWAY,
+};
+use crate::pushing::{HAS_THREE, THREE_ROWS};
+use crate::script::{CASE, Call, Case, Step, play};
 use far_types::Refusal;
-use std::alloc::Global;
-use std::sync::Wait;
 use std::test::Fail;
 
-/// A store of so many contents, at the second call where the first finds no memory.
-fn agent<R: Wait + Sync + Drop + Copy>(
-    rt: R,
-    alloc: Global,
-    capacity: u64,
-) -> Result<AgentStore<R>, Refusal> {
-    match AgentStore::new(rt, alloc, capacity) {
-        Err(Refusal::NoMemory) => AgentStore::new(rt, alloc, capacity),
-        reply => reply,
-    }
-}
+/// What is away is put into the other store, or there is no room for it.
+const PUT: &[Step] = &[Step::Does(Call::PutAgain)];
 
-/// Moves a table into another store while the objects of some columns are away: whether calls are refused as before, and
-/// the rows are as before once the objects are back.
-fn is_moved<S: FarStore, N: FarStore>(
-    alloc: Global,
-    store: &S,
-    new_store: &N,
-    case: (&[usize], usize),
-) -> Result<bool, Refusal> {
-    let mut fixture = Fixture::filled(alloc, store, LIMITS, 3)?;
-    send_away(alloc, &mut fixture, case.0)?;
-    is_moved_to(alloc, fixture, new_store, case)
-}
+const NO_ROOM: &[Step] = &[Step::Refuses(Call::PutAgain, Refusal::FarFull)];
 
-fn is_moved_to<S: FarStore, N: FarStore>(
-    alloc: Global,
-    fixture: Fixture<'_, S>,
-    new_store: &N,
-    case: (&[usize], usize),
-) -> Result<bool, Refusal> {
-    let mut fixture = fixture.moved(alloc, new_store)?;
-    come_back(alloc, &mut fixture, case)
-}
+const FAULT: &[Step] = &[Step::Refuses(Call::PutAgain, Refusal::FarFault)];
 
-/// The same of a table over a new store, which goes into another.
-fn is_moved_between<R: Wait + Sync + Drop + Copy>(
-    rt: R,
-    alloc: Global,
-    case: (&[usize], usize),
-) -> Result<bool, Refusal> {
-    let store = agent(rt, alloc, 16)?;
-    is_moved_from(rt, alloc, &store, case)
-}
-
-fn is_moved_from<R: Wait + Sync + Drop + Copy, S: FarStore>(
-    rt: R,
-    alloc: Global,
-    store: &S,
-    case: (&[usize], usize),
-) -> Result<bool, Refusal> {
-    let new_store = agent(rt, alloc, 16)?;
-    is_moved(alloc, store, &new_store, case)
-}
-
-/// The columns of which the objects of a row group are away, how many contents the new store takes, and the reply.
-type Room = (&'static [usize], u64, Result<(), Refusal>);
-
-static ROOM: [Room; 6] = [
-    (&[], 0, Ok(())),
-    (&[1], 0, Err(Refusal::FarFull)),
-    (&[2], 0, Err(Refusal::FarFull)),
-    (&[0, 3], 1, Err(Refusal::FarFull)),
-    (&[0, 3], 2, Ok(())),
-    (&[0, 1, 2, 3], 3, Err(Refusal::FarFull)),
+/// A column of texts and the last, one of numbers, go away and come back.
+const TWO_AWAY: &[Step] = &[
+    Step::Does(Call::Evacuate(0, 1)),
+    Step::Does(Call::Evacuate(3, 1)),
 ];
 
-/// The object of one column is away, and cannot be read.
-const FAULT: Room = (&[2], 16, Err(Refusal::FarFault));
+const TWO_BACK: &[Step] = &[
+    Step::Does(Call::FetchBack(0, 1)),
+    Step::Does(Call::FetchBack(3, 1)),
+    HAS_THREE,
+];
 
-/// What a renewal of a table answers while the objects of some columns are away: whether it is what is due, and the rows are as
-/// before.
-fn answers<S: FarStore, N: FarStore>(
-    alloc: Global,
-    fixture: &mut Fixture<'_, S>,
-    new_store: &N,
-    columns: &[usize],
-    due: Result<(), Refusal>,
-) -> Result<bool, Refusal> {
-    send_away(alloc, fixture, columns)?;
-    let answered = is_due(fixture.put_again(alloc, new_store), due)?;
-    bring_back(alloc, fixture, columns)?;
-    Ok(answered && fixture.has_first(3))
-}
+/// So do all, in the order of the columns.
+const EACH_AWAY: &[Step] = &[
+    Step::Does(Call::Evacuate(0, 1)),
+    Step::Does(Call::Evacuate(1, 1)),
+    Step::Does(Call::Evacuate(2, 1)),
+    Step::Does(Call::Evacuate(3, 1)),
+];
 
-/// The same of a new table.
-fn is_answered<S: FarStore, N: FarStore>(
-    alloc: Global,
-    store: &S,
-    new_store: &N,
-    columns: &[usize],
-    due: Result<(), Refusal>,
-) -> Result<bool, Refusal> {
-    let mut fixture = Fixture::filled(alloc, store, LIMITS, 3)?;
-    answers(alloc, &mut fixture, new_store, columns, due)
-}
+const EACH_BACK: &[Step] = &[
+    Step::Does(Call::FetchBack(0, 1)),
+    Step::Does(Call::FetchBack(1, 1)),
+    Step::Does(Call::FetchBack(2, 1)),
+    Step::Does(Call::FetchBack(3, 1)),
+    HAS_THREE,
+];
 
-/// The same of a table over this store, which goes into a new one.
-fn is_answered_from<R: Wait + Sync + Drop + Copy, S: FarStore>(
-    rt: R,
-    alloc: Global,
-    store: &S,
-    (columns, capacity, due): Room,
-) -> Result<bool, Refusal> {
-    let new_store = agent(rt, alloc, capacity)?;
-    is_answered(alloc, store, &new_store, columns, due)
-}
-
-fn is_answered_between<R: Wait + Sync + Drop + Copy>(
-    rt: R,
-    alloc: Global,
-    room: Room,
-) -> Result<bool, Refusal> {
-    let store = agent(rt, alloc, 16)?;
-    is_answered_from(rt, alloc, &store, room)
-}
-
-/// The same of a table over a store whose first get is a fault.
-fn is_answered_from_faulty<R: Wait + Sync + Drop + Copy>(
-    rt: R,
-    alloc: Global,
-    room: Room,
-) -> Result<bool, Refusal> {
-    let store = FaultyStore::new(agent(rt, alloc, 16)?, 0, 1);
-    is_answered_from(rt, alloc, &store, room)
-}
+static CASES: [Case; 10] = [
+    Case {
+        name: "texts that are away move",
+        parts: &[THREE_ROWS, TEXTS_AWAY],
+        moved: &[WHILE_TEXTS_AWAY, MOVED_TEXTS, WHILE_TEXTS_AWAY, TEXTS_BACK],
+        ..CASE
+    },
+    Case {
+        name: "numbers that are away move",
+        parts: &[THREE_ROWS, NUMBERS_AWAY],
+        moved: &[
+            WHILE_NUMBERS_AWAY,
+            MOVED_NUMBERS,
+            WHILE_NUMBERS_AWAY,
+            NUMBERS_BACK,
+        ],
+        ..CASE
+    },
+    Case {
+        name: "all objects of a row group move",
+        parts: &[THREE_ROWS, ALL_AWAY],
+        moved: &[WHILE_ALL_AWAY, MOVED_ALL, WHILE_ALL_AWAY, ALL_BACK],
+        ..CASE
+    },
+    Case {
+        name: "nothing needs no room",
+        capacity: 0,
+        parts: &[THREE_ROWS, PUT, &[HAS_THREE]],
+        ..CASE
+    },
+    Case {
+        name: "no room for numbers",
+        capacity: 0,
+        parts: &[THREE_ROWS, NUMBERS_AWAY, NO_ROOM, NUMBERS_BACK],
+        ..CASE
+    },
+    Case {
+        name: "no room for texts",
+        capacity: 0,
+        parts: &[THREE_ROWS, TEXTS_AWAY, NO_ROOM, TEXTS_BACK],
+        ..CASE
+    },
+    Case {
+        name: "room for one of two",
+        capacity: 1,
+        parts: &[THREE_ROWS, TWO_AWAY, NO_ROOM, TWO_BACK],
+        ..CASE
+    },
+    Case {
+        name: "room for two",
+        capacity: 2,
+        parts: &[THREE_ROWS, TWO_AWAY, PUT, TWO_BACK],
+        ..CASE
+    },
+    Case {
+        name: "room for three of four",
+        capacity: 3,
+        parts: &[THREE_ROWS, EACH_AWAY, NO_ROOM, EACH_BACK],
+        ..CASE
+    },
+    Case {
+        name: "a renewal that meets a fault is refused",
+        fault: 1,
+        parts: &[THREE_ROWS, TEXTS_AWAY, FAULT, TEXTS_BACK],
+        ..CASE
+    },
+];
 
 #[test]
-fn rows_in_another_store_have_their_cells(rt: HostRuntime) -> Result<(), Fail> {
-    for case in AWAY {
-        assert!(rt; is_moved_between(&rt, rt.alloc(), case)?);
-    }
-    Ok(())
-}
-
-#[test]
-fn a_renewal_into_a_full_store_is_refused(rt: HostRuntime) -> Result<(), Fail> {
-    for room in ROOM {
-        assert!(rt; is_answered_between(&rt, rt.alloc(), room)?);
-    }
-    Ok(())
-}
-
-#[test]
-fn a_renewal_that_meets_a_fault_is_refused(rt: HostRuntime) -> Result<(), Fail> {
-    assert!(rt; is_answered_from_faulty(&rt, rt.alloc(), FAULT)?);
-    Ok(())
+fn tables_go_into_another_store(rt: HostRuntime) -> Result<(), Fail> {
+    play(&rt, rt.alloc(), &CASES)
 }

@@ -1,180 +1,173 @@
-// Scripts: calls on a table with their replies, and what its rows are between them. They are statics, since a constant is built
-// step by step in the body of each test that plays it, and the proof of a body grows with its steps.
-use crate::filling::{number_cell, text_cell};
-use crate::fixture::{Fixture, Values};
-use far_rows::NewCell;
-use far_store::{AgentStore, FarStore};
-use far_types::{Kind, Limits, Name, Refusal};
+// Scripts: calls on a table with their replies, and what the table is between them. They are data, since the proof of a test
+// grows with its steps: one player makes the stores and the table of all of them.
+use crate::fixture::{Fixture, LIMITS, Values};
+use crate::look::{Look, is_so};
+use far_store::{AgentStore, FarStore, FaultyStore};
+use far_types::{CellRef, Limits, Refusal};
 use std::alloc::Global;
 use std::sync::Wait;
 use std::test::Fail;
 
-/// A value for a cell: its place, its column, and the text or the number.
-#[derive(Clone, Copy)]
-pub enum Set {
-    Text(usize, usize, Option<&'static str>),
-    Number(usize, usize, Option<i64>),
-}
-
-/// A call on a table. `Set` asks beforehand whether it may be made; `Compact` compacts a segment of both kinds of objects.
-#[derive(Clone, Copy)]
+/// A call on a table. `Set` asks beforehand whether it may be made, and so does `Push`.
+#[derive(Drop)]
 pub enum Call {
     MayPush(Values<'static>),
     Push(Values<'static>),
-    MaySet(Set),
-    Set(Set),
+    /// The column, the place and the value.
+    MaySet(usize, usize, CellRef<'static>),
+    Set(usize, usize, CellRef<'static>),
     Clear(usize),
-    Cell(usize, usize),
-    Here(u32),
+    /// The column and the row group.
     Pin(usize, u32),
     Unpin(usize, u32),
     Touch(usize, u32),
     Evacuate(usize, u32),
     FetchBack(usize, u32),
+    /// The segment.
     CompactNumbers(u32),
     CompactTexts(u32),
-    Compact(u32),
+    /// Puts what is away into the other store.
+    PutAgain,
 }
 
 /// A line of a script.
-#[derive(Clone, Copy)]
 pub enum Step {
-    /// A call, and its reply.
-    Call(Call, Result<(), Refusal>),
-    /// The table has so many of `ROWS`, which are all alive.
-    Rows(usize),
-    /// A place has these values.
-    Values(usize, Values<'static>),
-    /// Whether a place is alive; `None` where there is no such place.
-    Alive(usize, Option<bool>),
-    /// The object that goes away first.
-    Coldest(Option<Name>),
+    /// A call that is served.
+    Does(Call),
+    /// A call, and why it is refused.
+    Refuses(Call, Refusal),
+    /// The table is so.
+    Is(Look),
 }
 
-/// Fails where a step of a script did not come out as it should, and names it.
-pub fn answered(first_wrong: Result<Option<usize>, Refusal>) -> Result<(), Fail> {
-    match first_wrong? {
-        Some(step) => Err(Fail::new(format_args!("step {step}"))),
-        None => Ok(()),
-    }
+/// A script of several parts on a table of its own, which begins without a row.
+pub struct Case {
+    pub name: &'static str,
+    pub limits: Limits,
+    /// How many contents the other store takes.
+    pub capacity: u64,
+    /// Which get from the store is a fault; none, where it is 0.
+    pub fault: u64,
+    pub parts: &'static [&'static [Step]],
+    /// What comes once the table is in the other store. It goes there if there is such a part.
+    pub moved: &'static [&'static [Step]],
 }
 
-/// Plays a script on a new table of the first rows: the index of the first step that does not come out as it should.
-pub fn play<R: Wait + Sync + Drop>(
+/// A case without a part, within the limits of most.
+pub const CASE: Case = Case {
+    name: "",
+    limits: LIMITS,
+    capacity: 16,
+    fault: 0,
+    parts: &[],
+    moved: &[],
+};
+
+/// Plays cases, and fails at the first step that does not come out as it should: it names the case, and counts the parts and
+/// steps from 0, those once the table is moved anew.
+pub fn play<R: Wait + Sync + Drop + Copy>(
     rt: R,
     alloc: Global,
-    limits: Limits,
-    rows: usize,
-    script: &[Step],
-) -> Result<Option<usize>, Refusal> {
-    let store = AgentStore::new(rt, alloc, 16)?;
-    play_over(alloc, &store, limits, rows, script)
-}
-
-fn play_over<S: FarStore>(
-    alloc: Global,
-    store: &S,
-    limits: Limits,
-    rows: usize,
-    script: &[Step],
-) -> Result<Option<usize>, Refusal> {
-    let mut fixture = Fixture::filled(alloc, store, limits, rows)?;
-    first_wrong(alloc, &mut fixture, script)
-}
-
-/// The index of the first step that does not come out as it should.
-pub fn first_wrong<S: FarStore>(
-    alloc: Global,
-    fixture: &mut Fixture<'_, S>,
-    script: &[Step],
-) -> Result<Option<usize>, Refusal> {
-    for (index, step) in script.iter().enumerate() {
-        if !comes_out(alloc, fixture, *step)? {
-            return Ok(Some(index));
+    cases: &[Case],
+) -> Result<(), Fail> {
+    for case in cases {
+        if let Some((part, step)) = first_wrong(rt, alloc, case)? {
+            return Err(Fail::new(format_args!("{}: {part}, {step}", case.name)));
         }
     }
-    Ok(None)
+    Ok(())
 }
 
-/// Whether a reply is the one that is due. Nothing can be said where memory is wanting.
-pub fn is_due(reply: Result<(), Refusal>, due: Result<(), Refusal>) -> Result<bool, Refusal> {
-    match reply {
-        Err(Refusal::NoMemory) => Err(Refusal::NoMemory),
-        reply => Ok(reply == due),
+/// A store of so many contents, at the second call where the first finds no memory. One get from it is a fault.
+pub fn store<R: Wait + Sync + Drop + Copy>(
+    rt: R,
+    alloc: Global,
+    capacity: u64,
+    fault: u64,
+) -> Result<FaultyStore<AgentStore<R>>, Refusal> {
+    let store = match AgentStore::new(rt, alloc, capacity) {
+        Err(Refusal::NoMemory) => AgentStore::new(rt, alloc, capacity),
+        reply => reply,
+    };
+    Ok(FaultyStore::new(store?, 0, fault))
+}
+
+// The part and the step of a case that do not come out as they should.
+fn first_wrong<R: Wait + Sync + Drop + Copy>(
+    rt: R,
+    alloc: Global,
+    case: &Case,
+) -> Result<Option<(usize, usize)>, Refusal> {
+    let store = store(rt, alloc, 16, case.fault)?;
+    first_wrong_over(rt, alloc, &store, case)
+}
+
+fn first_wrong_over<R: Wait + Sync + Drop + Copy>(
+    rt: R,
+    alloc: Global,
+    first: &FaultyStore<AgentStore<R>>,
+    case: &Case,
+) -> Result<Option<(usize, usize)>, Refusal> {
+    let other = store(rt, alloc, case.capacity, 0)?;
+    first_wrong_between(alloc, first, &other, case)
+}
+
+fn first_wrong_between<S: FarStore>(
+    alloc: Global,
+    store: &S,
+    other: &S,
+    case: &Case,
+) -> Result<Option<(usize, usize)>, Refusal> {
+    let mut fixture = Fixture::new(alloc, store, other, &case.limits)?;
+    let wrong = first_wrong_part(alloc, &mut fixture, case.parts);
+    if wrong.is_some() || case.moved.is_empty() {
+        return Ok(wrong);
     }
+    first_wrong_moved(alloc, fixture, case.moved)
+}
+
+// The same of the parts that come once the table is in the other store.
+fn first_wrong_moved<S: FarStore>(
+    alloc: Global,
+    fixture: Fixture<'_, S>,
+    parts: &[&[Step]],
+) -> Result<Option<(usize, usize)>, Refusal> {
+    let mut fixture = fixture.moved(alloc)?;
+    Ok(first_wrong_part(alloc, &mut fixture, parts))
+}
+
+// The part of a script and its step that do not come out as they should.
+fn first_wrong_part<S: FarStore>(
+    alloc: Global,
+    fixture: &mut Fixture<'_, S>,
+    parts: &[&[Step]],
+) -> Option<(usize, usize)> {
+    for (index, part) in parts.iter().enumerate() {
+        if let Some(step) = first_wrong_step(alloc, fixture, part) {
+            return Some((index, step));
+        }
+    }
+    None
+}
+
+fn first_wrong_step<S: FarStore>(
+    alloc: Global,
+    fixture: &mut Fixture<'_, S>,
+    part: &[Step],
+) -> Option<usize> {
+    for (index, step) in part.iter().enumerate() {
+        if !comes_out(alloc, fixture, step) {
+            return Some(index);
+        }
+    }
+    None
 }
 
 // Whether a step comes out as it should.
-fn comes_out<S: FarStore>(
-    alloc: Global,
-    fixture: &mut Fixture<'_, S>,
-    step: Step,
-) -> Result<bool, Refusal> {
+fn comes_out<S: FarStore>(alloc: Global, fixture: &mut Fixture<'_, S>, step: &Step) -> bool {
     match step {
-        Step::Call(call, due) => is_due(reply(alloc, fixture, call), due),
-        Step::Rows(count) => Ok(fixture.has_first(count)),
-        Step::Values(place, values) => Ok(fixture.has_values(place, values)),
-        Step::Alive(place, alive) => Ok(fixture.rows().is_alive(place) == alive),
-        Step::Coldest(name) => Ok(fixture.rows().coldest() == name),
+        Step::Does(call) => fixture.answer(alloc, call) == Ok(()),
+        Step::Refuses(call, refusal) => fixture.answer(alloc, call) == Err(*refusal),
+        Step::Is(look) => is_so(fixture.rows(), look),
     }
-}
-
-/// What a call answers.
-pub fn reply<S: FarStore>(
-    alloc: Global,
-    fixture: &mut Fixture<'_, S>,
-    call: Call,
-) -> Result<(), Refusal> {
-    match call {
-        Call::MayPush(values) => fixture.may_push(alloc, values),
-        Call::Push(values) => fixture.push(alloc, values),
-        Call::MaySet(set) => may_set(alloc, fixture, set),
-        Call::Set(set) => put(alloc, fixture, set),
-        Call::Clear(place) => fixture.clear(place),
-        Call::Cell(place, column) => fixture.has_cell(place, column),
-        Call::Here(group) => fixture.rows().here(group),
-        Call::Pin(column, group) => fixture.pin(column, group),
-        Call::Unpin(column, group) => fixture.unpin(column, group),
-        Call::Touch(column, group) => fixture.touch(column, group),
-        Call::Evacuate(column, group) => fixture.evacuate(alloc, column, group),
-        Call::FetchBack(column, group) => fixture.fetch_back(alloc, column, group),
-        Call::CompactNumbers(segment) => fixture.compact_numbers(alloc, segment),
-        Call::CompactTexts(segment) => fixture.compact_texts(alloc, segment),
-        Call::Compact(segment) => compact(alloc, fixture, segment),
-    }
-}
-
-fn may_set<S: FarStore>(alloc: Global, fixture: &Fixture<'_, S>, set: Set) -> Result<(), Refusal> {
-    let (place, column, value) = cell_of(alloc, set)?;
-    fixture.may_set(place, column, &value)
-}
-
-fn put<S: FarStore>(alloc: Global, fixture: &mut Fixture<'_, S>, set: Set) -> Result<(), Refusal> {
-    let (place, column, value) = cell_of(alloc, set)?;
-    fixture.set(alloc, place, column, &value)
-}
-
-// Its place, its column and its value.
-fn cell_of(alloc: Global, set: Set) -> Result<(usize, usize, NewCell), Refusal> {
-    match set {
-        Set::Text(place, column, text) => Ok((
-            place,
-            column,
-            NewCell::new(Kind::Text, text_cell(alloc, text)?),
-        )),
-        Set::Number(place, column, number) => Ok((
-            place,
-            column,
-            NewCell::new(Kind::Int, number_cell(number)),
-        )),
-    }
-}
-
-fn compact<S: FarStore>(
-    alloc: Global,
-    fixture: &mut Fixture<'_, S>,
-    segment: u32,
-) -> Result<(), Refusal> {
-    fixture.compact_numbers(alloc, segment)?;
-    fixture.compact_texts(alloc, segment)
 }

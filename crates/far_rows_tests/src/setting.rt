@@ -1,176 +1,155 @@
 // Cells that are set: worked examples.
-use crate::fixture::{FIRST, FOURTH, Fixture, LIMITS, ROWS, SECOND, THIRD, Values};
-use crate::script::{Call, Set, Step, answered, play, reply};
-use far_fixtures::agent;
-use far_store::FarStore;
-use far_types::{Limits, Refusal};
-use std::alloc::Global;
+use crate::fixture::{LIMITS, Values};
+use crate::look::Look;
+use crate::pushing::{FIRST, FOUR_ROWS, FOURTH, HAS_FOUR, ONE_ROW, SECOND, THIRD};
+use crate::script::{CASE, Call, Case, Step, play};
+use far_types::CellRef::{Int, Missing, Text};
+use far_types::{CellRef, Limits, Refusal};
 use std::test::Fail;
 
-/// Sets one after the other, each with its place and the values of that place after it.
-static SETS: [(Set, usize, Values<'static>); 8] = [
-    (
-        Set::Number(0, 1, Some(7)),
-        0,
-        (Some("one"), Some(7), Some(""), None),
-    ),
-    (
-        Set::Number(0, 3, Some(-7)),
-        0,
-        (Some("one"), Some(7), Some(""), Some(-7)),
-    ),
-    (
-        Set::Number(0, 1, None),
-        0,
-        (Some("one"), None, Some(""), Some(-7)),
-    ),
-    (
-        Set::Text(0, 2, Some("uno")),
-        0,
-        (Some("one"), None, Some("uno"), Some(-7)),
-    ),
-    (
-        Set::Text(0, 0, None),
-        0,
-        (None, None, Some("uno"), Some(-7)),
-    ),
-    (
-        Set::Text(3, 0, Some("four")),
-        3,
-        (Some("four"), None, None, None),
-    ),
-    (Set::Text(3, 0, Some("")), 3, (Some(""), None, None, None)),
-    (
-        Set::Number(3, 3, Some(i64::MAX)),
-        3,
-        (Some(""), None, None, Some(i64::MAX)),
-    ),
+/// The first row, and the fourth, once some of their cells are set.
+const SET_FIRST: Values<'static> = (Missing, Missing, Text("uno"), Int(-7));
+
+const SET_FOURTH: Values<'static> = (Text(""), Missing, Missing, Int(i64::MAX));
+
+/// Sets one after the other, each with all rows after it.
+const SETS: &[Step] = &[
+    Step::Does(Call::Set(1, 0, Int(7))),
+    Step::Is(Look::Rows(&[
+        (Text("one"), Int(7), Text(""), Missing),
+        SECOND,
+        THIRD,
+        FOURTH,
+    ])),
+    Step::Does(Call::Set(3, 0, Int(-7))),
+    Step::Is(Look::Rows(&[
+        (Text("one"), Int(7), Text(""), Int(-7)),
+        SECOND,
+        THIRD,
+        FOURTH,
+    ])),
+    Step::Does(Call::Set(1, 0, Missing)),
+    Step::Is(Look::Rows(&[
+        (Text("one"), Missing, Text(""), Int(-7)),
+        SECOND,
+        THIRD,
+        FOURTH,
+    ])),
+    Step::Does(Call::Set(2, 0, Text("uno"))),
+    Step::Is(Look::Rows(&[
+        (Text("one"), Missing, Text("uno"), Int(-7)),
+        SECOND,
+        THIRD,
+        FOURTH,
+    ])),
+    Step::Does(Call::Set(0, 0, Missing)),
+    Step::Is(Look::Rows(&[SET_FIRST, SECOND, THIRD, FOURTH])),
+    Step::Does(Call::Set(0, 3, Text("four"))),
+    Step::Is(Look::Rows(&[
+        SET_FIRST,
+        SECOND,
+        THIRD,
+        (Text("four"), Missing, Missing, Missing),
+    ])),
+    Step::Does(Call::Set(0, 3, Text(""))),
+    Step::Is(Look::Rows(&[
+        SET_FIRST,
+        SECOND,
+        THIRD,
+        (Text(""), Missing, Missing, Missing),
+    ])),
+    Step::Does(Call::Set(3, 3, Int(i64::MAX))),
+    Step::Is(Look::Rows(&[SET_FIRST, SECOND, THIRD, SET_FOURTH])),
 ];
 
 /// The third place is cleared, and a cell of it is set.
-static CLEARED: [Step; 13] = [
-    Step::Call(Call::Clear(2), Ok(())),
-    Step::Alive(1, Some(true)),
-    Step::Alive(2, Some(false)),
-    Step::Alive(3, Some(true)),
-    Step::Alive(4, None),
-    Step::Values(0, FIRST),
-    Step::Values(1, SECOND),
-    Step::Values(2, THIRD),
-    Step::Values(3, FOURTH),
-    Step::Call(Call::Set(Set::Number(2, 1, Some(3))), Ok(())),
-    Step::Alive(2, Some(false)),
-    Step::Values(2, (Some("three"), Some(3), None, Some(i64::MIN))),
-    Step::Alive(4, None),
+const CLEARED: &[Step] = &[
+    Step::Does(Call::Clear(2)),
+    Step::Is(Look::Alive(1, Some(true))),
+    Step::Is(Look::Alive(2, Some(false))),
+    Step::Is(Look::Alive(3, Some(true))),
+    Step::Is(Look::Alive(4, None)),
+    Step::Is(Look::Values(0, FIRST)),
+    Step::Is(Look::Values(1, SECOND)),
+    Step::Is(Look::Values(2, THIRD)),
+    Step::Is(Look::Values(3, FOURTH)),
+    Step::Does(Call::Set(1, 2, Int(3))),
+    Step::Is(Look::Alive(2, Some(false))),
+    Step::Is(Look::Values(2, (Text("three"), Int(3), Missing, Int(i64::MIN)))),
+    Step::Is(Look::Alive(4, None)),
 ];
 
 /// A text of 64 letters, whose form would have more bytes.
-const FILLING: &str = "aaaaaaaaaaaaaaaaaaaaaaaaaaaaaaaaaaaaaaaaaaaaaaaaaaaaaaaaaaaaaaaa";
+const FILLING: CellRef<'static> = Text(
+    "aaaaaaaaaaaaaaaaaaaaaaaaaaaaaaaaaaaaaaaaaaaaaaaaaaaaaaaaaaaaaaaa",
+);
 
-static TOO_LONG: [Step; 2] = [
-    Step::Call(
-        Call::MaySet(Set::Text(3, 2, Some(FILLING))),
-        Err(Refusal::ChunkFull),
-    ),
-    Step::Rows(4),
+const TOO_LONG: &[Step] = &[
+    Step::Refuses(Call::MaySet(2, 3, FILLING), Refusal::ChunkFull),
+    HAS_FOUR,
 ];
 
 /// A text of 45 letters, of which two take all room for texts.
-const LONG: Option<&str> = Some("aaaaaaaaaaaaaaaaaaaaaaaaaaaaaaaaaaaaaaaaaaaaa");
+const LONG: CellRef<'static> = Text("aaaaaaaaaaaaaaaaaaaaaaaaaaaaaaaaaaaaaaaaaaaaa");
 
-const TWO_LONG: Values<'static> = (LONG, None, LONG, None);
+const TWO_LONG: Values<'static> = (LONG, Missing, LONG, Missing);
 
 const TWO_SEGMENTS: Limits = Limits {
     text_segments: 2,
     ..LIMITS
 };
 
-static NO_ROOM: [Step; 3] = [
-    Step::Call(Call::Push(TWO_LONG), Ok(())),
-    Step::Call(
-        Call::MaySet(Set::Text(0, 2, Some("a"))),
-        Err(Refusal::RegionFull),
-    ),
-    Step::Values(0, TWO_LONG),
+const NO_ROOM: &[Step] = &[
+    Step::Does(Call::Push(TWO_LONG)),
+    Step::Refuses(Call::MaySet(2, 0, Text("a")), Refusal::RegionFull),
+    Step::Is(Look::Values(0, TWO_LONG)),
 ];
 
 const TWO_EDITS: Limits = Limits { edits: 2, ..LIMITS };
 
-static WRITTEN_OUT: [Step; 9] = [
-    Step::Call(Call::Set(Set::Number(0, 1, Some(8))), Ok(())),
-    Step::Call(Call::Set(Set::Text(0, 0, Some("b"))), Ok(())),
-    Step::Call(Call::Set(Set::Number(0, 1, Some(9))), Ok(())),
-    Step::Call(Call::Set(Set::Text(0, 0, Some("b"))), Ok(())),
-    Step::Call(
-        Call::MaySet(Set::Number(0, 1, None)),
-        Err(Refusal::EditsUsedUp),
-    ),
-    Step::Call(
-        Call::MaySet(Set::Text(0, 0, None)),
-        Err(Refusal::EditsUsedUp),
-    ),
-    Step::Call(Call::MaySet(Set::Text(0, 2, None)), Ok(())),
-    Step::Call(Call::MayPush(SECOND), Err(Refusal::EditsUsedUp)),
-    Step::Values(0, (Some("b"), Some(9), Some(""), None)),
+const WRITTEN_OUT: &[Step] = &[
+    Step::Does(Call::Set(1, 0, Int(8))),
+    Step::Does(Call::Set(0, 0, Text("b"))),
+    Step::Does(Call::Set(1, 0, Int(9))),
+    Step::Does(Call::Set(0, 0, Text("b"))),
+    Step::Refuses(Call::MaySet(1, 0, Missing), Refusal::EditsUsedUp),
+    Step::Refuses(Call::MaySet(0, 0, Missing), Refusal::EditsUsedUp),
+    Step::Does(Call::MaySet(2, 0, Missing)),
+    Step::Refuses(Call::MayPush(SECOND), Refusal::EditsUsedUp),
+    Step::Is(Look::Values(0, (Text("b"), Int(9), Text(""), Missing))),
 ];
 
-/// Sets one cell: whether all places are as they should be then.
-fn sets<S: FarStore>(
-    alloc: Global,
-    fixture: &mut Fixture<'_, S>,
-    rows: &mut [Values<'static>],
-    (set, place, values): (Set, usize, Values<'static>),
-) -> Result<bool, Refusal> {
-    reply(alloc, fixture, Call::Set(set))?;
-    if let Some(row) = rows.get_mut(place) {
-        *row = values;
-    }
-    Ok(fixture.has_rows(rows))
-}
-
-/// Sets one cell after the other: the index of the first set after which some place is not as it should be.
-fn first_wrong_set<S: FarStore>(
-    alloc: Global,
-    fixture: &mut Fixture<'_, S>,
-    rows: &mut [Values<'static>],
-) -> Result<Option<usize>, Refusal> {
-    for (index, set) in SETS.iter().enumerate() {
-        if !sets(alloc, fixture, rows, *set)? {
-            return Ok(Some(index));
-        }
-    }
-    Ok(None)
-}
-
-fn first_wrong_set_over<S: FarStore>(alloc: Global, store: &S) -> Result<Option<usize>, Refusal> {
-    let mut rows = ROWS;
-    let mut fixture = Fixture::filled(alloc, store, LIMITS, 4)?;
-    first_wrong_set(alloc, &mut fixture, &mut rows)
-}
+static CASES: [Case; 5] = [
+    Case {
+        name: "a cell that is set reads back and the others stay",
+        parts: &[FOUR_ROWS, SETS],
+        ..CASE
+    },
+    Case {
+        name: "a cleared place keeps its cells",
+        parts: &[FOUR_ROWS, CLEARED],
+        ..CASE
+    },
+    Case {
+        name: "a text whose form is too long is not set",
+        parts: &[FOUR_ROWS, TOO_LONG],
+        ..CASE
+    },
+    Case {
+        name: "a text without room beside the old one is not set",
+        limits: TWO_SEGMENTS,
+        parts: &[NO_ROOM],
+        ..CASE
+    },
+    Case {
+        name: "an object is written as often as there may be edits",
+        limits: TWO_EDITS,
+        parts: &[ONE_ROW, WRITTEN_OUT],
+        ..CASE
+    },
+];
 
 #[test]
-fn a_cell_that_is_set_reads_back_and_the_others_stay(rt: HostRuntime) -> Result<(), Fail> {
-    let store = agent(&rt, 4)?;
-    assert_eq!(rt; first_wrong_set_over(rt.alloc(), &store)?, None);
-    Ok(())
-}
-
-#[test]
-fn a_cleared_place_keeps_its_cells(rt: HostRuntime) -> Result<(), Fail> {
-    answered(play(&rt, rt.alloc(), LIMITS, 4, &CLEARED))
-}
-
-#[test]
-fn a_text_whose_form_is_too_long_is_not_set(rt: HostRuntime) -> Result<(), Fail> {
-    answered(play(&rt, rt.alloc(), LIMITS, 4, &TOO_LONG))
-}
-
-#[test]
-fn a_text_without_room_beside_the_old_one_is_not_set(rt: HostRuntime) -> Result<(), Fail> {
-    answered(play(&rt, rt.alloc(), TWO_SEGMENTS, 0, &NO_ROOM))
-}
-
-#[test]
-fn an_object_is_written_as_often_as_there_may_be_edits(rt: HostRuntime) -> Result<(), Fail> {
-    answered(play(&rt, rt.alloc(), TWO_EDITS, 1, &WRITTEN_OUT))
+fn cells_are_set_as_far_as_they_may_be(rt: HostRuntime) -> Result<(), Fail> {
+    play(&rt, rt.alloc(), &CASES)
 }
