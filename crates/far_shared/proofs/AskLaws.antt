@@ -10,16 +10,10 @@ use Rattle.far_types.specs.Answers.{answer_over}
 use Rattle.far_types.specs.Table.{Table, Registered}
 use Rattle.far_history.specs.Histories.{Planned, IsLegal, replay}
 use Rattle.far_history.specs.declared.view.Entry.{Entry}
-use Rattle.far_shared.specs.Asking.{IsAnswer, IsAskRefusal}
+use Rattle.far_shared.specs.Asking.{IsAnswer}
 use Rattle.far_shared.specs.Fours.{AreLike, AreAlike, FourRefusal, all_rows, left_in_all, spec_at}
 use Rattle.far_shared.specs.Stripes.{IsStripe}
 use Rattle.far_shared.proofs.NumberLaws.{if-err}
-
--- what is told of four tables that do not answer
-pub ask-refusal : (a : ℕ) (one two three four : Table) (given : Refusal) → FourRefusal a one two three four given → IsAskRefusal given
-ask-refusal a one two three four given (inl none) = subst IsAskRefusal (sym none.0) tt
-ask-refusal a one two three four given (inr (alike, inl left)) = subst IsAskRefusal (sym left.1) tt
-ask-refusal a one two three four given (inr (alike, inr memory)) = subst IsAskRefusal (sym memory.1) tt
 
 -- the gauge is the same in two stripes
 gauge-like : (p : Planned) (log more : List Entry) (one other : Table) → IsStripe p log one → IsStripe p more other → AreLike 0 one other

@@ -1,11 +1,10 @@
 -- Why the plain table refuses an edit that a table over objects refuses.
-use Rattle.std.proofs.Common.{◌≡◌, ◌⊎◌, inl, inr, ℕ, ◌+◌, true, List, [], ◌∷◌, Option, None, Some, refl}
-use Rattle.std.specs.Prelude.{length}
+use Rattle.std.proofs.Common.{◌≡◌, ◌⊎◌, inl, inr, ℕ, ◌+◌, ◌/◌, ◌≤◌, Bool, true, false, List, [], ◌∷◌, length, Option, None, Some, refl, subst, arith}
 use Rattle.far_types.specs.declared.cell.Cell.{Cell}
 use Rattle.far_types.specs.declared.edit.Edit.{Edit}
 use Rattle.far_types.specs.declared.edit.Edit.TheVariants as edit
 use Rattle.far_types.specs.declared.refusal.Refusal.{Refusal}
-use Rattle.far_types.specs.Edits.{edited, edit_faults, edit_refusal}
+use Rattle.far_types.specs.Edits.{edited, edit_faults, edit_refusal, overfills}
 use Rattle.far_types.specs.FirstOf.{first_of}
 use Rattle.far_types.specs.MayRefuse.{MayRefuse}
 use Rattle.far_rows.specs.declared.slot.Slot.{Slot}
@@ -18,18 +17,24 @@ use Rattle.far_frame.specs.State.{State as Whole, live}
 use Rattle.far_frame.specs.declared.step.Reply.{Reply}
 use Rattle.far_frame.specs.declared.step.Reply.TheVariants as reply
 use Rattle.far_frame.specs.declared.step.Step.TheVariants as step
-use Rattle.far_shared.specs.Applying.{IsOfObjects, WhyNot}
+use Rattle.far_shared.specs.Applying.{IsOfObjects, WhyNot, place_of}
 use Rattle.far_shared.proofs.FirstLaws.{AllTell, free-plain, found-plain}
 
-absents-tell : {K : Type 0} (r : Rows K) (g n : ℕ) (slots : List Slot) → AllTell IsOfObjects (absents_from r g n slots)
-absents-tell r g n [] = tt
-absents-tell r g n (s ∷ slots) = (tt, absents-tell r g (n + 1) slots)
+module _ (columns group : ℕ) (long : Bool) where
+  absents-tell : {K : Type 0} (r : Rows K) (n : ℕ) (slots : List Slot) → n + length slots ≤ columns → AllTell (IsOfObjects columns group long) (absents_from r group n slots)
+  absents-tell r n [] few = tt
+  absents-tell r n (s ∷ slots) few = ((omega (arith, few), refl), absents-tell r (n + 1) slots (omega (arith, few)))
 
-module _ {K : Type 0} (s : State K) where
-  room-tells : (e : Edit) → AllTell IsOfObjects (no_room s e)
-  room-tells (edit.Insert row) = (tt, (tt, tt))
-  room-tells (edit.Set p c cell) = (tt, tt)
-  room-tells (edit.Remove p) = tt
+module _ {K : Type 0} (s : State K) (slots : length s.rows.slots ≡ length s.table.schema) where
+  room-tells : (e : Edit) (columns group : ℕ) (long : Bool) → long ≡ false → AllTell (IsOfObjects columns group long) (no_room s e)
+  room-tells (edit.Insert row) columns group long short = (short, (short, tt))
+  room-tells (edit.Set p c cell) columns group long short = (short, tt)
+  room-tells (edit.Remove p) columns group long short = tt
+
+  same-group : (e : Edit) → group_of s e ≡ place_of s.table e / s.table.limits.group
+  same-group (edit.Insert row) = refl
+  same-group (edit.Set p c cell) = refl
+  same-group (edit.Remove p) = refl
 
   -- what a table over objects accepts, the plain table accepts
   pub plain-accepts : (e : Edit) → edit_due s e ≡ None → edit_refusal s.table e ≡ None
@@ -42,15 +47,19 @@ module _ {K : Type 0} (s : State K) where
       by None is may = inr (inr (plain-accepts e is, may.0))
       by (Some due) is may =
           let found : edit_due s e ≡ Some given = rw may is in
-          told (found-plain IsOfObjects (edit_faults s.table.schema s.table.limits s.table.places e) (absents s.rows (group_of s e)) (no_room s e) _ _ given (absents-tell s.rows (group_of s e) 0 s.rows.slots) (room-tells e) found)
+          let long : Bool = overfills s.table.schema s.table.limits e s.table.places in
+          let of_objects : Refusal → Type 0 = IsOfObjects (length s.table.schema) (group_of s e) long in
+          told (found-plain of_objects (edit_faults s.table.schema s.table.limits s.table.places e) (absents s.rows (group_of s e)) (no_room s e) _ _ given
+          (absents-tell (length s.table.schema) (group_of s e) long s.rows 0 s.rows.slots (omega (arith, slots)))
+          (λ short. room-tells e (length s.table.schema) (group_of s e) long short) found)
         where
-          told : (edit_refusal s.table e ≡ Some given) ⊎ ((first_of (edit_faults s.table.schema s.table.limits s.table.places e) ≡ None) × IsOfObjects given) → WhyNot s.table e given
+          told : (edit_refusal s.table e ≡ Some given) ⊎ ((first_of (edit_faults s.table.schema s.table.limits s.table.places e) ≡ None) × IsOfObjects (length s.table.schema) (group_of s e) (overfills s.table.schema s.table.limits e s.table.places) given) → WhyNot s.table e given
           told (inl plain) = inl plain
-          told (inr objects) = inr (inl objects)
+          told (inr objects) = inr (inl (objects.0, subst (λ g. IsOfObjects (length s.table.schema) g (overfills s.table.schema s.table.limits e s.table.places) given) (same-group e) objects.1))
 
-module _ {K : Type 0} (content : K → List ℕ) (old new : Whole K) where
+module _ {K : Type 0} (content : K → List ℕ) (old new : Whole K) (slots : length old.rows.slots ≡ length old.table.schema) where
   pub made-free : (e : Edit) (given : Reply) → Accepts content old (step.Edit e) given new → edit_refusal old.table e ≡ None
-  made-free e given h = plain-accepts (live old) e h.1.changed.due
+  made-free e given h = plain-accepts (live old) slots e h.1.changed.due
 
   pub made-table : (e : Edit) (given : Reply) → Accepts content old (step.Edit e) given new → new.table ≡ edited e old.table
   made-table e given h = h.1.changed.table
@@ -59,4 +68,4 @@ module _ {K : Type 0} (content : K → List ℕ) (old new : Whole K) where
   made-place row place h = (let is : reply.Place place ≡ reply.Place (length old.table.places) = h.0 in cc)
 
   pub made-refused : (e : Edit) (given : Refusal) → Refuses old (step.Edit e) given new → WhyNot old.table e given
-  made-refused e given h = plain-refuses (live old) e given h.1
+  made-refused e given h = plain-refuses (live old) slots e given h.1

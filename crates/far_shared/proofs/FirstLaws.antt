@@ -31,9 +31,9 @@ module _ (P : Refusal → Type 0) where
   found-last ((true, e) ∷ n) d g all due = (let is : e ≡ g = cc in inr (subst P is all.0))
   found-last ((false, e) ∷ n) d g all due = found-last n d g all.1 due
 
-  found-two : (a n : List (Bool × Refusal)) (c d : Bool × Refusal) (g : Refusal) → AllTell P a → AllTell P n → first_of (a ++ (c ∷ (n ++ d ∷ []))) ≡ Some g → (first_of (c ∷ d ∷ []) ≡ Some g) ⊎ P g
+  found-two : (a n : List (Bool × Refusal)) (c d : Bool × Refusal) (g : Refusal) → AllTell P a → (c.0 ≡ false → AllTell P n) → first_of (a ++ (c ∷ (n ++ d ∷ []))) ≡ Some g → (first_of (c ∷ d ∷ []) ≡ Some g) ⊎ P g
   found-two [] n (true, e) d g of_a of_n due = inl due
-  found-two [] n (false, e) d g of_a of_n due = found-last n d g of_n due
+  found-two [] n (false, e) d g of_a of_n due = found-last n d g (of_n refl) due
   found-two ((true, e) ∷ a) n c d g of_a of_n due = (let is : e ≡ g = cc in inr (subst P is of_a.0))
   found-two ((false, e) ∷ a) n c d g of_a of_n due = found-two a n c d g of_a.1 of_n due
 
@@ -41,8 +41,9 @@ module _ (P : Refusal → Type 0) where
   or_other plain (inl is) = inl is
   or_other plain (inr other) = inr (refl, other)
 
-  -- what refuses is one of some tests, or one of the others, and then the first ones do not refuse
-  pub found-plain : (xs a n : List (Bool × Refusal)) (c d : Bool × Refusal) (g : Refusal) → AllTell P a → AllTell P n → first_of (xs ++ (a ++ (c ∷ (n ++ d ∷ [])))) ≡ Some g
+  -- what refuses is one of some tests, or one of the others, and then the first ones do not refuse. The last of the others are known
+  -- where the test before them does not refuse
+  pub found-plain : (xs a n : List (Bool × Refusal)) (c d : Bool × Refusal) (g : Refusal) → AllTell P a → (c.0 ≡ false → AllTell P n) → first_of (xs ++ (a ++ (c ∷ (n ++ d ∷ [])))) ≡ Some g
       → (first_of (xs ++ c ∷ d ∷ []) ≡ Some g) ⊎ ((first_of xs ≡ None) × P g)
   found-plain [] a n c d g of_a of_n due = or_other (first_of (c ∷ d ∷ []) ≡ Some g) (found-two a n c d g of_a of_n due)
   found-plain ((true, e) ∷ xs) a n c d g of_a of_n due = inl due

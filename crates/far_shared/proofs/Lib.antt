@@ -1,5 +1,6 @@
 mod ApplyLaws
 mod AskLaws
+mod ColumnLaws
 pub mod CrossingLaws
 mod EditLaws
 mod FirstLaws

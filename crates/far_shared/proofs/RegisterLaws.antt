@@ -27,8 +27,9 @@ use Rattle.far_history.specs.Histories.{Planned}
 use Rattle.far_history.specs.declared.view.Entry.{Entry}
 use Rattle.far_shared.specs.Opening.{IsEmpty}
 use Rattle.far_shared.specs.Plans.{IsPlan}
-use Rattle.far_shared.specs.Stripes.{IsStripe, first_registered}
+use Rattle.far_shared.specs.Stripes.{AreRowsOf, IsStripe, first_registered}
 use Rattle.far_shared.specs.Watching.{WatchRefusal}
+use Rattle.far_shared.proofs.ColumnLaws.{empty-of}
 use Rattle.far_shared.proofs.StripeLaws.{plan-checked}
 
 first-kept : {X : Type 0} (xs : List X) (a : ℕ) (x : X) → a ≢ 0 → slice_get (slice_set xs a x) 0 ≡ slice_get xs 0
@@ -171,15 +172,21 @@ module _ {K : Type 0} (content : K → List ℕ) (old new : State K) where
         subst (IsStripe p log) (sym (ap (λ (s : LiveState K). s.table) h.1.changed.state)) (stripe-with p log old.table is a ne None)
 
     -- whether it is registered or not, the stripe holds
-    pub held-watch : (is_of : K → List ℕ → Type 0) (name : List ℕ) → AreAt is_of name old.rows → (spec : Spec) (r : Result ℕ Refusal)
-        → IfOk r (λ a. Accepts content old (step.Watch spec) (reply.Aggregate a) new) → IfErr r (λ e. Refuses old (step.Watch spec) e new) → IsStripe p log new.table × AreAt is_of name new.rows
-    held-watch is_of name here spec (Ok a) done refused = (stripe-watched spec (reply.Aggregate a) done, watched-here is_of name here spec (reply.Aggregate a) done)
-    held-watch is_of name here spec (Err e) done refused = (subst (λ (s : State K). IsStripe p log s.table) (sym refused.0) is, subst (λ (s : State K). AreAt is_of name s.rows) (sym refused.0) here)
+    pub held-watch : (is_of : K → List ℕ → Type 0) (name : List ℕ) → AreAt is_of name old.rows → (n : ℕ) → AreRowsOf p.schema n old.rows → (spec : Spec) (r : Result ℕ Refusal)
+        → IfOk r (λ a. Accepts content old (step.Watch spec) (reply.Aggregate a) new) → IfErr r (λ e. Refuses old (step.Watch spec) e new)
+        → IsStripe p log new.table × AreAt is_of name new.rows × AreRowsOf p.schema n new.rows
+    held-watch is_of name here n of spec (Ok a) done refused =
+        (stripe-watched spec (reply.Aggregate a) done, watched-here is_of name here spec (reply.Aggregate a) done, subst (AreRowsOf p.schema n) (sym (same-rows spec (reply.Aggregate a) done)) of)
+    held-watch is_of name here n of spec (Err e) done refused =
+        subst (λ (s : State K). IsStripe p log s.table × AreAt is_of name s.rows × AreRowsOf p.schema n s.rows) (sym refused.0) (is, here, of)
 
-    pub held-unwatch : (is_of : K → List ℕ → Type 0) (name : List ℕ) → AreAt is_of name old.rows → (a : ℕ) → a ≢ 0 → (r : Result Unit Refusal)
-        → OnOk r (Accepts content old (step.Unwatch a) reply.Done new) → IfErr r (λ e. Refuses old (step.Unwatch a) e new) → IsStripe p log new.table × AreAt is_of name new.rows
-    held-unwatch is_of name here a ne (Ok x) done refused = (stripe-unwatched a reply.Done ne done, unwatched-here is_of name here a reply.Done done)
-    held-unwatch is_of name here a ne (Err e) done refused = (subst (λ (s : State K). IsStripe p log s.table) (sym refused.0) is, subst (λ (s : State K). AreAt is_of name s.rows) (sym refused.0) here)
+    pub held-unwatch : (is_of : K → List ℕ → Type 0) (name : List ℕ) → AreAt is_of name old.rows → (n : ℕ) → AreRowsOf p.schema n old.rows → (a : ℕ) → a ≢ 0 → (r : Result Unit Refusal)
+        → OnOk r (Accepts content old (step.Unwatch a) reply.Done new) → IfErr r (λ e. Refuses old (step.Unwatch a) e new)
+        → IsStripe p log new.table × AreAt is_of name new.rows × AreRowsOf p.schema n new.rows
+    held-unwatch is_of name here n of a ne (Ok x) done refused =
+        (stripe-unwatched a reply.Done ne done, unwatched-here is_of name here a reply.Done done, subst (AreRowsOf p.schema n) (sym (ap (λ (s : LiveState K). s.rows) done.1.changed.state)) of)
+    held-unwatch is_of name here n of a ne (Err e) done refused =
+        subst (λ (s : State K). IsStripe p log s.table × AreAt is_of name s.rows × AreRowsOf p.schema n s.rows) (sym refused.0) (is, here, of)
 
     -- why it is not registered
     pub refused-watched : (spec : Spec) (given : Refusal) → Refuses old (step.Watch spec) given new → WatchRefusal p.schema spec given
@@ -190,10 +197,11 @@ module _ {K : Type 0} (content : K → List ℕ) (old new : State K) where
     is-fresh = ap (λ (s : State K). s.table) fresh
 
     -- an empty table, once its gauge is registered
-    pub empty-watched : (is_of : K → List ℕ → Type 0) (given : Reply) → ((name : List ℕ) → AreAt is_of name old.rows) → Accepts content old (step.Watch spec) given new → IsEmpty is_of p new
+    pub empty-watched : (is_of : K → List ℕ → Type 0) (given : Reply) → ((name : List ℕ) → AreAt is_of name old.rows) → Accepts content old (step.Watch spec) given new → IsEmpty is_of p n new
     empty-watched is_of given here h = record {
       stripe = subst (IsStripe p []) (sym table) (stripe-opened p is h.0 (subst (λ (t : Table). lowest_free t ≡ Some h.0) is-fresh h.2.changed.number));
       here = λ name. watched-here is_of name (here name) spec given h;
+      rows = subst (AreRowsOf p.schema n) (sym (same-rows spec given h ∙ ap (λ (s : State K). s.rows) fresh)) (empty-of p.schema p.limits n);
     }
       where
         table : new.table ≡ registered_at h.0 p.gauge (empty_table p.schema p.limits)
@@ -211,5 +219,5 @@ module _ {K : Type 0} (content : K → List ℕ) (old new : State K) where
         may.0
 
 -- a stripe begins with an empty table and an empty history
-pub empty-stripe : {K : Type 0} (is_of : K → List ℕ → Type 0) (p : Planned) (store : List ℕ) (log : List Entry) (s : State K) → log ≡ [] → IsEmpty is_of p s → IsStripe p log s.table × AreAt is_of store s.rows
-empty-stripe is_of p store log s none empty = (subst (λ l. IsStripe p l s.table) (sym none) empty.stripe, empty.here store)
+pub empty-stripe : {K : Type 0} (is_of : K → List ℕ → Type 0) (p : Planned) (n : ℕ) (store : List ℕ) (log : List Entry) (s : State K) → log ≡ [] → IsEmpty is_of p n s → IsStripe p log s.table × AreAt is_of store s.rows × AreRowsOf p.schema n s.rows
+empty-stripe is_of p n store log s none empty = (subst (λ l. IsStripe p l s.table) (sym none) empty.stripe, empty.here store, empty.rows)

@@ -64,8 +64,8 @@ module _ {K : Type 0} (content : K → List ℕ) (old new : State K) where
     as-empty = fresh ∙ ap (λ (l : List Kind). empty_state l p.limits n) kinds
 
     -- an empty table, once its gauge is registered
-    pub opened-empty : (is_of : K → List ℕ → Type 0) (given : Reply) → ((name : List ℕ) → AreAt is_of name old.rows) → Accepts content old (step.Watch spec) given new → IsEmpty is_of q new
-    opened-empty is_of given here h = subst (λ (r : Planned). IsEmpty is_of r new) same (empty-watched content old new p is n as-empty spec gauge is_of given here h)
+    pub opened-empty : (is_of : K → List ℕ → Type 0) (given : Reply) → ((name : List ℕ) → AreAt is_of name old.rows) → Accepts content old (step.Watch spec) given new → IsEmpty is_of q n new
+    opened-empty is_of given here h = subst (λ (r : Planned). IsEmpty is_of r n new) same (empty-watched content old new p is n as-empty spec gauge is_of given here h)
 
     -- that is refused for want of memory alone
     pub opened-refused : (given : Refusal) → Refuses old (step.Watch spec) given new → given ≡ refusal.NoMemory

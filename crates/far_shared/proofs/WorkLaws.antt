@@ -1,27 +1,34 @@
 -- Row groups that are built in change no row, and how that is refused.
-use Rattle.std.proofs.Common.{◌≡◌, ◌≢◌, ℕ, zero, suc, ◌+◌, Bool, true, false, not, List, [], ◌∷◌, length, ap, sym, ◌∙◌, subst, refl, Option, None, Some, IsSomeAnd, Result, IfOk, IfErr}
+use Rattle.std.proofs.Common.{◌≡◌, ◌≢◌, ℕ, zero, suc, ◌+◌, Bool, true, false, not, List, [], ◌∷◌, length, ap, sym, ◌∙◌, subst, refl, Option, None, Some, IsSomeAnd, Result, IfOk, IfErr, OnOk}
 use Rattle.std.specs.declared.result.Result.TheVariants.{Ok, Err}
-use Rattle.std.specs.Prelude.{slice_get, slice_set, nat_lt}
+use Rattle.std.specs.Prelude.{◌<◌, ◌≤◌, IsErrOf, is_none, slice_get, slice_set, nat_lt}
+use Rattle.std.specs.Option.{option_or}
+use Rattle.std.proofs.Common.{arith}
 use Rattle.std.specs.List.{AllByRecursion}
 use Rattle.std.proofs.lemmas.List.{length-set}
 use Rattle.far_types.specs.declared.refusal.Refusal.{Refusal}
 use Rattle.far_types.specs.declared.refusal.Refusal.TheVariants as refusal
 use Rattle.far_types.specs.declared.spec.Spec.{Spec}
 use Rattle.far_types.specs.FirstOf.{first_of}
+use Rattle.far_scopes.specs.Refusing.{refusal_in}
 use Rattle.far_types.specs.MayRefuse.{MayRefuse}
 use Rattle.far_types.specs.Table.{Table, Registered, is_unbuilt}
 use Rattle.far_aggregates.specs.Aggregates.{is_left, joined}
 use Rattle.far_aggregates.proofs.BuiltLaws.{none_left}
 use Rattle.far_rows.specs.declared.slot.Slot.{Slot}
+use Rattle.far_rows.specs.Rows.{Rows}
+use Rattle.far_rows.specs.Jobs.{fetch_refusal}
+use Rattle.far_rows.specs.Moving.{object_at}
+use Rattle.far_rows.specs.Refusing.{absent_in}
 use Rattle.far_table.specs.State.{State as LiveState}
 use Rattle.far_table.specs.Offloading.{offload_refusal, dirty_from}
 use Rattle.far_table.specs.Watching.{aggregate_at, scanned_at, scan_refusal, group_count, needed_from, IsScanned}
 use Rattle.far_frame.specs.declared.job.Work.TheVariants as work_of
-use Rattle.far_frame.specs.Jobs.{WorkOf, IsOneOf, Merges}
+use Rattle.far_frame.specs.Jobs.{WorkOf, IsOneOf, Commits, Installs, Merges}
 use Rattle.far_frame.specs.State.{State}
 use Rattle.far_shared.specs.Fours.{left_in}
-use Rattle.far_shared.specs.Works.{KeepsRows}
-use Rattle.far_shared.proofs.NumberLaws.{of-one, first-among, may-among}
+use Rattle.far_shared.specs.Works.{KeepsRows, begun_kind}
+use Rattle.far_shared.proofs.NumberLaws.{given-one, of-one, first-among, may-among}
 
 -- a table that is the same keeps its rows
 pub same-keeps : (old new : Table) → new ≡ old → KeepsRows old new
@@ -33,6 +40,11 @@ same-keeps old new e = record {
   aggregates = ap (λ (t : Table). length t.aggregates) e;
   built = λ a none. ap (λ (t : Table). aggregate_at t a) e;
 }
+
+-- what a call says where it is done holds of its result
+pub either-carried : {A : Type 0} (r : Result A Refusal) (P Q : Type 0) → (P → Q) → OnOk r P → OnOk r Q
+either-carried (Ok x) P Q f is = f is
+either-carried (Err e) P Q f is = tt
 
 get-set_other : {X : Type 0} (xs : List X) (i k : ℕ) (x : X) → k ≢ i → slice_get (slice_set xs i x) k ≡ slice_get xs k
 get-set_other [] i k x h = refl
@@ -79,6 +91,31 @@ module _ {K : Type 0} where
   either-keeps (Ok x) old new P Q f g done refused = f x done
   either-keeps (Err e) old new P Q f g done refused = same-keeps old.table new.table (ap (λ (s : State K). s.table) (g e refused))
 
+  -- a job that is accepted was carried
+  pub commits-carried : (number_of : K → ℕ) (old new : State K) (w : WorkOf K) → Commits number_of old w new → begun_kind w ≡ None
+  commits-carried number_of old new (work_of.Evac evac) h = absurd h
+  commits-carried number_of old new (work_of.Carried carried) h = refl
+  commits-carried number_of old new (work_of.Fetch fetch) h = absurd h
+  commits-carried number_of old new (work_of.Fetched fetched) h = absurd h
+  commits-carried number_of old new (work_of.Offload build) h = absurd h
+  commits-carried number_of old new (work_of.Offloaded build) h = absurd h
+
+  pub installs-carried : (number_of : K → ℕ) (content : K → List ℕ) (old new : State K) (w : WorkOf K) → Installs number_of old content w new → begun_kind w ≡ None
+  installs-carried number_of content old new (work_of.Evac evac) h = absurd h
+  installs-carried number_of content old new (work_of.Carried carried) h = absurd h
+  installs-carried number_of content old new (work_of.Fetch fetch) h = absurd h
+  installs-carried number_of content old new (work_of.Fetched fetched) h = refl
+  installs-carried number_of content old new (work_of.Offload build) h = absurd h
+  installs-carried number_of content old new (work_of.Offloaded build) h = absurd h
+
+  pub merges-carried : (number_of : K → ℕ) (old new : State K) (w : WorkOf K) → Merges number_of old w new → begun_kind w ≡ None
+  merges-carried number_of old new (work_of.Evac evac) h = absurd h
+  merges-carried number_of old new (work_of.Carried carried) h = absurd h
+  merges-carried number_of old new (work_of.Fetch fetch) h = absurd h
+  merges-carried number_of old new (work_of.Fetched fetched) h = absurd h
+  merges-carried number_of old new (work_of.Offload build) h = absurd h
+  merges-carried number_of old new (work_of.Offloaded build) h = refl
+
   module _ (s : LiveState K) where
     second-free : (a b : Bool) (q r : Refusal) (cases : List (Bool × Refusal)) → first_of ((a, q) ∷ (not b, r) ∷ cases) ≡ None → b ≡ true
     second-free true b q r cases free = absurd (let some : Some q ≡ None = free in cc)
@@ -116,3 +153,34 @@ module _ {K : Type 0} where
         may-among (14 ∷ 20 ∷ 1 ∷ []) (offload_refusal s (Some r) g) e
         (λ due. first-among (14 ∷ 20 ∷ 1 ∷ []) ((not (nat_lt g (group_count s.table)), refusal.OutOfRange) ∷ (not (is_unbuilt r.unbuilt g), refusal.StaleJob) ∷ dirty_from s.rows r.spec g 0 s.rows.slots) e (refl, (refl, all-dirty (14 ∷ 20 ∷ 1 ∷ []) refl r.spec g 0 s.rows.slots)) due)
         refl h
+
+past-none : {X : Type 0} (xs : List X) (n : ℕ) → length xs ≤ n → is_none (slice_get xs n) ≡ true
+past-none [] n h = refl
+past-none (x ∷ xs) zero h = absurd (omega (arith, h))
+past-none (x ∷ xs) (suc n) h = past-none xs n (omega (arith, h))
+
+within-some : {X : Type 0} (xs : List X) (n : ℕ) → n < length xs → is_none (slice_get xs n) ≡ false
+within-some [] n h = absurd (omega (arith, h))
+within-some (x ∷ xs) zero h = refl
+within-some (x ∷ xs) (suc n) h = within-some xs n (omega (arith, h))
+
+module _ {K A : Type 0} (r : Rows K) (column group : ℕ) (result : Result A Refusal) (is : refusal_in result ≡ fetch_refusal r column group) where
+  -- a fetch of what no slot is of is refused so
+  pub fetch-column : length r.slots ≤ column → IsErrOf result refusal.NoColumn
+  fetch-column past = by result (is_none (slice_get r.slots column)) (is_none (object_at r column group)) (not (absent_in r column group).0) is (past-none r.slots column past)
+    where
+      by : (result : Result A Refusal) (a b d : Bool) → refusal_in result ≡ option_or (first_of ((a, refusal.NoColumn) ∷ (b, refusal.OutOfRange) ∷ [])) (first_of ((d, refusal.StaleJob) ∷ [])) → a ≡ true → IsErrOf result refusal.NoColumn
+      by (Ok x) true b d due on = absurd (let some : None ≡ Some refusal.NoColumn = due in cc)
+      by (Err e) true b d due on = let same : e ≡ refusal.NoColumn = cc in ap (λ (x : Refusal). Err x) same
+      by result false b d due on = absurd cc
+
+  -- any other is refused by these
+  pub fetch-numbers : column < length r.slots → IfErr result (IsOneOf (14 ∷ 20 ∷ []))
+  fetch-numbers within = by result (is_none (slice_get r.slots column)) (is_none (object_at r column group)) (not (absent_in r column group).0) is (within-some r.slots column within)
+    where
+      by : (result : Result A Refusal) (a b d : Bool) → refusal_in result ≡ option_or (first_of ((a, refusal.NoColumn) ∷ (b, refusal.OutOfRange) ∷ [])) (first_of ((d, refusal.StaleJob) ∷ [])) → a ≡ false → IfErr result (IsOneOf (14 ∷ 20 ∷ []))
+      by (Ok x) a b d due off = tt
+      by (Err e) true b d due off = absurd cc
+      by (Err e) false true d due off = given-one (14 ∷ 20 ∷ []) refusal.OutOfRange e refl (sym due)
+      by (Err e) false false true due off = given-one (14 ∷ 20 ∷ []) refusal.StaleJob e refl (sym due)
+      by (Err e) false false false due off = absurd (let none : Some e ≡ None = due in cc)

@@ -1,13 +1,13 @@
 -- What an edit of a stripe does for the session that makes it, and why it is refused.
-use Rattle.std.specs.Prelude.{◌≡◌, ◌⊎◌, ℕ, List, [], ◌∷◌, ◌++◌, length, None, Some}
+use Rattle.std.specs.Prelude.{◌≡◌, ◌⊎◌, ℕ, ◌/◌, ◌<◌, Bool, false, List, [], ◌∷◌, ◌++◌, length, None, Some}
 use mathlib.Core.List.{IsPrefix}
 use Rattle.far_types.specs.declared.edit.Edit.{Edit}
 use Rattle.far_types.specs.declared.edit.Edit.TheVariants as edit
 use Rattle.far_types.specs.declared.refusal.Refusal.{Refusal}
 use Rattle.far_types.specs.declared.refusal.Refusal.TheVariants as refusal
-use Rattle.far_types.specs.Edits.{edit_faults, edit_refusal}
+use Rattle.far_types.specs.Edits.{edit_faults, edit_refusal, overfills}
 use Rattle.far_types.specs.FirstOf.{first_of}
-use Rattle.far_types.specs.Table.{Table}
+use Rattle.far_types.specs.Table.{Place, Table}
 use Rattle.far_history.specs.Histories.{Planned, IsLegal, by_session, replay}
 use Rattle.far_history.specs.Rule.{entry}
 use Rattle.far_history.specs.Sessions.{Told}
@@ -15,23 +15,28 @@ use Rattle.far_history.specs.declared.view.Entry.{Entry}
 use Rattle.far_sessions.specs.Known.{SeesMore}
 use Rattle.far_shared.specs.declared.stripe.Applied.{Applied}
 
--- the place of the row that an edit appends, or the one that it names
-abbrev pub place_of : Table → Edit → ℕ
-place_of table (edit.Insert row) = length table.places
-place_of table (edit.Set p c cell) = p
-place_of table (edit.Remove p) = p
+-- the place among these of the row that an edit appends, or the one that it names
+abbrev pub place_in : List Place → Edit → ℕ
+place_in places (edit.Insert row) = length places
+place_in places (edit.Set p c cell) = p
+place_in places (edit.Remove p) = p
 
--- a refusal that the plain table does not know, since none of its objects is ever away and it has room for all
-abbrev pub IsOfObjects : Refusal → Type 0
-IsOfObjects (refusal.Absent column group) = Unit {0}
-IsOfObjects refusal.RegionFull = Unit {0}
-IsOfObjects _ = ⊥
+-- the same for a table
+abbrev pub place_of : Table → Edit → ℕ
+place_of table e = place_in table.places e
+
+-- a refusal that the plain table does not know, since none of its objects is ever away and it has room for all: an object of a column
+-- of the schema is away, in the row group that the edit writes; or there is no room, where no text object would be too long
+abbrev pub IsOfObjects : (columns group : ℕ) (is_too_long : Bool) → Refusal → Type 0
+IsOfObjects columns group is_too_long (refusal.Absent c g) = (c < columns) × (g ≡ group)
+IsOfObjects columns group is_too_long refusal.RegionFull = is_too_long ≡ false
+IsOfObjects columns group is_too_long _ = ⊥
 
 -- why an edit of a table over objects is refused: the plain table refuses it so; or it has no fault of its own, and objects stand in
 -- its way; or the plain table accepts it, and memory is wanted
 abbrev pub WhyNot : Table → Edit → Refusal → Type 0
 WhyNot table e given = (edit_refusal table e ≡ Some given)
-    ⊎ (((first_of (edit_faults table.schema table.limits table.places e) ≡ None) × IsOfObjects given)
+    ⊎ (((first_of (edit_faults table.schema table.limits table.places e) ≡ None) × IsOfObjects (length table.schema) (place_of table e / table.limits.group) (overfills table.schema table.limits e table.places) given)
     ⊎ ((edit_refusal table e ≡ None) × (given ≡ refusal.NoMemory)))
 
 module _ (p : Planned) (before : Told) (e : Edit) (after : Told) where

@@ -1,14 +1,13 @@
 -- What the four stripes are asked.
-use Rattle.std.specs.Prelude.{◌≡◌, ℕ, List}
+use Rattle.std.specs.Prelude.{◌≡◌, ℕ, List, Result, IfOk, IfErr, IfSome, OnOk}
 use Rattle.far_types.specs.declared.answer.Answer.{Answer}
 use Rattle.far_types.specs.declared.refusal.Refusal.{Refusal}
-use Rattle.far_types.specs.declared.refusal.Refusal.TheVariants as refusal
 use Rattle.far_types.specs.declared.spec.Spec.{Spec}
 use Rattle.far_types.specs.Answers.{answer_over}
 use Rattle.far_types.specs.Table.{Table}
 use Rattle.far_history.specs.Histories.{Planned, IsLegal, replay}
 use Rattle.far_history.specs.declared.view.Entry.{Entry}
-use Rattle.far_shared.specs.Fours.{all_rows}
+use Rattle.far_shared.specs.Fours.{AreAlike, FourRefusal, all_rows, left_in_all, spec_at}
 use Rattle.far_shared.specs.Stripes.{IsStripe}
 
 -- an answer over all rows that four legal histories leave. Under number 0 it is the gauge's
@@ -22,15 +21,21 @@ pub record IsAnswer (p : Planned) (a : ℕ) (answer : Answer) : Type 0 where
   pub gauge : a ≡ 0 → spec ≡ p.gauge
   pub is : answer ≡ answer_over spec (all_rows (replay p zero) (replay p one) (replay p two) (replay p three))
 
--- why the four are not asked: an aggregate is not registered, or not the same in all; row groups are left; or memory is wanted
-abbrev pub IsAskRefusal : Refusal → Type 0
-IsAskRefusal refusal.NoAggregate = Unit {0}
-IsAskRefusal (refusal.Building left) = Unit {0}
-IsAskRefusal refusal.NoMemory = Unit {0}
-IsAskRefusal _ = ⊥
-
 -- the table is what some legal history leaves
 pub record IsLeft (p : Planned) (table : Table) : Type 0 where
   pub log : List Entry
   pub legal : IsLegal p log
   pub stripe : IsStripe p log table
+
+-- what four tables that legal histories leave answer under a number: all of them have the same aggregate there with nothing left, and it
+-- is answered over the rows of the four, one table after the other; or that is refused as it is for these four
+pub record IsAsked (p : Planned) (a : ℕ) (result : Result Answer Refusal) : Type 0 where
+  pub zero : Table
+  pub one : Table
+  pub two : Table
+  pub three : Table
+  pub left : IsLeft p zero × IsLeft p one × IsLeft p two × IsLeft p three
+  pub alike : OnOk result (AreAlike a zero one two three)
+  pub built : OnOk result (left_in_all a zero one two three ≡ 0)
+  pub answer : IfOk result (λ answer. IfSome (spec_at zero a) (λ spec. answer ≡ answer_over spec (all_rows zero one two three)))
+  pub refused : IfErr result (FourRefusal a zero one two three)

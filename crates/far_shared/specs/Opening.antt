@@ -4,7 +4,7 @@ use Rattle.atomic_table.specs.Seated.{TableId}
 use Rattle.far_rows.specs.Jobs.{AreAt}
 use Rattle.far_frame.specs.State.{State}
 use Rattle.far_history.specs.Histories.{Planned}
-use Rattle.far_shared.specs.Stripes.{IsStripe}
+use Rattle.far_shared.specs.Stripes.{AreRowsOf, IsStripe}
 
 -- the cells of the four stripes
 pub record CellIds : Type 0 where
@@ -17,7 +17,8 @@ pub record CellIds : Type 0 where
 abbrev pub AreNamed : CellIds → (ℕ → TableId) → Type 0
 AreNamed ids names = (ids.zeroth ≡ names 0) × (ids.first ≡ names 1) × (ids.second ≡ names 2) × (ids.third ≡ names 3)
 
--- the table of an empty history, with its gauge. It has no tickets, so they are all of any store
-pub record IsEmpty {K : Type 0} (is_of : K → List ℕ → Type 0) (p : Planned) (s : State K) : Type 0 where
+-- the table of an empty history, with its gauge, as stripe n. It has no tickets, so they are all of any store
+pub record IsEmpty {K : Type 0} (is_of : K → List ℕ → Type 0) (p : Planned) (n : ℕ) (s : State K) : Type 0 where
   pub stripe : IsStripe p [] s.table
   pub here : (name : List ℕ) → AreAt is_of name s.rows
+  pub rows : AreRowsOf p.schema n s.rows

@@ -1,7 +1,9 @@
 -- What lies under the lock of a stripe.
-use Rattle.std.specs.Prelude.{◌≡◌, List, [], length, Some}
+use Rattle.std.specs.Prelude.{◌≡◌, ℕ, List, [], length, Some}
+use Rattle.far_types.specs.declared.cell.Kind.{Kind}
 use Rattle.far_types.specs.declared.spec.Spec.{Spec}
 use Rattle.far_types.specs.Table.{Table, Registered}
+use Rattle.far_rows.specs.Rows.{Rows}
 use Rattle.far_table.specs.Watching.{aggregate_at}
 use Rattle.far_history.specs.Histories.{Planned, replay}
 use Rattle.far_history.specs.declared.view.Entry.{Entry}
@@ -10,6 +12,18 @@ use Rattle.far_shared.specs.Plans.{IsPlan}
 -- an aggregate that was registered first of all, before there was a row: nothing was ever left to be built into it
 abbrev pub first_registered : Spec → Registered
 first_registered spec = record { spec = spec; registration = 0; unbuilt = [] }
+
+-- the rows of a table with this schema have a slot for each column, and their objects bear the number of their stripe
+pub record AreRowsOf {K : Type 0} (schema : List Kind) (n : ℕ) (r : Rows K) : Type 0 where
+  pub slots : length r.slots ≡ length schema
+  pub numbers : r.number_objects.number ≡ n
+  pub texts : r.text_objects.number ≡ n
+
+-- a call keeps these
+pub record KeepsColumns {K : Type 0} (old new : Rows K) : Type 0 where
+  pub slots : new.slots ≡ old.slots
+  pub numbers : new.number_objects.number ≡ old.number_objects.number
+  pub texts : new.text_objects.number ≡ old.text_objects.number
 
 -- the table is the replay of the history, and its aggregate 0 is the gauge of the plan, with nothing missing. Others may be registered
 -- beside it

@@ -1,5 +1,5 @@
 -- Work in the background: how it begins and ends, and what it keeps.
-use Rattle.std.specs.Prelude.{◌≡◌, ◌+◌, ◌<◌, ◌≤◌, ℕ, true, false, List, [], ◌∷◌, length, Option, None, Some, is_none, IsSomeAnd, IfSome, Result, IsErrOf}
+use Rattle.std.specs.Prelude.{◌≡◌, ◌+◌, ◌<◌, ◌≤◌, ℕ, true, false, List, [], ◌∷◌, length, Option, None, Some, is_none, IsSome, IsSomeAnd, IfSome, Result, IsErrOf}
 use Rattle.far_types.specs.declared.refusal.Refusal.{Refusal}
 use Rattle.far_types.specs.declared.refusal.Refusal.TheVariants as refusal
 use Rattle.far_types.specs.MayRefuse.{MayRefuse}
@@ -27,10 +27,15 @@ stripe_of (work.Evacuate stripe) = stripe
 stripe_of (work.Fetch stripe name) = stripe
 stripe_of (work.Build stripe) = stripe
 
--- the numbers of the refusals that a work may begin with
+-- how many columns the schema must have for what a work names
+abbrev pub columns_for : Work → ℕ
+columns_for (work.Fetch stripe name) = name.column + 1
+columns_for _ = 0
+
+-- the numbers of the refusals that a work may begin with, whose columns are there
 abbrev pub begin_refusals : Work → List ℕ
 begin_refusals (work.Evacuate stripe) = 1 ∷ []
-begin_refusals (work.Fetch stripe name) = 4 ∷ 14 ∷ 20 ∷ []
+begin_refusals (work.Fetch stripe name) = 14 ∷ 20 ∷ []
 begin_refusals (work.Build stripe) = 14 ∷ 20 ∷ 1 ∷ []
 
 -- the numbers of those that a job may end with
@@ -48,7 +53,7 @@ job_refusals kind.Offload = 21 ∷ 12 ∷ 20 ∷ 1 ∷ []
 -- the numbers of those that a work may meet as a whole
 abbrev pub work_refusals : Work → List ℕ
 work_refusals (work.Evacuate stripe) = 21 ∷ 22 ∷ 20 ∷ 19 ∷ 1 ∷ []
-work_refusals (work.Fetch stripe name) = 4 ∷ 14 ∷ 20 ∷ 21 ∷ 17 ∷ 1 ∷ []
+work_refusals (work.Fetch stripe name) = 14 ∷ 20 ∷ 21 ∷ 17 ∷ 1 ∷ []
 work_refusals (work.Build stripe) = 14 ∷ 12 ∷ 20 ∷ 16 ∷ 21 ∷ 1 ∷ []
 
 -- how many works a report is of
@@ -59,6 +64,12 @@ works_in report = report.done + report.refused
 pub record RefusedAt {A : Type 0} (stripe : ℕ) (numbers : List ℕ) (result : Result A Refusal) : Type 0 where
   pub unknown : 4 ≤ stripe → IsErrOf result refusal.OutOfRange
   pub known : stripe < 4 → RefusedBy numbers result
+
+-- a call wants a schema of so many columns: where this one has fewer, it is refused with 4, and else as at its stripe
+pub record RefusedFor {A : Type 0} (columns wanted stripe : ℕ) (numbers : List ℕ) (result : Result A Refusal) : Type 0 where
+  pub column : columns < wanted → IsErrOf result refusal.NoColumn
+  pub unknown : wanted ≤ columns → 4 ≤ stripe → IsErrOf result refusal.OutOfRange
+  pub known : wanted ≤ columns → stripe < 4 → RefusedBy numbers result
 
 -- the rows of a table are as before, with its schema, its limits, its edits and how many aggregates it has room for, and so is each
 -- aggregate of which nothing is left
@@ -130,9 +141,9 @@ module _ {K : Type 0} where
   begun_kind (work_of.Offload build) = Some kind.Offload
   begun_kind _ = None
 
-  -- a job is begun for a work, told without its table. There may be nothing to send away or to build in
+  -- a job is begun for a work, told without its table. There may be nothing to send away or to build in. An evacuation tells its object
   abbrev pub IsJobOf : Work → Option (JobRecord K) → Type 0
-  IsJobOf (work.Evacuate stripe) job = IfSome job (λ begun. begun_kind begun.work ≡ Some kind.Evac)
+  IsJobOf (work.Evacuate stripe) job = IfSome job (λ begun. (begun_kind begun.work ≡ Some kind.Evac) × IsSome begun.name)
   IsJobOf (work.Fetch stripe name) job = IsSomeAnd job (λ begun. (begun_kind begun.work ≡ Some kind.Fetch) × (begun.name ≡ Some name))
   IsJobOf (work.Build stripe) job = IfSome job (λ begun. begun_kind begun.work ≡ Some kind.Offload)
 

@@ -1,6 +1,6 @@
 // What the four stripes are asked together, and how one is read.
 ghost use Rattle.std.specs.Prelude.{◌≡◌, ◌<◌, ◌≤◌, IfOk, IfErr, OnOk};
-ghost use Rattle.far_shared.specs.Asking.{IsAnswer, IsAskRefusal, IsLeft};
+ghost use Rattle.far_shared.specs.Asking.{IsAnswer, IsAsked, IsLeft};
 
 use crate::four::answer_four;
 use crate::shared::Shared;
@@ -10,7 +10,7 @@ use far_history::Naming;
 use far_store::FarTickets;
 use far_types::{Answer, Refusal};
 use std::alloc::Global;
-use std::sync::{RwLockReadGuard, Wait};
+use std::sync::{RwLock, RwLockReadGuard, Wait};
 
 /// A stripe under its read lock. No edit, and no movement of an object, is made there while it is held.
 #[derive(Drop)]
@@ -59,7 +59,7 @@ fn answer_stripes<N: Naming, B: Site, S: FarTickets>(
     a: u32,
 ) -> Result<Answer, Refusal>
     ensures answer { IfOk result (IsAnswer N.plan a) }
-    ensures refused { IfErr result IsAskRefusal }
+    ensures asked { IsAsked N.plan a result }
     ensures gauge { a ≡ 0 → IfErr result (λ e. e ≡ Refusal.NoMemory) }
 {
     zero.keeper.known();
@@ -69,17 +69,30 @@ fn answer_stripes<N: Naming, B: Site, S: FarTickets>(
     answer_four(alloc, &zero.frame, &one.frame, &two.frame, &three.frame, a)
 }
 
+/// The stripe of this number under its read lock.
+fn read_under<'a, N: Naming, B: Site, S: FarTickets, const I: usize, R: Wait>(
+    rt: &R,
+    lock: &'a RwLock<Stripe<N, B, S, I>>,
+    stripe: u32,
+) -> RwLockReadGuard<'a, Stripe<N, B, S, I>>
+    requires own { stripe ≡ I }
+{
+    // For the proof: it says of which stripe the lock is.
+    let _own = stripe;
+    lock.read(rt)
+}
+
 impl<N: Naming, B: Site, S: FarTickets> Shared<N, B, S> {
-    /// A stripe under its read lock. Refused with `OutOfRange` (14) exactly where there is no such stripe.
+    /// The stripe of this number under its read lock. Refused with `OutOfRange` (14) exactly where there is no such stripe.
     pub fn scope<R: Wait>(&self, rt: &R, stripe: u32) -> Result<Scope<'_, N, B, S>, Refusal>
         ensures ok { OnOk result (stripe < 4) }
         ensures refused { IfErr result (λ e. (e ≡ Refusal.OutOfRange) × (4 ≤ stripe)) }
     {
         match stripe {
-            0 => Ok(Scope::Zero(self.zero.read(rt))),
-            1 => Ok(Scope::One(self.one.read(rt))),
-            2 => Ok(Scope::Two(self.two.read(rt))),
-            3 => Ok(Scope::Three(self.three.read(rt))),
+            0 => Ok(Scope::Zero(read_under(rt, &self.zero, stripe))),
+            1 => Ok(Scope::One(read_under(rt, &self.one, stripe))),
+            2 => Ok(Scope::Two(read_under(rt, &self.two, stripe))),
+            3 => Ok(Scope::Three(read_under(rt, &self.three, stripe))),
             _ => Err(Refusal::OutOfRange),
         }
     }
@@ -87,11 +100,13 @@ impl<N: Naming, B: Site, S: FarTickets> Shared<N, B, S> {
     /// What an aggregate that the four stripes have under one number answers over the rows of the four, one stripe after the other.
     /// Holds all four read locks.
     ///
-    /// Refused with `NoAggregate` (12), `Building` (15) and `NoMemory` (1), as `answer_four` is; the gauge, whose number is 0, with
-    /// `NoMemory` alone.
+    /// Refused as `answer_four` is, over the four tables as they stand under their locks: with `NoAggregate` (12) exactly where one of them
+    /// lacks the aggregate or it is not the same in all, so always for a number from 32 on; else with `Building` (15) and how many row
+    /// groups are left exactly where some are; else with `NoMemory` (1) alone. The gauge, whose number is 0, is refused with `NoMemory`
+    /// alone.
     pub fn ask_all<R: Wait>(&self, rt: &R, a: u32) -> Result<Answer, Refusal>
         ensures answer { IfOk result (IsAnswer N.plan a) }
-        ensures refused { IfErr result IsAskRefusal }
+        ensures asked { IsAsked N.plan a result }
         ensures gauge { a ≡ 0 → IfErr result (λ e. e ≡ Refusal.NoMemory) }
     {
         let zero = self.zero.read(rt);

@@ -1,7 +1,7 @@
 // Works that several threads do.
 ghost use Rattle.std.specs.Prelude.{◌≡◌, ◌+◌, ◌<◌, ◌≤◌, ◌^◌, ◌⊎◌, length, vec_len, sum_by, IfOk, IfErr, OnOk};
 ghost use Rattle.std.specs.Int.{div_ceil};
-ghost use Rattle.far_shared.specs.Works.{RefusedAt, stripe_of, work_refusals, works_in};
+ghost use Rattle.far_shared.specs.Works.{RefusedFor, columns_for, stripe_of, work_refusals, works_in};
 
 use crate::shared::Shared;
 use crate::stripe::Site;
@@ -21,7 +21,7 @@ fn serve<N: Naming, B: Site, S: FarStore, R: Wait>(
     work: &Work,
 ) -> Result<(), Refusal>
     requires store { S.name store.now ≡ B.store }
-    ensures refused { RefusedAt (stripe_of work.now) (work_refusals work.now) result }
+    ensures refused { RefusedFor (length N.plan.schema) (columns_for work.now) (stripe_of work.now) (work_refusals work.now) result }
 {
     let mut meter = Meter::new();
     match work {

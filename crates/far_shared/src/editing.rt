@@ -1,12 +1,12 @@
 // Edits of the table of a stripe, and what its gauge reads then.
-ghost use Rattle.std.specs.Prelude.{◌≡◌, ◌+◌, ◌<◌, ◌^◌, ℕ, List, Some, None, IfOk, IfErr, OnOk, OnErr};
+ghost use Rattle.std.specs.Prelude.{◌≡◌, ◌+◌, ◌<◌, ◌^◌, ℕ, List, length, Some, None, IfOk, IfErr, OnOk, OnErr};
 ghost use Rattle.far_types.specs.Edits.{edited, edit_refusal};
 ghost use Rattle.far_rows.specs.Jobs.{AreAt};
 ghost use Rattle.far_table.specs.Watching.{aggregate_at};
 ghost use Rattle.far_history.specs.Histories.{folded};
 ghost use Rattle.far_shared.specs.Applying.{place_of, WhyNot};
 ghost use Rattle.far_shared.specs.Plans.{IsPlan};
-ghost use Rattle.far_shared.specs.Stripes.{first_registered};
+ghost use Rattle.far_shared.specs.Stripes.{KeepsColumns, first_registered};
 
 use far_frame::Frame;
 use far_history::{Naming, Reading};
@@ -22,12 +22,14 @@ pub(crate) struct Changed {
 
 /// Makes an edit. Gives the place of the row that it appends, or the one that it names.
 fn make<S: FarTickets>(frame: &mut Frame<S>, edit: Edit) -> Result<u32, Refusal>
+    requires slots { length frame.old.rows.slots ≡ length frame.old.table.schema }
     ensures may { OnOk result (edit_refusal frame.old.table edit ≡ None) }
     ensures made { OnOk result (frame.new.table ≡ edited edit frame.old.table) }
     ensures place { IfOk result (λ place. place ≡ place_of frame.old.table edit) }
     ensures refused { IfErr result (WhyNot frame.old.table edit) }
     ensures err { OnErr result (frame.new ≡ frame.old) }
     ensures here { (name : List ℕ) → AreAt S.is_of name frame.old.rows → AreAt S.is_of name frame.new.rows }
+    ensures columns { KeepsColumns frame.old.rows frame.new.rows }
 {
     match edit {
         Edit::Insert(row) => frame.insert(row),
@@ -66,6 +68,7 @@ pub(crate) fn change<N: Naming, S: FarTickets>(
 ) -> Result<Changed, Refusal>
     requires plan { IsPlan N.plan }
     requires gauge { aggregate_at frame.old.table 0 ≡ Some (first_registered N.plan.gauge) }
+    requires slots { length frame.old.rows.slots ≡ length frame.old.table.schema }
     requires few { edits < 2 ^ 63 }
     ensures may { OnOk result (edit_refusal frame.old.table edit ≡ None) }
     ensures made { OnOk result (frame.new.table ≡ edited edit frame.old.table) }
@@ -74,6 +77,7 @@ pub(crate) fn change<N: Naming, S: FarTickets>(
     ensures refused { IfErr result (WhyNot frame.old.table edit) }
     ensures err { OnErr result (frame.new ≡ frame.old) }
     ensures here { (name : List ℕ) → AreAt S.is_of name frame.old.rows → AreAt S.is_of name frame.new.rows }
+    ensures columns { KeepsColumns frame.old.rows frame.new.rows }
 {
     let place = make(frame, edit)?;
     let after = gauged::<N, S>(frame, edits + 1);

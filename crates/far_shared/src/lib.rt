@@ -21,6 +21,8 @@ mod working;
 
 pub use asking::Scope;
 pub use background::Background;
+pub use far_history::Reading;
+pub use far_sessions::{Cells, Session};
 pub use four::answer_four;
 pub use opening::{Four, Made};
 pub use plan::Plan;

@@ -1,8 +1,8 @@
 // Work in the background, under the lock of one stripe. A carry is under none.
-ghost use Rattle.std.specs.Prelude.{◌≡◌, ◌+◌, ◌<◌, ◌^◌, [], ◌∷◌, IfOk, IfSome};
+ghost use Rattle.std.specs.Prelude.{◌≡◌, ◌+◌, ◌<◌, ◌≤◌, ◌^◌, [], ◌∷◌, None, length, IfOk, IfSome, OnOk};
 ghost use Rattle.far_store.specs.Faults.{RefusedBy, faults_in};
 ghost use Rattle.far_frame.specs.Jobs.{IsJobAt, kind_of};
-ghost use Rattle.far_shared.specs.Works.{IsJobOf, IsBuildOf, IsBuildingAt, begin_refusals, end_refusals, job_refusals};
+ghost use Rattle.far_shared.specs.Works.{IsJobOf, IsBuildOf, IsBuildingAt, begin_refusals, begun_kind, columns_for, end_refusals, job_refusals, stripe_of};
 
 use crate::stripe::{Site, Stripe};
 use crate::work::{Building, Work};
@@ -20,6 +20,8 @@ pub(crate) fn begin_under<N: Naming, B: Site, S: FarTickets, const I: usize, R: 
     store: &S,
     work: &Work,
 ) -> Result<Option<Job<S>>, Refusal>
+    requires own { stripe_of work.now ≡ I }
+    requires column { columns_for work.now ≤ length N.plan.schema }
     requires store { S.name store.now ≡ B.store }
     ensures begun { IfOk result (IsJobOf work.now) }
     ensures here { IfOk result (λ job. IfSome job (IsJobAt S.is_of B.store)) }
@@ -32,11 +34,14 @@ pub(crate) fn begin_under<N: Naming, B: Site, S: FarTickets, const I: usize, R: 
 pub(crate) fn finish_under<N: Naming, B: Site, S: FarTickets, const I: usize, R: Wait>(
     rt: &R,
     lock: &RwLock<Stripe<N, B, S, I>>,
+    stripe: u32,
     store: &S,
     job: &Job<S>,
 ) -> Result<(), Refusal>
+    requires own { stripe ≡ I }
     requires store { S.name store.now ≡ B.store }
     requires here { IsJobAt S.is_of B.store job.now }
+    ensures carried { OnOk result (begun_kind job.now.work ≡ None) }
     ensures refused { RefusedBy (end_refusals (kind_of job.now)) result }
 {
     lock.write(rt).finish(store, job)
@@ -73,10 +78,12 @@ fn complete_under<N: Naming, B: Site, S: FarStore, const I: usize, R: Wait>(
     rt: &R,
     alloc: Global,
     lock: &RwLock<Stripe<N, B, S, I>>,
+    stripe: u32,
     store: &S,
     meter: &mut Meter,
     job: Job<S>,
 ) -> Result<(), Refusal>
+    requires own { stripe ≡ I }
     requires few { meter.old < 2 ^ 63 }
     requires store { S.name store.now ≡ B.store }
     requires here { IsJobAt S.is_of B.store job }
@@ -84,7 +91,7 @@ fn complete_under<N: Naming, B: Site, S: FarStore, const I: usize, R: Wait>(
     ensures refused { RefusedBy (job_refusals (kind_of job)) result }
 {
     match job.carry(alloc, store, meter) {
-        Ok(carried) => finish_under(rt, lock, store, &carried),
+        Ok(carried) => finish_under(rt, lock, stripe, store, &carried),
         Err((refusal, _)) => Err(refusal),
     }
 }
@@ -98,6 +105,7 @@ pub(crate) fn evacuate_under<N: Naming, B: Site, S: FarStore, const I: usize, R:
     store: &S,
     meter: &mut Meter,
 ) -> Result<Option<Name>, Refusal>
+    requires own { stripe ≡ I }
     requires few { meter.old < 2 ^ 63 }
     requires store { S.name store.now ≡ B.store }
     ensures faults { meter.new ≡ meter.old + faults_in result }
@@ -107,7 +115,7 @@ pub(crate) fn evacuate_under<N: Naming, B: Site, S: FarStore, const I: usize, R:
         return Ok(None);
     };
     let name = job.object();
-    complete_under(rt, alloc, lock, store, meter, job)?;
+    complete_under(rt, alloc, lock, stripe, store, meter, job)?;
     Ok(name)
 }
 
@@ -121,15 +129,17 @@ pub(crate) fn fetch_under<N: Naming, B: Site, S: FarStore, const I: usize, R: Wa
     store: &S,
     meter: &mut Meter,
 ) -> Result<(), Refusal>
+    requires own { stripe ≡ I }
+    requires column { name.column < length N.plan.schema }
     requires few { meter.old < 2 ^ 63 }
     requires store { S.name store.now ≡ B.store }
     ensures faults { meter.new ≡ meter.old + faults_in result }
-    ensures refused { RefusedBy (4 ∷ 14 ∷ 20 ∷ 21 ∷ 17 ∷ 1 ∷ []) result }
+    ensures refused { RefusedBy (14 ∷ 20 ∷ 21 ∷ 17 ∷ 1 ∷ []) result }
 {
     let Some(job) = begin_under(rt, lock, store, &Work::Fetch(stripe, name))? else {
         unreachable!()
     };
-    complete_under(rt, alloc, lock, store, meter, job)
+    complete_under(rt, alloc, lock, stripe, store, meter, job)
 }
 
 /// Builds a row group of a stripe that is left into its aggregate; false where none is left.
@@ -137,9 +147,11 @@ pub(crate) fn build_under<N: Naming, B: Site, S: FarStore, const I: usize, R: Wa
     rt: &R,
     alloc: Global,
     lock: &RwLock<Stripe<N, B, S, I>>,
+    stripe: u32,
     store: &S,
     meter: &mut Meter,
 ) -> Result<bool, Refusal>
+    requires own { stripe ≡ I }
     requires few { meter.old < 2 ^ 63 }
     requires store { S.name store.now ≡ B.store }
     ensures faults { meter.new ≡ meter.old + faults_in result }
@@ -152,7 +164,7 @@ pub(crate) fn build_under<N: Naming, B: Site, S: FarStore, const I: usize, R: Wa
             Ok(true)
         }
         Building::Offload(job) => {
-            complete_under(rt, alloc, lock, store, meter, job)?;
+            complete_under(rt, alloc, lock, stripe, store, meter, job)?;
             Ok(true)
         }
     }

@@ -67,12 +67,12 @@ impl<N: Naming, S: FarTickets> Model for Made<N, S> {
 
     ghost view = { λ m. record { zeroth = m.cells.zero; first = m.cells.one; second = m.cells.two; third = m.cells.three } };
 
-    ghost invariant = { λ m. (m.sessions ≡ N.plan.sessions) × IsEmpty S.is_of N.plan m.frames.zero × IsEmpty S.is_of N.plan m.frames.one × IsEmpty S.is_of N.plan m.frames.two × IsEmpty S.is_of N.plan m.frames.three };
+    ghost invariant = { λ m. (m.sessions ≡ N.plan.sessions) × IsEmpty S.is_of N.plan 0 m.frames.zero × IsEmpty S.is_of N.plan 1 m.frames.one × IsEmpty S.is_of N.plan 2 m.frames.two × IsEmpty S.is_of N.plan 3 m.frames.three };
 }
 
 /// An empty table of this number, whose aggregate 0 is the gauge. Refused with `NoMemory` (1) alone.
 fn open_frame<S: FarTickets>(alloc: Global, plan: &Plan, number: u32) -> Result<Frame<S>, Refusal>
-    ensures ok { IfOk result (IsEmpty S.is_of plan.now) }
+    ensures ok { IfOk result (IsEmpty S.is_of plan.now number) }
     ensures memory { IfErr result (λ e. e ≡ Refusal.NoMemory) }
 {
     let mut frame = Frame::<S>::open(alloc, plan.schema.clone()?, plan.limits, number)?;
@@ -82,10 +82,10 @@ fn open_frame<S: FarTickets>(alloc: Global, plan: &Plan, number: u32) -> Result<
 
 /// Four such tables. Refused with `NoMemory` (1) alone.
 fn open_frames<S: FarTickets>(alloc: Global, plan: &Plan) -> Result<Four<Frame<S>>, Refusal>
-    ensures zero { IfOk result (λ frames. IsEmpty S.is_of plan.now frames.zero) }
-    ensures one { IfOk result (λ frames. IsEmpty S.is_of plan.now frames.one) }
-    ensures two { IfOk result (λ frames. IsEmpty S.is_of plan.now frames.two) }
-    ensures three { IfOk result (λ frames. IsEmpty S.is_of plan.now frames.three) }
+    ensures zero { IfOk result (λ frames. IsEmpty S.is_of plan.now 0 frames.zero) }
+    ensures one { IfOk result (λ frames. IsEmpty S.is_of plan.now 1 frames.one) }
+    ensures two { IfOk result (λ frames. IsEmpty S.is_of plan.now 2 frames.two) }
+    ensures three { IfOk result (λ frames. IsEmpty S.is_of plan.now 3 frames.three) }
     ensures memory { IfErr result (λ e. e ≡ Refusal.NoMemory) }
 {
     all_four(
@@ -101,7 +101,7 @@ fn under_lock<N: Naming, B: Site, S: FarTickets, const I: usize>(
     frame: Frame<S>,
     keeper: Keeper<N, B, I>,
 ) -> RwLock<Stripe<N, B, S, I>>
-    requires table { IsEmpty S.is_of N.plan frame }
+    requires table { IsEmpty S.is_of N.plan I frame }
     requires history { keeper ≡ [] }
 {
     RwLock::new(Stripe { frame, keeper })
@@ -115,10 +115,10 @@ fn share<N: Naming, B: Site, S: FarTickets>(
     cells: Cells<N, B>,
     keepers: Keepers<N, B>,
 ) -> Shared<N, B, S>
-    requires zero { IsEmpty S.is_of N.plan frames.zero × (keepers.zero ≡ []) }
-    requires one { IsEmpty S.is_of N.plan frames.one × (keepers.one ≡ []) }
-    requires two { IsEmpty S.is_of N.plan frames.two × (keepers.two ≡ []) }
-    requires three { IsEmpty S.is_of N.plan frames.three × (keepers.three ≡ []) }
+    requires zero { IsEmpty S.is_of N.plan 0 frames.zero × (keepers.zero ≡ []) }
+    requires one { IsEmpty S.is_of N.plan 1 frames.one × (keepers.one ≡ []) }
+    requires two { IsEmpty S.is_of N.plan 2 frames.two × (keepers.two ≡ []) }
+    requires three { IsEmpty S.is_of N.plan 3 frames.three × (keepers.three ≡ []) }
     requires sessions { sessions ≡ N.plan.sessions }
 {
     let Keepers {
@@ -127,6 +127,7 @@ fn share<N: Naming, B: Site, S: FarTickets>(
         two,
         three,
     } = keepers;
+    let columns = frames.zero.schema().len() as u64;
     Shared {
         alloc,
         zero: under_lock(frames.zero, zero),
@@ -136,6 +137,7 @@ fn share<N: Naming, B: Site, S: FarTickets>(
         cells,
         count: Count {
             sessions,
+            columns,
             of: PhantomData,
         },
     }

@@ -1,5 +1,5 @@
 // Four stripes that threads share.
-ghost use Rattle.std.specs.Prelude.{◌≡◌, ◌≢◌, ◌<◌, ◌≤◌, ℕ, IfOk, IfErr, OnOk};
+ghost use Rattle.std.specs.Prelude.{◌≡◌, ◌≢◌, ◌<◌, ◌≤◌, ℕ, length, IfOk, IfErr, OnOk};
 ghost use Rattle.far_sessions.specs.Known.{at};
 ghost use Rattle.far_shared.specs.Applying.{Extends, IsRefused};
 
@@ -12,12 +12,14 @@ use std::alloc::Global;
 use std::marker::PhantomData;
 use std::sync::{RwLock, Wait};
 
-/// How many sessions a shared table has.
+/// How many sessions a shared table has, and how many columns. They never change, so no lock is over them.
 #[derive(Drop)]
 pub(crate) struct Count<N: Naming> {
     pub(crate) sessions: u64,
+    pub(crate) columns: u64,
     pub(crate) of: PhantomData<N>,
     ghost is: { sessions ≡ N.plan.sessions },
+    ghost wide: { columns ≡ length N.plan.schema },
 }
 
 /// Four stripes, each a table under its lock, and the cells beside them. Session s has the home stripe s mod 4, and may use all.

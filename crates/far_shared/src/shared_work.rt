@@ -1,8 +1,8 @@
 // Work in the background of a shared table.
-ghost use Rattle.std.specs.Prelude.{◌≡◌, ◌+◌, ◌<◌, ◌^◌, [], ◌∷◌, IfOk, IfSome};
+ghost use Rattle.std.specs.Prelude.{◌≡◌, ◌+◌, ◌<◌, ◌^◌, [], ◌∷◌, None, length, IfOk, IfSome, OnOk};
 ghost use Rattle.far_store.specs.Faults.{faults_in};
 ghost use Rattle.far_frame.specs.Jobs.{IsJobAt, kind_of};
-ghost use Rattle.far_shared.specs.Works.{IsJobOf, RefusedAt, stripe_of, begin_refusals, end_refusals};
+ghost use Rattle.far_shared.specs.Works.{IsJobOf, RefusedAt, RefusedFor, stripe_of, columns_for, begin_refusals, begun_kind, end_refusals};
 
 use crate::locked::{begin_under, build_under, evacuate_under, fetch_under, finish_under};
 use crate::shared::Shared;
@@ -17,13 +17,17 @@ use std::sync::Wait;
 impl<N: Naming, B: Site, S: FarTickets> Shared<N, B, S> {
     /// Begins a work under the read lock of its stripe; `None` where there is nothing to do.
     ///
-    /// Refused with `OutOfRange` (14) where there is no such stripe, else as `Stripe::begin` is.
+    /// Refused with `NoColumn` (4) where a fetch names no column of the schema; else with `OutOfRange` (14) where there is no such stripe;
+    /// else as `Stripe::begin` is.
     pub fn begin<R: Wait>(&self, rt: &R, store: &S, work: &Work) -> Result<Option<Job<S>>, Refusal>
         requires store { S.name store.now ≡ B.store }
         ensures begun { IfOk result (IsJobOf work.now) }
         ensures here { IfOk result (λ job. IfSome job (IsJobAt S.is_of B.store)) }
-        ensures refused { RefusedAt (stripe_of work.now) (begin_refusals work.now) result }
+        ensures refused { RefusedFor (length N.plan.schema) (columns_for work.now) (stripe_of work.now) (begin_refusals work.now) result }
     {
+        if self.count.columns < work.columns() {
+            return Err(Refusal::NoColumn);
+        }
         match work.stripe() {
             0 => begin_under(rt, &self.zero, store, work),
             1 => begin_under(rt, &self.one, store, work),
@@ -33,7 +37,7 @@ impl<N: Naming, B: Site, S: FarTickets> Shared<N, B, S> {
         }
     }
 
-    /// Ends a carried job of a stripe under its write lock. No row changes.
+    /// Ends a carried job of a stripe under its write lock. No row changes, and no other job is accepted.
     ///
     /// Refused with `OutOfRange` (14) where there is no such stripe, else as `Stripe::finish` is.
     pub fn finish<R: Wait>(
@@ -45,13 +49,14 @@ impl<N: Naming, B: Site, S: FarTickets> Shared<N, B, S> {
     ) -> Result<(), Refusal>
         requires store { S.name store.now ≡ B.store }
         requires here { IsJobAt S.is_of B.store job.now }
+        ensures carried { OnOk result (begun_kind job.now.work ≡ None) }
         ensures refused { RefusedAt stripe (end_refusals (kind_of job.now)) result }
     {
         match stripe {
-            0 => finish_under(rt, &self.zero, store, job),
-            1 => finish_under(rt, &self.one, store, job),
-            2 => finish_under(rt, &self.two, store, job),
-            3 => finish_under(rt, &self.three, store, job),
+            0 => finish_under(rt, &self.zero, stripe, store, job),
+            1 => finish_under(rt, &self.one, stripe, store, job),
+            2 => finish_under(rt, &self.two, stripe, store, job),
+            3 => finish_under(rt, &self.three, stripe, store, job),
             _ => Err(Refusal::OutOfRange),
         }
     }
@@ -86,9 +91,9 @@ impl<N: Naming, B: Site, S: FarStore> Shared<N, B, S> {
 
     /// Brings the object of a column and a row group of a stripe back.
     ///
-    /// Refused with `OutOfRange` (14) where there is no such stripe; else with `NoColumn` (4), `OutOfRange` (14) where no place of the
-    /// row group is used, `StaleJob` (20) where the object is local or was away again meanwhile, `FarFault` (21) exactly where the
-    /// meter rises, by one, `RegionFull` (17) and `NoMemory` (1).
+    /// Refused with `NoColumn` (4) where the schema has no such column; else with `OutOfRange` (14) where there is no such stripe; else
+    /// with `OutOfRange` (14) where no place of the row group is used, `StaleJob` (20) where the object is local or was away again
+    /// meanwhile, `FarFault` (21) exactly where the meter rises, by one, `RegionFull` (17) and `NoMemory` (1).
     pub fn fetch<R: Wait>(
         &self,
         rt: &R,
@@ -101,8 +106,11 @@ impl<N: Naming, B: Site, S: FarStore> Shared<N, B, S> {
         requires few { meter.old < 2 ^ 63 }
         requires store { S.name store.now ≡ B.store }
         ensures faults { meter.new ≡ meter.old + faults_in result }
-        ensures refused { RefusedAt stripe (4 ∷ 14 ∷ 20 ∷ 21 ∷ 17 ∷ 1 ∷ []) result }
+        ensures refused { RefusedFor (length N.plan.schema) (column + 1) stripe (14 ∷ 20 ∷ 21 ∷ 17 ∷ 1 ∷ []) result }
     {
+        if self.count.columns <= u64::from(column) {
+            return Err(Refusal::NoColumn);
+        }
         let alloc = self.alloc;
         let name = Name { column, group };
         match stripe {
@@ -133,10 +141,10 @@ impl<N: Naming, B: Site, S: FarStore> Shared<N, B, S> {
     {
         let alloc = self.alloc;
         match stripe {
-            0 => build_under(rt, alloc, &self.zero, store, meter),
-            1 => build_under(rt, alloc, &self.one, store, meter),
-            2 => build_under(rt, alloc, &self.two, store, meter),
-            3 => build_under(rt, alloc, &self.three, store, meter),
+            0 => build_under(rt, alloc, &self.zero, stripe, store, meter),
+            1 => build_under(rt, alloc, &self.one, stripe, store, meter),
+            2 => build_under(rt, alloc, &self.two, stripe, store, meter),
+            3 => build_under(rt, alloc, &self.three, stripe, store, meter),
             _ => Err(Refusal::OutOfRange),
         }
     }

@@ -39,7 +39,8 @@ pub struct Applied {
 
 /// A table and what keeps its history. It lies under the lock of stripe I.
 ///
-/// Contracts see the history. The table is its replay, the gauge is its aggregate 0, and all its tickets are of the store.
+/// Contracts see the history. The table is its replay, the gauge is its aggregate 0, its objects bear the number I, and all its
+/// tickets are of the store.
 #[derive(Drop)]
 pub struct Stripe<N: Naming, B: Site, S: FarTickets, const I: usize> {
     pub(crate) frame: Frame<S>,
@@ -50,13 +51,13 @@ impl<N: Naming, B: Site, S: FarTickets, const I: usize> Model for Stripe<N, B, S
     ghost use Rattle.std.specs.Prelude.{List};
     ghost use Rattle.far_history.specs.declared.view.Entry.{Entry};
     ghost use Rattle.far_rows.specs.Jobs.{AreAt};
-    ghost use Rattle.far_shared.specs.Stripes.{IsStripe};
+    ghost use Rattle.far_shared.specs.Stripes.{AreRowsOf, IsStripe};
 
     ghost Value = { List Entry };
 
     ghost view = { λ s. s.keeper };
 
-    ghost invariant = { λ s. IsStripe N.plan s.keeper s.frame.table × AreAt S.is_of B.store s.frame.rows };
+    ghost invariant = { λ s. IsStripe N.plan s.keeper s.frame.table × AreAt S.is_of B.store s.frame.rows × AreRowsOf N.plan.schema I s.frame.rows };
 }
 
 impl<N: Naming, B: Site, S: FarTickets, const I: usize> Stripe<N, B, S, I> {

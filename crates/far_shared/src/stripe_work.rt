@@ -1,8 +1,8 @@
 // Work in the background, on what lies under the lock of a stripe.
-ghost use Rattle.std.specs.Prelude.{◌≡◌, [], ◌∷◌, IfOk, IfSome};
+ghost use Rattle.std.specs.Prelude.{◌≡◌, ◌<◌, ◌≤◌, [], ◌∷◌, None, length, IfOk, IfSome, IsErrOf, OnOk};
 ghost use Rattle.far_store.specs.Faults.{RefusedBy};
 ghost use Rattle.far_frame.specs.Jobs.{IsJobAt, kind_of};
-ghost use Rattle.far_shared.specs.Works.{IsJobOf, IsBuildOf, IsBuildingAt, begin_refusals, end_refusals};
+ghost use Rattle.far_shared.specs.Works.{IsJobOf, IsBuildOf, IsBuildingAt, begin_refusals, begun_kind, columns_for, end_refusals};
 
 use crate::stripe::{Site, Stripe};
 use crate::work::{Building, Work};
@@ -22,18 +22,21 @@ impl<N: Naming, B: Site, S: FarTickets, const I: usize> Stripe<N, B, S, I> {
         requires store { S.name store.now ≡ B.store }
         ensures begun { IfOk result (IsJobOf work.now) }
         ensures here { IfOk result (λ job. IfSome job (IsJobAt S.is_of B.store)) }
-        ensures refused { RefusedBy (begin_refusals work.now) result }
+        ensures column { length N.plan.schema < columns_for work.now → IsErrOf result Refusal.NoColumn }
+        ensures refused { columns_for work.now ≤ length N.plan.schema → RefusedBy (begin_refusals work.now) result }
     {
         begin_on(&self.frame, store, work)
     }
 
-    /// Ends a job by its kind: commits, installs or merges it. The history stays, and so does each row.
+    /// Ends a job by its kind: commits, installs or merges it. The history stays, and so does each row. Only a job that was carried is
+    /// accepted.
     ///
     /// Refused as `Frame::commit`, `Frame::install` and `Frame::merge` are.
     pub fn finish(&mut self, store: &S, job: &Job<S>) -> Result<(), Refusal>
         requires store { S.name store.now ≡ B.store }
         requires here { IsJobAt S.is_of B.store job.now }
         ensures same { self.new ≡ self.old }
+        ensures carried { OnOk result (begun_kind job.now.work ≡ None) }
         ensures refused { RefusedBy (end_refusals (kind_of job.now)) result }
     {
         finish_on(&mut self.frame, store, job)

@@ -1,6 +1,6 @@
 // What is done in the background of a shared table.
 ghost use Rattle.std.specs.Prelude.{◌≡◌};
-ghost use Rattle.far_shared.specs.Works.{stripe_of};
+ghost use Rattle.far_shared.specs.Works.{columns_for, stripe_of};
 
 use far_types::Name;
 
@@ -24,6 +24,16 @@ impl Work {
             Work::Evacuate(stripe) => *stripe,
             Work::Fetch(stripe, _) => *stripe,
             Work::Build(stripe) => *stripe,
+        }
+    }
+
+    /// How many columns the schema must have for what it names. Takes no memory.
+    pub fn columns(&self) -> u64
+        ensures { result ≡ columns_for self.now }
+    {
+        match self {
+            Work::Fetch(_, name) => u64::from(name.column) + 1,
+            Work::Evacuate(_) | Work::Build(_) => 0,
         }
     }
 }

@@ -1,17 +1,18 @@
 // Work in the background, over one table: how it begins and ends.
-ghost use Rattle.std.specs.Prelude.{◌≡◌, [], ◌∷◌, IfOk, IfErr, IfSome, OnOk, OnErr};
+ghost use Rattle.std.specs.Prelude.{◌≡◌, ◌<◌, ◌≤◌, [], ◌∷◌, Some, None, length, IfOk, IfErr, IfSome, IsErrOf, OnOk, OnErr};
 ghost use Rattle.far_store.specs.Faults.{RefusedBy};
-ghost use Rattle.far_rows.specs.Jobs.{AreAt};
+ghost use Rattle.far_rows.specs.Jobs.{AreAt, fetch_refusal};
 ghost use Rattle.far_frame.specs.Changes.{Accepts, Refuses};
 ghost use Rattle.far_frame.specs.declared.step.Reply.TheVariants as reply;
 ghost use Rattle.far_frame.specs.declared.step.Step.TheVariants as step;
-ghost use Rattle.far_frame.specs.Jobs.{IsJobAt, kind_of};
-ghost use Rattle.far_shared.specs.Works.{KeepsRows, IsBuildJob, BuildRefusal, Begins, BeginRefusal, BeginsBuild, IsBuildingAt, Ends, EndRefusal, begin_refusals, end_refusals};
+ghost use Rattle.far_frame.specs.Jobs.{IsFetchJob, IsJobAt, kind_of};
+ghost use Rattle.far_shared.specs.Stripes.{KeepsColumns};
+ghost use Rattle.far_shared.specs.Works.{KeepsRows, IsBuildJob, BuildRefusal, Begins, BeginRefusal, BeginsBuild, IsBuildingAt, Ends, EndRefusal, begin_refusals, begun_kind, columns_for, end_refusals};
 
 use crate::work::{Building, Work};
 use far_frame::{Frame, Job, JobKind};
 use far_store::FarTickets;
-use far_types::Refusal;
+use far_types::{Name, Refusal};
 
 /// Begins to build a row group that is left from the far store's copies; `None` exactly where none is left. Nothing is changed.
 ///
@@ -32,6 +33,21 @@ pub(crate) fn build_on<S: FarTickets>(
     Ok(Some(frame.begin_offload(store, aggregate, group)?))
 }
 
+/// Begins to bring an object back. Nothing is changed.
+///
+/// Refused with `NoColumn` (4) exactly where there is no such column; else with `OutOfRange` (14) where no place of the row group is used,
+/// `StaleJob` (20) where the object is local: the first that applies.
+fn fetch_on<S: FarTickets>(frame: &Frame<S>, store: &S, name: Name) -> Result<Job<S>, Refusal>
+    requires here { AreAt S.is_of (S.name store.now) frame.now.rows }
+    ensures begun { IfOk result (IsFetchJob frame.now.rows name.column name.group) }
+    ensures here { IfOk result (IsJobAt S.is_of (S.name store.now)) }
+    ensures refused { IfErr result (λ e. fetch_refusal frame.now.rows name.column name.group ≡ Some e) }
+    ensures column { length frame.now.rows.slots ≤ name.column → IsErrOf result Refusal.NoColumn }
+    ensures numbers { name.column < length frame.now.rows.slots → RefusedBy (14 ∷ 20 ∷ []) result }
+{
+    frame.begin_fetch(store, name.column, name.group)
+}
+
 /// Begins a work; `None` where there is nothing to do. Nothing is changed.
 ///
 /// An evacuation is refused with `NoMemory` (1) alone; a fetch with `NoColumn` (4), `OutOfRange` (14) where no place of the row group
@@ -45,16 +61,17 @@ pub(crate) fn begin_on<S: FarTickets>(
     ensures begun { IfOk result (Begins frame.now work.now) }
     ensures here { IfOk result (λ job. IfSome job (IsJobAt S.is_of (S.name store.now))) }
     ensures refused { IfErr result (BeginRefusal frame.now work.now) }
-    ensures numbers { RefusedBy (begin_refusals work.now) result }
+    ensures column { length frame.now.rows.slots < columns_for work.now → IsErrOf result Refusal.NoColumn }
+    ensures numbers { columns_for work.now ≤ length frame.now.rows.slots → RefusedBy (begin_refusals work.now) result }
 {
     match work {
         Work::Evacuate(_) => frame.begin_coldest(store),
-        Work::Fetch(_, name) => Ok(Some(frame.begin_fetch(store, name.column, name.group)?)),
+        Work::Fetch(_, name) => Ok(Some(fetch_on(frame, store, *name)?)),
         Work::Build(_) => build_on(frame, store),
     }
 }
 
-/// Ends a job by its kind: commits, installs or merges it. Each row stays.
+/// Ends a job by its kind: commits, installs or merges it. Each row stays. Only a job that was carried is accepted.
 ///
 /// Refused as `Frame::commit`, `Frame::install` and `Frame::merge` are: with `StaleJob` (20) and `Pinned` (19); with `StaleJob` (20),
 /// `RegionFull` (17) and `NoMemory` (1); with `NoAggregate` (12), `StaleJob` (20) and `NoMemory` (1). Then nothing is changed.
@@ -68,9 +85,11 @@ pub(crate) fn finish_on<S: FarTickets>(
     ensures ended { OnOk result (Ends S.number_of S.content frame.old (kind_of job.now) job.now.work frame.new) }
     ensures refused { IfErr result (EndRefusal S.number_of S.content frame.old (kind_of job.now) job.now.work) }
     ensures err { OnErr result (frame.new ≡ frame.old) }
+    ensures carried { OnOk result (begun_kind job.now.work ≡ None) }
     ensures numbers { RefusedBy (end_refusals (kind_of job.now)) result }
     ensures keeps { KeepsRows frame.old.table frame.new.table }
     ensures here { AreAt S.is_of (S.name store.now) frame.new.rows }
+    ensures columns { KeepsColumns frame.old.rows frame.new.rows }
 {
     match job.kind() {
         JobKind::Evac => frame.commit(store, job),

@@ -1,5 +1,4 @@
-use Rattle.far_shared.proofs.AskLaws.{ask-refusal, answers-told, gauge-told}
-use Rattle.far_shared.proofs.NumberLaws.{if-err}
+use Rattle.far_shared.proofs.AskLaws.{answers-told, gauge-told}
 use Rattle.far_shared.proofs.asking.answer_stripes.Goals as goal
 
 pub returns-clause-answer : goal.returns-clause-answer
@@ -13,9 +12,28 @@ returns-clause-answer g c =
     c.args.a c.answer_four.result c.known.ensures.legal c.known-2.ensures.legal c.known-3.ensures.legal c.known-4.ensures.legal
     c.answer_four.ensures.answer c.answer_four.ensures.alike
 
-pub returns-clause-refused : goal.returns-clause-refused
-returns-clause-refused g c =
-    if-err c.answer_four.result _ _ (λ e h. ask-refusal c.args.a c.zero.inside.frame.table c.one.inside.frame.table c.two.inside.frame.table c.three.inside.frame.table e h) c.answer_four.ensures.refused
+pub returns-clause-asked : goal.returns-clause-asked
+returns-clause-asked g c =
+    let zero = c.zero.inside in
+    let one = c.one.inside in
+    let two = c.two.inside in
+    let three = c.three.inside in
+    let told = c.answer_four.ensures in record {
+      zero = zero.frame.table;
+      one = one.frame.table;
+      two = two.frame.table;
+      three = three.frame.table;
+      left = (
+        record { log = zero.keeper; legal = c.known.ensures.legal; stripe = c.zero.invariant.0 },
+        record { log = one.keeper; legal = c.known-2.ensures.legal; stripe = c.one.invariant.0 },
+        record { log = two.keeper; legal = c.known-3.ensures.legal; stripe = c.two.invariant.0 },
+        record { log = three.keeper; legal = c.known-4.ensures.legal; stripe = c.three.invariant.0 },
+      );
+      alike = told.alike;
+      built = told.built;
+      answer = told.answer;
+      refused = told.refused;
+    }
 
 pub returns-clause-gauge : goal.returns-clause-gauge
 returns-clause-gauge g c =

@@ -1,6 +1,7 @@
-use Rattle.std.proofs.Common.{◌<◌, ◌^◌, sym, subst, ◌∙◌, arith, rules}
+use Rattle.std.proofs.Common.{◌<◌, ◌^◌, length, sym, ap, subst, ◌∙◌, arith, rules}
 use Rattle.far_history.specs.Histories.{IsLegal}
 use Rattle.far_history.specs.declared.reading.Reading.{Reading}
+use Rattle.far_shared.proofs.ColumnLaws.{still-of}
 use Rattle.far_shared.proofs.StripeLaws.{few, reads-edited, same-refusal, same-why, stripe-made}
 use Rattle.far_shared.proofs.stripe.Stripe.apply.Goals as goal
 
@@ -10,6 +11,10 @@ change-requires-clause-few g c κs inside =
     let look = c.look-before.ensures in
     let legal = subst (IsLegal g.N.Naming.plan) look.whole look.seen.legal in
     subst (λ (r : Reading). r.edits < 2 ^ 63) (sym look.reading) (few g.N.Naming.plan s.keeper s.frame.table c.self.invariant.0 legal)
+
+pub change-requires-clause-slots : goal.change-requires-clause-slots
+change-requires-clause-slots g c κs inside =
+    c.self.invariant.2.slots ∙ sym (ap length c.self.invariant.0.schema)
 
 pub add-requires : goal.add-requires
 add-requires g c =
@@ -41,4 +46,5 @@ invariant_of-self-2 g c =
     let longer = rw (c.look-before.ensures.history, c.of-told.ensures) at c.add.ensures.history in (
       stripe-made g.N.Naming.plan s.keeper s.frame.table c.self.invariant.0 _ c.args.edit _ _ longer made.made,
       made.here g.B.Site.store c.self.invariant.1,
+      still-of g.N.Naming.plan.schema _ _ _ made.columns c.self.invariant.2,
     )
