@@ -9,3 +9,15 @@ kept P part (Ok x) (Ok u) same holds = subst P same holds
 kept P part (Err e) (Ok u) same holds = absurd same
 kept P part (Ok x) (Err f) same holds = tt
 kept P part (Err e) (Err f) same holds = tt
+
+-- what holds of a result holds by what follows from it
+pub if-ok : {T E : Type 0} {P Q : T → Type 0} (r : Result T E) → IfOk r P → ((x : T) → P x → Q x) → IfOk r Q
+if-ok (Ok x) holds follows = follows x holds
+if-ok (Err e) holds follows = tt
+
+-- what holds of a result holds of the whole that was made of it
+pub made-of : {T E U F : Type 0} {P : T → Type 0} {Q : U → T → Type 0} {R : U → Type 0} (r : Result T E) (whole : Result U F) → IfOk whole (λ u. IsOkAnd r (Q u)) → IfOk r P → ((x : T) (u : U) → P x → Q u x → R u) → IfOk whole R
+made-of (Ok x) (Ok u) made holds follows = follows x u holds made
+made-of (Err e) (Ok u) made holds follows = absurd made
+made-of (Ok x) (Err f) made holds follows = tt
+made-of (Err e) (Err f) made holds follows = tt

@@ -1,18 +1,51 @@
 // How a shared table ends.
 ghost use Rattle.std.specs.Prelude.{◌≡◌, IfOk, IfErr, OnOk};
 ghost use Rattle.far_rows.specs.Jobs.{AreAt};
-ghost use Rattle.far_sessions.specs.Closing.{IsWhole};
+ghost use Rattle.far_history.specs.Histories.{IsLegal};
+ghost use Rattle.far_sessions.specs.Closing.{IsSettled, IsWhole};
 ghost use Rattle.far_shared.specs.Closing.{IsClosed};
+ghost use Rattle.far_shared.specs.Stripes.{IsStripe};
 
 use crate::opening::Four;
 use crate::shared::Shared;
-use crate::stripe::Site;
+use crate::stripe::{Site, Stripe};
 use far_frame::Frame;
 use far_history::Naming;
-use far_sessions::{Keepers, Session, are_whole, settle};
+use far_sessions::{Cells, Keeper, Keepers, Session, are_whole, settle};
 use far_store::FarTickets;
 use far_types::Refusal;
-use std::sync::Wait;
+use std::sync::{RwLock, Wait};
+
+/// Ends these sessions. Each history is legal, and has just their own entries.
+fn end<N: Naming, B: Site, R: Wait>(
+    rt: &R,
+    cells: Cells<N, B>,
+    keepers: Keepers<N, B>,
+    sessions: Vec<Session<B>>,
+)
+    ensures zero { IsLegal N.plan keepers.zero × IsSettled N.plan.sessions 0 keepers.zero sessions.items }
+    ensures one { IsLegal N.plan keepers.one × IsSettled N.plan.sessions 1 keepers.one sessions.items }
+    ensures two { IsLegal N.plan keepers.two × IsSettled N.plan.sessions 2 keepers.two sessions.items }
+    ensures three { IsLegal N.plan keepers.three × IsSettled N.plan.sessions 3 keepers.three sessions.items }
+{
+    let mut keepers = keepers;
+    keepers.zero.known();
+    keepers.one.known();
+    keepers.two.known();
+    keepers.three.known();
+    settle(rt, &cells, &mut keepers, sessions);
+}
+
+/// A table that is taken from under its lock, and what keeps its history.
+fn parted<N: Naming, B: Site, S: FarTickets, const I: usize>(
+    lock: RwLock<Stripe<N, B, S, I>>,
+) -> (Frame<S>, Keeper<N, B, I>)
+    ensures stripe { IsStripe N.plan result.1 result.0.table }
+    ensures here { AreAt S.is_of B.store result.0.rows }
+{
+    let stripe = lock.into_inner();
+    (stripe.frame, stripe.keeper)
+}
 
 impl<N: Naming, B: Site, S: FarTickets> Shared<N, B, S> {
     /// Ends all sessions, and gives the four tables. The entries of each table's history are just those that its sessions know as
@@ -56,26 +89,22 @@ impl<N: Naming, B: Site, S: FarTickets> Shared<N, B, S> {
             two,
             three,
         } = self;
-        let zero = zero.into_inner();
-        let one = one.into_inner();
-        let two = two.into_inner();
-        let three = three.into_inner();
-        let mut keepers = Keepers {
-            zero: zero.keeper,
-            one: one.keeper,
-            two: two.keeper,
-            three: three.keeper,
+        let (frame_zero, zero) = parted(zero);
+        let (frame_one, one) = parted(one);
+        let (frame_two, two) = parted(two);
+        let (frame_three, three) = parted(three);
+        let keepers = Keepers {
+            zero,
+            one,
+            two,
+            three,
         };
-        keepers.zero.known();
-        keepers.one.known();
-        keepers.two.known();
-        keepers.three.known();
-        settle(rt, &cells, &mut keepers, sessions);
+        end(rt, cells, keepers, sessions);
         Four {
-            zero: zero.frame,
-            one: one.frame,
-            two: two.frame,
-            three: three.frame,
+            zero: frame_zero,
+            one: frame_one,
+            two: frame_two,
+            three: frame_three,
         }
     }
 }

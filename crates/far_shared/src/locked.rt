@@ -1,5 +1,5 @@
 // Work in the background, under the lock of one stripe. A carry is under none.
-ghost use Rattle.std.specs.Prelude.{◌≡◌, ◌+◌, ◌<◌, ◌^◌, [], ◌∷◌, IfOk, IfSome};
+ghost use Rattle.std.specs.Prelude.{◌≡◌, ◌+◌, ◌<◌, ◌^◌, [], ◌∷◌, IfOk, IfErr, IfSome, IsErrOf};
 ghost use Rattle.far_store.specs.Faults.{RefusedBy, faults_in};
 ghost use Rattle.far_frame.specs.Jobs.{IsJobAt, kind_of};
 ghost use Rattle.far_shared.specs.Works.{IsJobOf, IsBuildOf, IsBuildingAt, begin_refusals, end_refusals, job_refusals};
@@ -68,6 +68,23 @@ fn scan_under<N: Naming, B: Site, S: FarTickets, const I: usize, R: Wait>(
     lock.write(rt).scan(aggregate, group)
 }
 
+/// Ends a job that was carried, or tells why it was not.
+///
+/// It knows nothing of what the job is: to take a job out of a result costs the proof of a function minutes, and here it costs none.
+fn once_carried<J: Drop, F: FnOnce(J) -> Result<(), Refusal> + Drop>(
+    carried: Result<J, (Refusal, J)>,
+    finish: F,
+) -> Result<(), Refusal>
+    requires { IfOk carried (λ job. F.pre finish job) }
+    ensures ended { IfOk carried (λ job. F.post finish job result) }
+    ensures refused { IfErr carried (λ back. IsErrOf result back.0) }
+{
+    match carried {
+        Ok(job) => finish(job),
+        Err((refusal, _)) => Err(refusal),
+    }
+}
+
 /// Carries a job under no lock, and ends it.
 fn complete_under<N: Naming, B: Site, S: FarStore, const I: usize, R: Wait>(
     rt: &R,
@@ -83,10 +100,14 @@ fn complete_under<N: Naming, B: Site, S: FarStore, const I: usize, R: Wait>(
     ensures faults { meter.new ≡ meter.old + faults_in result }
     ensures refused { RefusedBy (job_refusals (kind_of job)) result }
 {
-    match job.carry(alloc, store, meter) {
-        Ok(carried) => finish_under(rt, lock, store, &carried),
-        Err((refusal, _)) => Err(refusal),
-    }
+    once_carried(
+        job.carry(alloc, store, meter),
+        |carried: Job<S>| -> Result<(), Refusal>
+            requires store { S.name store.now ≡ B.store }
+            requires here { IsJobAt S.is_of B.store carried }
+            ensures { RefusedBy (end_refusals (kind_of carried)) result }
+        { finish_under(rt, lock, store, &carried) },
+    )
 }
 
 /// Sends the coldest object of a stripe away, and tells which; `None` where there is none that may go.

@@ -8,10 +8,10 @@ use crate::shared::{Count, Shared};
 use crate::stripe::{Site, Stripe};
 use far_frame::Frame;
 use far_history::Naming;
-use far_sessions::{Cells, Keeper, Keepers, Opened, Session};
+use far_sessions::{Opened, Session};
 use far_store::FarTickets;
 use far_types::Refusal;
-use std::alloc::Global;
+use std::alloc::{AllocError, Global};
 use std::marker::{Model, PhantomData};
 use std::sync::RwLock;
 
@@ -49,6 +49,25 @@ fn all_four<T: Drop>(
         two: two?,
         three: three?,
     })
+}
+
+/// What is made of two things, or the first refusal.
+///
+/// It knows nothing of what they are, as `all_four` does not.
+fn both<A: Drop, B: Drop, T, F: FnOnce(A, B) -> T + Drop>(
+    one: Result<A, Refusal>,
+    other: Result<B, AllocError>,
+    make: F,
+) -> Result<T, Refusal>
+    requires { IfOk one (λ x. IfOk other (λ y. F.pre make x y)) }
+    ensures made { IfOk result (λ made. IsOkAnd one (λ x. IsOkAnd other (λ y. F.post make x y made))) }
+    ensures memory { IfErr one (λ e. e ≡ Refusal.NoMemory) → IfErr result (λ e. e ≡ Refusal.NoMemory) }
+{
+    match (one, other) {
+        (Ok(one), Ok(other)) => Ok(make(one, other)),
+        (Err(refusal), _) => Err(refusal),
+        (_, Err(_)) => Err(Refusal::NoMemory),
+    }
 }
 
 /// Four empty tables with their gauges, and four cells that have no name yet. Contracts see which cell each stripe has.
@@ -96,51 +115,6 @@ fn open_frames<S: FarTickets>(alloc: Global, plan: &Plan) -> Result<Four<Frame<S
     )
 }
 
-/// An empty table under its lock, beside what keeps its empty history.
-fn under_lock<N: Naming, B: Site, S: FarTickets, const I: usize>(
-    frame: Frame<S>,
-    keeper: Keeper<N, B, I>,
-) -> RwLock<Stripe<N, B, S, I>>
-    requires table { IsEmpty S.is_of N.plan frame }
-    requires history { keeper ≡ [] }
-{
-    RwLock::new(Stripe { frame, keeper })
-}
-
-/// Four empty tables under their locks, each beside what keeps its empty history, and the cells.
-fn share<N: Naming, B: Site, S: FarTickets>(
-    alloc: Global,
-    sessions: u64,
-    frames: Four<Frame<S>>,
-    cells: Cells<N, B>,
-    keepers: Keepers<N, B>,
-) -> Shared<N, B, S>
-    requires zero { IsEmpty S.is_of N.plan frames.zero × (keepers.zero ≡ []) }
-    requires one { IsEmpty S.is_of N.plan frames.one × (keepers.one ≡ []) }
-    requires two { IsEmpty S.is_of N.plan frames.two × (keepers.two ≡ []) }
-    requires three { IsEmpty S.is_of N.plan frames.three × (keepers.three ≡ []) }
-    requires sessions { sessions ≡ N.plan.sessions }
-{
-    let Keepers {
-        zero,
-        one,
-        two,
-        three,
-    } = keepers;
-    Shared {
-        alloc,
-        zero: under_lock(frames.zero, zero),
-        one: under_lock(frames.one, one),
-        two: under_lock(frames.two, two),
-        three: under_lock(frames.three, three),
-        cells,
-        count: Count {
-            sessions,
-            of: PhantomData,
-        },
-    }
-}
-
 impl Plan {
     /// Makes the four tables, each with the gauge as its aggregate 0, and the four cells. Refused with `NoMemory` (1) alone; what was
     /// made is then dropped.
@@ -148,17 +122,24 @@ impl Plan {
         requires { self ≡ N.plan }
         ensures memory { IfErr result (λ e. e ≡ Refusal.NoMemory) }
     {
-        let Ok(frames) = open_frames(alloc, &self) else {
-            return Err(Refusal::NoMemory);
-        };
-        let Ok(cells) = far_sessions::Made::<N>::make(alloc) else {
-            return Err(Refusal::NoMemory);
-        };
-        Ok(Made {
-            sessions: self.sessions,
-            cells,
-            frames,
-        })
+        let count = self.sessions;
+        both(
+            open_frames(alloc, &self),
+            far_sessions::Made::<N>::make(alloc),
+            |frames: Four<Frame<S>>, cells: far_sessions::Made<N>| -> Made<N, S>
+                requires count { count ≡ N.plan.sessions }
+                requires zero { IsEmpty S.is_of N.plan frames.zero }
+                requires one { IsEmpty S.is_of N.plan frames.one }
+                requires two { IsEmpty S.is_of N.plan frames.two }
+                requires three { IsEmpty S.is_of N.plan frames.three }
+            {
+                Made {
+                    sessions: count,
+                    cells,
+                    frames,
+                }
+            },
+        )
     }
 }
 
@@ -177,15 +158,48 @@ impl<N: Naming, S: FarTickets> Made<N, S> {
             cells,
             frames,
         } = self;
-        let Ok(opened) = cells.open::<B>(alloc, count) else {
-            return Err(Refusal::NoMemory);
-        };
-        let Opened {
-            keepers,
-            cells,
-            sessions,
-        } = opened;
-        let shared = share(alloc, count, frames, cells, keepers);
-        Ok((shared, sessions))
+        both(
+            Ok(frames),
+            cells.open::<B>(alloc, count),
+            |frames: Four<Frame<S>>, opened: Opened<N, B>| -> (Shared<N, B, S>, Vec<Session<B>>)
+                requires count { count ≡ N.plan.sessions }
+                requires zero { IsEmpty S.is_of N.plan frames.zero × (opened.keepers.zero ≡ []) }
+                requires one { IsEmpty S.is_of N.plan frames.one × (opened.keepers.one ≡ []) }
+                requires two { IsEmpty S.is_of N.plan frames.two × (opened.keepers.two ≡ []) }
+                requires three { IsEmpty S.is_of N.plan frames.three × (opened.keepers.three ≡ []) }
+                ensures { result.1.items ≡ opened.sessions.items }
+            {
+                let Opened {
+                    keepers,
+                    cells,
+                    sessions,
+                } = opened;
+                let shared = Shared {
+                    alloc,
+                    zero: RwLock::new(Stripe {
+                        frame: frames.zero,
+                        keeper: keepers.zero,
+                    }),
+                    one: RwLock::new(Stripe {
+                        frame: frames.one,
+                        keeper: keepers.one,
+                    }),
+                    two: RwLock::new(Stripe {
+                        frame: frames.two,
+                        keeper: keepers.two,
+                    }),
+                    three: RwLock::new(Stripe {
+                        frame: frames.three,
+                        keeper: keepers.three,
+                    }),
+                    cells,
+                    count: Count {
+                        sessions: count,
+                        of: PhantomData,
+                    },
+                };
+                (shared, sessions)
+            },
+        )
     }
 }
