@@ -1,6 +1,5 @@
 // How a run begins: the names of its plan, of its cells and of its store are picked, each by a call.
-ghost use Rattle.std.specs.Prelude.{◌≡◌, ◌≤◌, IfOk, IsOkAnd, OnOk};
-ghost use Rattle.far_sessions.specs.Known.{newcomers};
+ghost use Rattle.std.specs.Prelude.{◌≡◌, ◌≤◌, IfOk};
 ghost use Rattle.far_shared.specs.Opening.{AreNamed};
 ghost use Rattle.far_threads.specs.Runs.{IsOutcome, IsRun};
 
@@ -8,10 +7,8 @@ use crate::outcome::{Outcome, Stop};
 use crate::planning::plan_for;
 use crate::running::run_shared;
 use far_history::Naming;
-use far_sessions::Session;
-use far_shared::{Made, Plan, Shared, Site};
+use far_shared::{Made, Plan, Site};
 use far_store::{AgentStore, FarStore};
-use far_types::Refusal;
 use std::alloc::Global;
 use std::marker::Brand;
 use std::sync::Wait;
@@ -19,23 +16,6 @@ use std::thread::Threads;
 
 /// The most contents that the store of a run takes.
 const STORE_CAPACITY: u64 = 1_048_576;
-
-/// What becomes of what was made; `Memory` where it was not.
-///
-/// It knows nothing of what was made: to take a shared table out of a result costs the proof of a function minutes, and here it costs
-/// none.
-fn once_made<T: Drop, U, F: FnOnce(T) -> Result<U, Stop> + Drop>(
-    made: Result<T, Refusal>,
-    run: F,
-) -> Result<U, Stop>
-    requires { IfOk made (λ x. F.pre run x) }
-    ensures { OnOk result (IsOkAnd made (λ x. F.post run x result)) }
-{
-    match made {
-        Ok(made) => run(made),
-        Err(_) => Err(Stop::Memory),
-    }
-}
 
 /// Opens a table whose cells and store have these names, and runs its sessions.
 fn opened<N: Naming + Send + Sync, B: Site + Send + Sync, S: FarStore, R: Threads + Wait + Sync>(
@@ -49,17 +29,10 @@ fn opened<N: Naming + Send + Sync, B: Site + Send + Sync, S: FarStore, R: Thread
     requires store { S.name store.now ≡ B.store }
     ensures { IfOk result (IsRun N.plan edits) }
 {
-    once_made(
-        made.open::<B>(alloc),
-        |opened: (Shared<N, B, S>, Vec<Session<B>>)| -> Result<Outcome, Stop>
-            requires store { S.name store.now ≡ B.store }
-            requires sessions { opened.1.items ≡ newcomers N.plan.sessions }
-            ensures { IfOk result (IsRun N.plan edits) }
-        {
-            let (shared, sessions) = opened;
-            run_shared(rt, alloc, &shared, store, sessions, edits)
-        },
-    )
+    let Ok((shared, sessions)) = made.open::<B>(alloc) else {
+        return Err(Stop::Memory);
+    };
+    run_shared(rt, alloc, &shared, store, sessions, edits)
 }
 
 /// Gives the cells of a table and its store their names, and runs the sessions.
@@ -86,12 +59,10 @@ fn made_over<N: Naming + Send + Sync, S: FarStore, R: Threads + Wait + Sync>(
     requires { plan ≡ N.plan }
     ensures { IfOk result (IsRun N.plan edits) }
 {
-    once_made(
-        plan.make::<N, S>(alloc),
-        |made: Made<N, S>| -> Result<Outcome, Stop>
-            ensures { IfOk result (IsRun N.plan edits) }
-        { named(rt, alloc, made, store, edits) },
-    )
+    let Ok(made) = plan.make::<N, S>(alloc) else {
+        return Err(Stop::Memory);
+    };
+    named(rt, alloc, made, store, edits)
 }
 
 /// Makes a store in this process, and runs the sessions of a plan that has this name.

@@ -15,13 +15,19 @@ pub join-evacuated-requires : goal.join-evacuated-requires
 join-evacuated-requires g c =
     let all = shared_sync (param 0 g.row.N) (param 1 g.row.B) (param 2 g.row.S) (param 4 g.row.S-Ticket) g.B.Rooms g.N.Naming g.B.Site g.S.FarTickets c.type_bounds.send-S-Ticket c.type_bounds.sync-S-Ticket in
     let word : IsSync (UInt w32) = search sendable in
-    λ k. (record {
-      owned = λ n vs vss. (tt, (
-        (tt, c.type_bounds.sync-R.shared n.0.now n.0.ref_ptr.0 n.0.ref_ptr.1 _),
-        (
-          (tt, all.shared n.1.now n.1.ref_ptr.0 n.1.ref_ptr.1 _),
-          ((tt, c.type_bounds.sync-S.shared n.2.now n.2.ref_ptr.0 n.2.ref_ptr.1 _), ((tt, word.shared n.3.now n.3.ref_ptr.0 n.3.ref_ptr.1 k.0), tt)),
-        ),
-      ));
-      leaving = λ e. as-before _ (e (of_param 1));
-    }, search (sendable, rules))
+    λ k. (
+      record {
+        owned = λ n vs vss. (
+          tt,
+          (
+            (tt, c.type_bounds.sync-R.shared n.0.now n.0.ref_ptr.0 n.0.ref_ptr.1 _),
+            (
+              (tt, all.shared n.1.now n.1.ref_ptr.0 n.1.ref_ptr.1 _),
+              ((tt, c.type_bounds.sync-S.shared n.2.now n.2.ref_ptr.0 n.2.ref_ptr.1 _), ((tt, word.shared n.3.now n.3.ref_ptr.0 n.3.ref_ptr.1 k.0), tt)),
+            ),
+          ),
+        );
+        leaving = λ e. as-before _ (e (of_param 1));
+      },
+      search (sendable, rules),
+    )
