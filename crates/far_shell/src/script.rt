@@ -131,25 +131,32 @@ fn open<S: FarStore>(
 }
 
 /// Answers a script by what its first command says: a table is opened and the lines behind it are answered, or sessions share a
-/// table, and nothing behind the command is read.
-fn serve<T: AllocGlobal + Sync + Threads + Wait, R: Read + Drop, W: Write>(
+/// table, and nothing behind the command is read. It knows the store of a table as a type parameter alone, since a proof that drops a
+/// table goes through the whole type of its store.
+fn serve<
+    S: FarStore,
+    A: Resources<S>,
+    T: AllocGlobal + Sync + Threads + Wait,
+    R: Read + Drop,
+    W: Write,
+>(
     rt: &T,
+    resources: &A,
     input: &mut Input<R>,
     output: &mut Output,
     writer: &mut W,
 ) -> Result<(), ShellFault>
     requires { output.old.page ≡ [] }
-    ensures ok { OnOk result ((bytes : List ℕ) × (text : List ℕ) × Reads R.Read input.old bytes input.new × Prints (W.contents writer.old) [] text (W.contents writer.new) output.new.page × IsAnswered ⟦<AgentStore<&'static T> as FarTickets>⟧ bytes (IsSpent R.Read input.new) text) }
-    ensures err { IfErr result (λ fault. (bytes : List ℕ) × (rest : List ℕ) × (text : List ℕ) × Gives R.Read fault input.old input.new bytes rest × Prints (W.contents writer.old) [] text (W.contents writer.new) output.new.page × IsBroken ⟦<AgentStore<&'static T> as FarTickets>⟧ fault bytes rest text) }
+    ensures ok { OnOk result ((bytes : List ℕ) × (text : List ℕ) × Reads R.Read input.old bytes input.new × Prints (W.contents writer.old) [] text (W.contents writer.new) output.new.page × IsAnswered S.FarTickets bytes (IsSpent R.Read input.new) text) }
+    ensures err { IfErr result (λ fault. (bytes : List ℕ) × (rest : List ℕ) × (text : List ℕ) × Gives R.Read fault input.old input.new bytes rest × Prints (W.contents writer.old) [] text (W.contents writer.new) output.new.page × IsBroken S.FarTickets fault bytes rest text) }
     ensures asked { input.new.source.reads ≤ input.old.source.reads }
 {
     let first = first_command(rt.alloc(), input, output, writer)?;
     match first {
         FirstLine::Schema(opening) => {
-            let agents = Agents::new(rt, rt.alloc());
-            let store = agents.store(STORE_CAPACITY)?;
+            let store = resources.store(STORE_CAPACITY)?;
             let mut progress = open(rt.alloc(), store, opening, output)?;
-            serve_lines(&agents, &mut progress, input, output, writer)?;
+            serve_lines(resources, &mut progress, input, output, writer)?;
             Ok(())
         }
         FirstLine::Threads { sessions, edits } => {
@@ -174,8 +181,9 @@ pub fn run_input<T: AllocGlobal + Sync + Threads + Wait, R: Read + Drop, W: Writ
     ensures err { IfErr result (λ fault. Breaks ⟦<AgentStore<&'static T> as FarTickets>⟧ (Gives R.Read fault input.old input.new) (W.contents writer.old) (W.contents writer.new) fault) }
     ensures asked { input.new.source.reads ≤ input.old.source.reads }
 {
+    let agents = Agents::new(rt, rt.alloc());
     let mut output = Output::new(rt.alloc());
-    let outcome = serve(rt, input, &mut output, writer);
+    let outcome = serve(rt, &agents, input, &mut output, writer);
     match outcome {
         Ok(()) => {
             output.flush(writer)?;
