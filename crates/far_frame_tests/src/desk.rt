@@ -4,10 +4,11 @@ ghost use Rattle.far_rows.specs.Jobs.{AreAt};
 ghost use Rattle.far_frame.specs.Jobs.{IsJobAt};
 
 use crate::answers::{Line, is_answer};
-use crate::values::{Values, is_number, is_text, number_cell, row, schema, spec, text_cell};
+use crate::opening::frame;
+use crate::values::{Values, is_number, is_text, number_cell, row, spec, text_cell};
 use far_frame::{Frame, Job};
 use far_store::{FarStore, FarTickets, Meter};
-use far_types::{Answer, Fold, Limits, Name, Refusal, Spec};
+use far_types::{Answer, Fold, Kind, LentRow, Limits, Name, Refusal, Spec};
 use std::alloc::Global;
 use std::marker::Model;
 
@@ -49,11 +50,14 @@ impl<'a, S: FarStore> Model for Desk<'a, S> {
 impl<'a, S: FarStore> Desk<'a, S> {
     /// No row.
     pub fn new(alloc: Global, store: &'a S) -> Result<Desk<'a, S>, Refusal> {
-        Ok(Desk {
-            alloc,
-            store,
-            frame: Frame::open(alloc, schema(alloc)?, LIMITS, 7)?,
-        })
+        match frame(alloc, &[Kind::Int, Kind::Text], LIMITS, 7) {
+            Ok(frame) => Ok(Desk {
+                alloc,
+                store,
+                frame,
+            }),
+            Err(refusal) => Err(refusal),
+        }
     }
 
     pub fn insert(&mut self, number: Option<i64>, letters: Option<&str>) -> Result<u32, Refusal> {
@@ -97,34 +101,41 @@ impl<'a, S: FarStore> Desk<'a, S> {
 
     /// Sends the object of a row group of a column away.
     pub fn evacuate(&mut self, column: u32, group: u32) -> Result<(), Refusal> {
-        evacuate(self.alloc, &mut self.frame, self.store, column, group)
+        let begun = self.frame.begin_evac(self.store, column, group);
+        finish(self.alloc, &mut self.frame, self.store, begun, End::Commit)
     }
 
     /// Begins to send the object of a place's number away, sets the number, and goes on.
     pub fn evacuate_written(&mut self, place: u32, number: Option<i64>) -> Result<(), Refusal> {
-        evacuate_written(self.alloc, &mut self.frame, self.store, place, number)
+        let begun = self.frame.begin_evac(self.store, 0, place / SIZE);
+        finish(
+            self.alloc,
+            &mut self.frame,
+            self.store,
+            begun,
+            End::CommitWritten(place, number),
+        )
     }
 
     /// Brings the object of a row group of a column back.
     pub fn fetch_back(&mut self, column: u32, group: u32) -> Result<(), Refusal> {
-        fetch_back(self.alloc, &mut self.frame, self.store, column, group)
+        let begun = self.frame.begin_fetch(self.store, column, group);
+        finish(self.alloc, &mut self.frame, self.store, begun, End::Install)
     }
 
-    /// The object that goes away first.
-    pub fn coldest(&self) -> Result<Option<Name>, Refusal> {
-        match self.frame.begin_coldest(self.store)? {
-            Some(job) => Ok(job.object()),
-            None => Ok(None),
+    /// Whether this object goes away first.
+    pub fn has_coldest(&self, name: Option<Name>) -> Result<bool, Refusal> {
+        match self.frame.begin_coldest(self.store) {
+            Ok(job) => Ok(object_of(&job) == name),
+            Err(refusal) => Err(refusal),
         }
     }
 
     /// Whether a place has these values, or its row is refused so.
     pub fn has_values(&self, place: u32, due: Result<Values<'_>, Refusal>) -> bool {
-        let view = self.frame.scope();
-        match (view.row(place), due) {
-            (Ok(row), Ok(due)) => is_number(row.get(0), due.0) && is_text(row.get(1), due.1),
-            (Err(given), Err(due)) => given == due,
-            _ => false,
+        match self.frame.scope().row(place) {
+            Ok(row) => is_row_due(&row, due),
+            Err(refusal) => due == Err(refusal),
         }
     }
 
@@ -139,6 +150,14 @@ impl<'a, S: FarStore> Desk<'a, S> {
             Ok(answer) => Ok(is_answer_due(&answer, due)),
             Err(refusal) => is_refusal_due(refusal, due),
         }
+    }
+}
+
+// The object of a job, where there is one.
+fn object_of<S: FarTickets>(job: &Option<Job<S>>) -> Option<Name> {
+    match job {
+        Some(job) => job.object(),
+        None => None,
     }
 }
 
@@ -163,6 +182,14 @@ fn scan_group<S: FarTickets>(frame: &mut Frame<S>, a: u32, group: u32) -> Result
     frame.scan_group(a, group)
 }
 
+// Whether a row that is lent has the values that are due.
+fn is_row_due(row: &LentRow<'_>, due: Result<Values<'_>, Refusal>) -> bool {
+    match due {
+        Ok((number, letters)) => is_number(row.get(0), number) && is_text(row.get(1), letters),
+        Err(_) => false,
+    }
+}
+
 // Whether an answer is the one that is due.
 fn is_answer_due(answer: &Answer, due: Result<&[Line], Refusal>) -> bool {
     match due {
@@ -180,54 +207,65 @@ fn is_refusal_due(given: Refusal, due: Result<&[Line], Refusal>) -> Result<bool,
     }
 }
 
-// Sends the object of a row group of a column away.
-fn evacuate<S: FarStore>(
+/// How a job that was carried ends.
+#[derive(Clone, Copy)]
+enum End {
+    Commit,
+    Install,
+    /// An evacuation, once the number of this place is set.
+    CommitWritten(u32, Option<i64>),
+}
+
+// Goes on with a job that was begun.
+fn finish<S: FarStore>(
     alloc: Global,
     frame: &mut Frame<S>,
     store: &S,
-    column: u32,
-    group: u32,
+    begun: Result<Job<S>, Refusal>,
+    end: End,
 ) -> Result<(), Refusal>
-    requires { AreAt S.is_of (S.name store.now) frame.old.rows }
+    requires here { AreAt S.is_of (S.name store.now) frame.old.rows }
+    requires job_here { IfOk begun (IsJobAt S.is_of (S.name store.now)) }
     ensures { AreAt S.is_of (S.name store.now) frame.new.rows }
 {
-    match carried(alloc, frame, store, column, group) {
-        Ok(job) => frame.commit(store, &job),
+    match begun {
+        Ok(job) => carry(alloc, frame, store, job, end),
         Err(refusal) => Err(refusal),
     }
 }
 
-// Brings the object of a row group of a column back.
-fn fetch_back<S: FarStore>(
+// Carries it and ends it.
+fn carry<S: FarStore>(
     alloc: Global,
     frame: &mut Frame<S>,
     store: &S,
-    column: u32,
-    group: u32,
+    job: Job<S>,
+    end: End,
 ) -> Result<(), Refusal>
-    requires { AreAt S.is_of (S.name store.now) frame.old.rows }
+    requires here { AreAt S.is_of (S.name store.now) frame.old.rows }
+    requires job_here { IsJobAt S.is_of (S.name store.now) job }
     ensures { AreAt S.is_of (S.name store.now) frame.new.rows }
 {
-    match fetched(alloc, frame, store, column, group) {
-        Ok(job) => frame.install(store, &job),
-        Err(refusal) => Err(refusal),
+    match job.carry(alloc, store, &mut Meter::new()) {
+        Ok(job) => ended(frame, store, &job, end),
+        Err(refused) => Err(refused.0),
     }
 }
 
-// Begins to send the object of a place's number away, sets the number, and goes on.
-fn evacuate_written<S: FarStore>(
-    alloc: Global,
+fn ended<S: FarStore>(
     frame: &mut Frame<S>,
     store: &S,
-    place: u32,
-    number: Option<i64>,
+    job: &Job<S>,
+    end: End,
 ) -> Result<(), Refusal>
-    requires { AreAt S.is_of (S.name store.now) frame.old.rows }
+    requires here { AreAt S.is_of (S.name store.now) frame.old.rows }
+    requires job_here { IsJobAt S.is_of (S.name store.now) job.now }
     ensures { AreAt S.is_of (S.name store.now) frame.new.rows }
 {
-    match carried(alloc, frame, store, 0, place / SIZE) {
-        Ok(job) => commit_written(frame, store, &job, place, number),
-        Err(refusal) => Err(refusal),
+    match end {
+        End::Commit => frame.commit(store, job),
+        End::Install => frame.install(store, job),
+        End::CommitWritten(place, number) => commit_written(frame, store, job, place, number),
     }
 }
 
@@ -245,44 +283,4 @@ fn commit_written<S: FarStore>(
 {
     frame.set(place, 0, number_cell(number))?;
     frame.commit(store, job)
-}
-
-// An evacuation of the object of a row group of a column that was begun and carried.
-fn carried<S: FarStore>(
-    alloc: Global,
-    frame: &Frame<S>,
-    store: &S,
-    column: u32,
-    group: u32,
-) -> Result<Job<S>, Refusal>
-    requires { AreAt S.is_of (S.name store.now) frame.now.rows }
-    ensures { IfOk result (IsJobAt S.is_of (S.name store.now)) }
-{
-    let job = frame.begin_evac(store, column, group)?;
-    carry(alloc, store, job)
-}
-
-// A fetch of it that was begun and carried.
-fn fetched<S: FarStore>(
-    alloc: Global,
-    frame: &Frame<S>,
-    store: &S,
-    column: u32,
-    group: u32,
-) -> Result<Job<S>, Refusal>
-    requires { AreAt S.is_of (S.name store.now) frame.now.rows }
-    ensures { IfOk result (IsJobAt S.is_of (S.name store.now)) }
-{
-    let job = frame.begin_fetch(store, column, group)?;
-    carry(alloc, store, job)
-}
-
-fn carry<S: FarStore>(alloc: Global, store: &S, job: Job<S>) -> Result<Job<S>, Refusal>
-    requires { IsJobAt S.is_of (S.name store.now) job }
-    ensures { IfOk result (IsJobAt S.is_of (S.name store.now)) }
-{
-    match job.carry(alloc, store, &mut Meter::new()) {
-        Ok(job) => Ok(job),
-        Err((refusal, _)) => Err(refusal),
-    }
 }

@@ -9,6 +9,8 @@ mod desk;
 #[cfg(test)]
 mod moving;
 #[cfg(test)]
+mod opening;
+#[cfg(test)]
 mod random_run;
 #[cfg(test)]
 mod random_steps;

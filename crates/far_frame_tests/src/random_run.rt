@@ -2,14 +2,14 @@
 mod plain;
 
 use crate::desk::{Desk, PLACES, SIZE};
+use crate::opening::agent;
 use crate::script::{Call, Reply, is_due, reply};
-use far_fixtures::agent;
 use far_random::Draws;
 use far_store::FarStore;
 use far_types::{Fold, Refusal};
 use plain::{Plain, WORDS};
 use std::alloc::Global;
-use std::test::Fail;
+use std::sync::Wait;
 
 // How many runs of how many calls.
 const RUNS: u64 = 10;
@@ -89,57 +89,55 @@ fn agree<S: FarStore>(desk: &Desk<'_, S>, plain: &Plain) -> bool {
 }
 
 /// Whether an aggregate answers what the plain lists give, folded anew.
-fn answers<S: FarStore>(
-    alloc: Global,
-    desk: &Desk<'_, S>,
-    plain: &Plain,
-    a: u32,
-) -> Result<bool, Refusal> {
-    match plain.answer(alloc, a) {
+fn answers<S: FarStore>(desk: &Desk<'_, S>, plain: &Plain, a: u32) -> Result<bool, Refusal> {
+    match plain.answer(a) {
         Ok(lines) => desk.has_answer(a, Ok(lines.as_slice())),
-        Err(Refusal::NoMemory) => Err(Refusal::NoMemory),
         Err(refusal) => desk.has_answer(a, Err(refusal)),
     }
 }
 
 /// Whether each aggregate answers what the plain lists give.
-fn all_answer<S: FarStore>(
-    alloc: Global,
-    desk: &Desk<'_, S>,
-    plain: &Plain,
-) -> Result<bool, Refusal> {
+fn all_answer<S: FarStore>(desk: &Desk<'_, S>, plain: &Plain) -> Result<bool, Refusal> {
     for a in 0..WATCHED.saturating_add(1) {
-        if !answers(alloc, desk, plain, a)? {
-            return Ok(false);
+        match answers(desk, plain, a) {
+            Ok(true) => {}
+            wrong => return wrong,
         }
     }
     Ok(true)
 }
 
+/// Whether the rows and each aggregate are as they should be.
+fn all_agree<S: FarStore>(desk: &Desk<'_, S>, plain: &Plain) -> Result<bool, Refusal> {
+    if agree(desk, plain) {
+        all_answer(desk, plain)
+    } else {
+        Ok(false)
+    }
+}
+
 /// Makes one call: whether its reply, and the whole table after it, are as they should be.
 fn is_right<S: FarStore>(
-    alloc: Global,
     desk: &mut Desk<'_, S>,
     plain: &mut Plain,
     call: Call,
 ) -> Result<bool, Refusal> {
-    if !is_due(reply(desk, call), due(plain, call))? || !agree(desk, plain) {
-        return Ok(false);
+    match is_due(reply(desk, call), due(plain, call)) {
+        Ok(true) => all_agree(desk, plain),
+        other => other,
     }
-    all_answer(alloc, desk, plain)
 }
 
-/// Makes calls: which is the first that is not right.
-fn first_wrong<S: FarStore>(
-    alloc: Global,
-    desk: &mut Desk<'_, S>,
-    plain: &mut Plain,
-    draws: &mut Draws,
-) -> Result<Option<u32>, Refusal> {
+/// Makes the calls of a seed: which is the first that is not right.
+fn first_wrong<S: FarStore>(desk: &mut Desk<'_, S>, seed: u64) -> Result<Option<u32>, Refusal> {
+    let mut plain = Plain::new();
+    let mut draws = Draws::new(seed);
     for step in 0..CALLS {
-        let call = drawn_call(draws, plain.len());
-        if !is_right(alloc, desk, plain, call)? {
-            return Ok(Some(step));
+        let call = drawn_call(&mut draws, plain.len());
+        match is_right(desk, &mut plain, call) {
+            Ok(true) => {}
+            Ok(false) => return Ok(Some(step)),
+            Err(refusal) => return Err(refusal),
         }
     }
     Ok(None)
@@ -151,28 +149,33 @@ fn first_wrong_of<S: FarStore>(
     store: &S,
     seed: u64,
 ) -> Result<Option<u32>, Refusal> {
-    let mut desk = Desk::new(alloc, store)?;
-    first_wrong(
-        alloc,
-        &mut desk,
-        &mut Plain::new(alloc),
-        &mut Draws::new(seed),
-    )
+    match Desk::new(alloc, store) {
+        Ok(mut desk) => first_wrong(&mut desk, seed),
+        Err(refusal) => Err(refusal),
+    }
 }
 
 /// The first run that is not right, and its first call that is not.
 fn first_wrong_run<S: FarStore>(alloc: Global, store: &S) -> Result<Option<(u64, u32)>, Refusal> {
     for seed in 0..RUNS {
-        if let Some(step) = first_wrong_of(alloc, store, seed)? {
-            return Ok(Some((seed, step)));
+        match first_wrong_of(alloc, store, seed) {
+            Ok(None) => {}
+            Ok(Some(step)) => return Ok(Some((seed, step))),
+            Err(refusal) => return Err(refusal),
         }
     }
     Ok(None)
 }
 
+/// The same over a store of its own.
+fn play<R: Wait + Sync + Drop + Copy>(rt: R, alloc: Global) -> Result<Option<(u64, u32)>, Refusal> {
+    match agent(rt, alloc, 65_536) {
+        Ok(store) => first_wrong_run(alloc, &store),
+        Err(refusal) => Err(refusal),
+    }
+}
+
 #[test]
-fn random_calls_on_a_table_agree_with_plain_lists(rt: HostRuntime) -> Result<(), Fail> {
-    let store = agent(&rt, 65_536)?;
-    assert_eq!(rt; first_wrong_run(rt.alloc(), &store)?, None);
-    Ok(())
+fn random_calls_on_a_table_agree_with_plain_lists(rt: HostRuntime) {
+    assert_eq!(rt; play(&rt, rt.alloc()), Ok(None));
 }

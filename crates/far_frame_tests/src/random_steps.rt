@@ -13,17 +13,17 @@ mod plain;
 mod replies;
 mod store;
 
+use crate::opening::{agent, world};
 use aggregates::SLOTS;
 use call::{COLUMNS, Call, KINDS, PLACES, SIZE, drawn_call, step};
-use far_frame::{Frame, Reply, World};
+use far_frame::{Frame, World};
 use far_random::Draws;
-use far_store::{AgentStore, FarStore, FaultyStore};
-use far_types::{Limits, Refusal, Schema};
+use far_store::{FarStore, FaultyStore};
+use far_types::{Limits, Refusal};
 use plain::{Due, Plain};
 use replies::{are_next, is_reply, is_row};
 use std::alloc::Global;
 use std::sync::Wait;
-use std::test::Fail;
 use store::Store;
 
 /// How many runs of how many steps.
@@ -52,23 +52,6 @@ fn plan(seed: u64) -> Store {
     Store::new(12 + seed % 10, 3 + seed % 7, 2 + seed % 5)
 }
 
-/// A world without rows.
-fn world<S: FarStore>(alloc: Global, store: S, limits: Limits) -> Result<World<S>, Refusal> {
-    let schema = Schema::new(Vec::from_array(alloc, KINDS)?)?;
-    match World::new(alloc, Frame::open(alloc, schema, limits, 3)?, store) {
-        Ok(world) => Ok(world),
-        Err((refusal, _, _)) => Err(refusal),
-    }
-}
-
-/// The reply of a world. It meets few faults.
-fn reply<S: FarStore>(alloc: Global, world: &mut World<S>, call: Call) -> Result<Reply, Refusal> {
-    if world.faults() > 9 {
-        return Err(Refusal::FarFault);
-    }
-    Ok(world.serve(step(alloc, call)?))
-}
-
 /// What was told so far, a bit for each kind of step that was accepted and, by its number, for each refusal. A proposal counts where
 /// it names a row group.
 fn with_told(told: u64, plain: &Plain, call: Call, due: Due) -> u64 {
@@ -79,7 +62,24 @@ fn with_told(told: u64, plain: &Plain, call: Call, due: Due) -> u64 {
     }
 }
 
-/// Whether the reply to a step is the one that is due, and what is told with it.
+/// Whether the reply to a step is the one that is due. The world meets few faults.
+fn is_served<S: FarStore>(
+    alloc: Global,
+    world: &mut World<S>,
+    plain: &Plain,
+    call: Call,
+    due: Due,
+) -> Result<bool, Refusal> {
+    if world.faults() > 9 {
+        return Err(Refusal::FarFault);
+    }
+    match step(alloc, call) {
+        Ok(step) => Ok(is_reply(&world.serve(step), plain, due)),
+        Err(refusal) => Err(refusal),
+    }
+}
+
+/// The same, and the faults so far, and what is told with it.
 fn is_right<S: FarStore>(
     alloc: Global,
     world: &mut World<S>,
@@ -87,20 +87,24 @@ fn is_right<S: FarStore>(
     call: Call,
     told: &mut u64,
 ) -> Result<bool, Refusal> {
-    let due = plain.serve(call)?;
+    let due = plain.serve(call);
     *told = with_told(*told, plain, call, due);
-    let reply = reply(alloc, world, call)?;
-    Ok(is_reply(&reply, plain, due) && world.faults() == plain.store.faults)
+    let served = is_served(alloc, world, plain, call, due);
+    if world.faults() == plain.store.faults {
+        served
+    } else {
+        Ok(false)
+    }
 }
 
 /// Whether a place has its values and is alive or not, or is refused.
 fn row_agrees<S: FarStore>(frame: &Frame<S>, plain: &Plain, place: u32) -> bool {
-    let view = frame.scope();
-    match (view.row(place), plain.place(place)) {
-        (Ok(row), Some(due)) => is_row(&row, &due) && view.is_alive(place) == Some(due.alive),
-        (Err(Refusal::NoRow), None) => true,
-        (Err(given), Some(_)) => plain.here(place / SIZE) == Err(given),
-        _ => false,
+    let Some(due) = plain.place(place) else {
+        return frame.scope().row(place).err() == Some(Refusal::NoRow);
+    };
+    match frame.scope().row(place) {
+        Ok(row) => is_row(&row, &due) && frame.scope().is_alive(place) == Some(due.alive),
+        Err(refusal) => plain.here(place / SIZE) == Some(refusal),
     }
 }
 
@@ -118,8 +122,7 @@ fn rows_agree<S: FarStore>(frame: &Frame<S>, plain: &Plain) -> bool {
 fn objects_agree<S: FarStore>(frame: &Frame<S>, plain: &Plain) -> bool {
     for column in 0..COLUMNS + 1 {
         for group in 0..PLACES / SIZE + 1 {
-            let due = plain.local(column, group).map(|_| ());
-            if frame.may_evac(column, group) != due {
+            if frame.may_evac(column, group).err() != plain.away(column, group) {
                 return false;
             }
         }
@@ -130,11 +133,10 @@ fn objects_agree<S: FarStore>(frame: &Frame<S>, plain: &Plain) -> bool {
 /// Whether each row group may be built into an aggregate or not, and from the store or not: that tells which objects are clean.
 fn builds_agree<S: FarStore>(frame: &Frame<S>, plain: &Plain, a: u32) -> bool {
     for group in 0..PLACES / SIZE + 1 {
-        let due = plain.may_offload(a, group).map(|_| ());
-        if frame.may_scan(a, group) != plain.may_scan(a, group).is_ok() {
+        if frame.may_scan(a, group) != plain.scan_refusal(a, group).is_none() {
             return false;
         }
-        if frame.may_offload(a, group) != due {
+        if frame.may_offload(a, group).err() != plain.offload_refusal(a, group) {
             return false;
         }
     }
@@ -152,8 +154,9 @@ fn answers_agree<S: FarStore>(
         if !builds_agree(world.frame(), plain, a) {
             return Ok(false);
         }
-        if !is_right(alloc, world, plain, Call::Ask(a), told)? {
-            return Ok(false);
+        match is_right(alloc, world, plain, Call::Ask(a), told) {
+            Ok(true) => {}
+            wrong => return wrong,
         }
     }
     Ok(true)
@@ -162,8 +165,10 @@ fn answers_agree<S: FarStore>(
 /// Whether the next row groups of each column are those that should be.
 fn proposals_agree<S: FarStore>(frame: &Frame<S>, plain: &Plain) -> Result<bool, Refusal> {
     for column in 0..COLUMNS {
-        if !are_next(&frame.proposals(column)?, plain, column) {
-            return Ok(false);
+        match frame.proposals(column) {
+            Ok(found) if are_next(&found, plain, column) => {}
+            Ok(_) => return Ok(false),
+            Err(refusal) => return Err(refusal),
         }
     }
     Ok(true)
@@ -178,16 +183,11 @@ fn is_pinned_right<S: FarStore>(
     told: &mut u64,
 ) -> Result<bool, Refusal> {
     let (column, group) = (o % COLUMNS, o / COLUMNS);
-    let had = plain
-        .find(column, group)
-        .is_ok_and(|object| object.pins > 0);
-    if !is_right(alloc, world, plain, Call::Unpin(column, group), told)? {
-        return Ok(false);
+    let had = plain.missing(column, group).is_none() && plain.object(column, group).pins > 0;
+    match is_right(alloc, world, plain, Call::Unpin(column, group), told) {
+        Ok(true) if had => is_right(alloc, world, plain, Call::Pin(column, group), told),
+        right => right,
     }
-    if !had {
-        return Ok(true);
-    }
-    is_right(alloc, world, plain, Call::Pin(column, group), told)
 }
 
 /// Whether all objects have a pin where they should.
@@ -198,11 +198,25 @@ fn pins_agree<S: FarStore>(
     told: &mut u64,
 ) -> Result<bool, Refusal> {
     for o in 0..COLUMNS * PLACES / SIZE {
-        if !is_pinned_right(alloc, world, plain, o, told)? {
-            return Ok(false);
+        match is_pinned_right(alloc, world, plain, o, told) {
+            Ok(true) => {}
+            wrong => return wrong,
         }
     }
     Ok(true)
+}
+
+/// Whether each aggregate and each pin is as it should be, which calls tell.
+fn calls_agree<S: FarStore>(
+    alloc: Global,
+    world: &mut World<S>,
+    plain: &mut Plain,
+    told: &mut u64,
+) -> Result<bool, Refusal> {
+    match answers_agree(alloc, world, plain, told) {
+        Ok(true) => pins_agree(alloc, world, plain, told),
+        wrong => wrong,
+    }
 }
 
 /// Whether the whole table is as it should be.
@@ -215,27 +229,42 @@ fn agree<S: FarStore>(
     if !rows_agree(world.frame(), plain) || !objects_agree(world.frame(), plain) {
         return Ok(false);
     }
-    if !proposals_agree(world.frame(), plain)? || !answers_agree(alloc, world, plain, told)? {
-        return Ok(false);
+    match proposals_agree(world.frame(), plain) {
+        Ok(true) => calls_agree(alloc, world, plain, told),
+        wrong => wrong,
     }
-    pins_agree(alloc, world, plain, told)
+}
+
+/// Makes a step, the n-th from 0 on: whether it is right, and the whole table after some of them.
+fn goes_on<S: FarStore>(
+    alloc: Global,
+    world: &mut World<S>,
+    plain: &mut Plain,
+    n: u32,
+    call: Call,
+    told: &mut u64,
+) -> Result<bool, Refusal> {
+    match is_right(alloc, world, plain, call, told) {
+        Ok(true) if n % LOOK == 0 => agree(alloc, world, plain, told),
+        right => right,
+    }
 }
 
 /// Makes steps: which is the first that is not right.
 fn first_wrong<S: FarStore>(
     alloc: Global,
     world: &mut World<S>,
-    plain: &mut Plain,
-    draws: &mut Draws,
+    seed: u64,
     told: &mut u64,
 ) -> Result<Option<u32>, Refusal> {
+    let mut plain = Plain::new(limits(seed), plan(seed));
+    let mut draws = Draws::new(seed);
     for n in 0..STEPS {
-        let call = drawn_call(draws, plain);
-        if !is_right(alloc, world, plain, call, told)? {
-            return Ok(Some(n));
-        }
-        if n % LOOK == 0 && !agree(alloc, world, plain, told)? {
-            return Ok(Some(n));
+        let call = drawn_call(&mut draws, &plain);
+        match goes_on(alloc, world, &mut plain, n, call, told) {
+            Ok(true) => {}
+            Ok(false) => return Ok(Some(n)),
+            Err(refusal) => return Err(refusal),
         }
     }
     Ok(None)
@@ -248,22 +277,27 @@ fn first_wrong_of<S: FarStore>(
     seed: u64,
     told: &mut u64,
 ) -> Result<Option<u32>, Refusal> {
-    let mut world = world(alloc, far, limits(seed))?;
-    let mut plain = Plain::new(alloc, limits(seed), plan(seed));
-    first_wrong(alloc, &mut world, &mut plain, &mut Draws::new(seed), told)
+    match world(alloc, &KINDS, limits(seed), far) {
+        Ok(mut world) => first_wrong(alloc, &mut world, seed, told),
+        Err(refusal) => Err(refusal),
+    }
 }
 
 /// Makes the steps of a seed over a store of its own.
-fn first_wrong_over<R: Wait + Sync + Drop>(
+fn first_wrong_over<R: Wait + Sync + Drop + Copy>(
     rt: R,
     alloc: Global,
     seed: u64,
     told: &mut u64,
 ) -> Result<Option<u32>, Refusal> {
     let plan = plan(seed);
-    let far = AgentStore::new(rt, alloc, plan.capacity)?;
-    let faulty = FaultyStore::new(far, plan.failing_put, plan.failing_get);
-    first_wrong_of(alloc, faulty, seed, told)
+    match agent(rt, alloc, plan.capacity) {
+        Ok(far) => {
+            let faulty = FaultyStore::new(far, plan.failing_put, plan.failing_get);
+            first_wrong_of(alloc, faulty, seed, told)
+        }
+        Err(refusal) => Err(refusal),
+    }
 }
 
 /// The first run that is not right, with its first step that is not.
@@ -273,8 +307,10 @@ fn first_wrong_run<R: Wait + Sync + Drop + Copy>(
     told: &mut u64,
 ) -> Result<Option<(u64, u32)>, Refusal> {
     for seed in 0..RUNS {
-        if let Some(n) = first_wrong_over(rt, alloc, seed, told)? {
-            return Ok(Some((seed, n)));
+        match first_wrong_over(rt, alloc, seed, told) {
+            Ok(None) => {}
+            Ok(Some(n)) => return Ok(Some((seed, n))),
+            Err(refusal) => return Err(refusal),
         }
     }
     Ok(None)
@@ -284,9 +320,8 @@ fn first_wrong_run<R: Wait + Sync + Drop + Copy>(
 const DUE: u64 = 0x7_FFFF_017F_FF78;
 
 #[test]
-fn random_steps_of_every_kind_agree_with_plain_lists(rt: HostRuntime) -> Result<(), Fail> {
+fn random_steps_of_every_kind_agree_with_plain_lists(rt: HostRuntime) {
     let mut told = 0;
-    assert_eq!(rt; first_wrong_run(&rt, rt.alloc(), &mut told)?, None);
+    assert_eq!(rt; first_wrong_run(&rt, rt.alloc(), &mut told), Ok(None));
     assert_eq!(rt; told, DUE);
-    Ok(())
 }

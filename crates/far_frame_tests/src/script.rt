@@ -1,8 +1,9 @@
 //! Calls on a table, as data.
 use crate::answers::Line;
 use crate::desk::Desk;
+use crate::opening::agent;
 use crate::values::Values;
-use far_store::{AgentStore, FarStore};
+use far_store::FarStore;
 use far_types::{Fold, Name, Refusal};
 use std::alloc::Global;
 use std::sync::Wait;
@@ -50,13 +51,15 @@ pub fn answered(first_wrong: Result<Option<usize>, Refusal>) -> Result<(), Fail>
 }
 
 /// Plays a script on a new table: the index of the first step that does not come out as it should.
-pub fn play<R: Wait + Sync + Drop>(
+pub fn play<R: Wait + Sync + Drop + Copy>(
     rt: R,
     alloc: Global,
     script: &[Step],
 ) -> Result<Option<usize>, Refusal> {
-    let store = AgentStore::new(rt, alloc, 64)?;
-    play_over(alloc, &store, script)
+    match agent(rt, alloc, 64) {
+        Ok(store) => play_over(alloc, &store, script),
+        Err(refusal) => Err(refusal),
+    }
 }
 
 fn play_over<S: FarStore>(
@@ -64,8 +67,10 @@ fn play_over<S: FarStore>(
     store: &S,
     script: &[Step],
 ) -> Result<Option<usize>, Refusal> {
-    let mut desk = Desk::new(alloc, store)?;
-    first_wrong(&mut desk, script)
+    match Desk::new(alloc, store) {
+        Ok(mut desk) => first_wrong(&mut desk, script),
+        Err(refusal) => Err(refusal),
+    }
 }
 
 /// The index of the first step that does not come out as it should.
@@ -74,8 +79,10 @@ pub fn first_wrong<S: FarStore>(
     script: &[Step],
 ) -> Result<Option<usize>, Refusal> {
     for (index, step) in script.iter().enumerate() {
-        if !comes_out(desk, *step)? {
-            return Ok(Some(index));
+        match comes_out(desk, *step) {
+            Ok(true) => {}
+            Ok(false) => return Ok(Some(index)),
+            Err(refusal) => return Err(refusal),
         }
     }
     Ok(None)
@@ -87,7 +94,7 @@ fn comes_out<S: FarStore>(desk: &mut Desk<'_, S>, step: Step) -> Result<bool, Re
         Step::Call(call, due) => is_due(reply(desk, call), due),
         Step::Values(place, due) => Ok(desk.has_values(place, due)),
         Step::Answer(a, due) => desk.has_answer(a, due),
-        Step::Coldest(name) => Ok(desk.coldest()? == name),
+        Step::Coldest(name) => desk.has_coldest(name),
     }
 }
 
@@ -103,17 +110,25 @@ pub fn is_due(reply: Reply, due: Reply) -> Result<bool, Refusal> {
 pub fn reply<S: FarStore>(desk: &mut Desk<'_, S>, call: Call) -> Reply {
     match call {
         Call::Insert(number, letters) => numbered(desk.insert(number, letters)),
-        Call::SetNumber(place, number) => done(desk.set_number(place, number)),
-        Call::SetText(place, letters) => done(desk.set_text(place, letters)),
-        Call::Remove(place) => done(desk.remove(place)),
         Call::Watch(fold, key) => numbered(desk.watch(fold, key)),
-        Call::Unwatch(a) => done(desk.unwatch(a)),
-        Call::Scan(a, group) => done(desk.scan_group(a, group)),
         Call::Pin(column, group) => done(desk.pin(column, group)),
         Call::Unpin(column, group) => done(desk.unpin(column, group)),
         Call::Evacuate(column, group) => done(desk.evacuate(column, group)),
         Call::EvacuateWritten(place, number) => done(desk.evacuate_written(place, number)),
         Call::FetchBack(column, group) => done(desk.fetch_back(column, group)),
+        call => done(changed(desk, call)),
+    }
+}
+
+// What a call answers that changes cells or aggregates.
+fn changed<S: FarStore>(desk: &mut Desk<'_, S>, call: Call) -> Result<(), Refusal> {
+    match call {
+        Call::SetNumber(place, number) => desk.set_number(place, number),
+        Call::SetText(place, letters) => desk.set_text(place, letters),
+        Call::Remove(place) => desk.remove(place),
+        Call::Unwatch(a) => desk.unwatch(a),
+        Call::Scan(a, group) => desk.scan_group(a, group),
+        _ => Err(Refusal::OutOfRange),
     }
 }
 

@@ -1,14 +1,9 @@
 //! Rows and aggregates of a table of a column of numbers and one of texts.
-use far_types::{Cell, CellRef, Filter, Fold, Kind, Refusal, Row, Schema, Spec, Text};
+use far_types::{Cell, CellRef, Filter, Fold, Refusal, Row, Spec, Text};
 use std::alloc::Global;
 
 /// The values of a row: its number and its text.
 pub type Values<'a> = (Option<i64>, Option<&'a str>);
-
-/// The kinds of the columns.
-pub fn schema(alloc: Global) -> Result<Schema, Refusal> {
-    Schema::new(Vec::from_array(alloc, [Kind::Int, Kind::Text])?)
-}
 
 /// The cell of a number, or of none.
 pub fn number_cell(number: Option<i64>) -> Cell {

@@ -1,12 +1,12 @@
 //! Lendings, jobs and offloaded builds as steps of a world, over stores that fail or are full. Scripts of the shell show how a world goes
 //! on with another store.
 use crate::answers::is_answer;
+use crate::opening::{agent, world};
 use crate::script::answered;
 use crate::values::spec;
-use far_fixtures::agent;
-use far_frame::{Frame, IntPiece, Reply, Step, World};
-use far_store::{AgentStore, FarStore, FaultyStore};
-use far_types::{Answer, Cell, Edit, Fold, Kind, Limits, Refusal, Row, Schema};
+use far_frame::{IntPiece, Reply, Step, World};
+use far_store::{FarStore, FaultyStore};
+use far_types::{Answer, Cell, Edit, Fold, Kind, Limits, Refusal, Row};
 use std::alloc::Global;
 use std::sync::Wait;
 use std::test::Fail;
@@ -184,15 +184,23 @@ const ABSENT: Refusal = Refusal::Absent {
 };
 
 fn insert(alloc: Global, number: i64) -> Result<Step, Refusal> {
-    let cells = Vec::from_array(alloc, [Cell::Int(number)])?;
-    Ok(Step::Edit(Edit::Insert(Row::new(cells))))
+    match Vec::from_array(alloc, [Cell::Int(number)]) {
+        Ok(cells) => Ok(Step::Edit(Edit::Insert(Row::new(cells)))),
+        Err(_) => Err(Refusal::NoMemory),
+    }
 }
 
 fn step(alloc: Global, call: Call) -> Result<Step, Refusal> {
-    Ok(match call {
-        Call::Watch => Step::Watch(spec(alloc, Fold::Totals, None)),
-        Call::Insert(number) => return insert(alloc, number),
-        Call::Ask(a) => Step::Ask(a),
+    match call {
+        Call::Insert(number) => insert(alloc, number),
+        Call::Watch => Ok(Step::Watch(spec(alloc, Fold::Totals, None))),
+        call => Ok(plain_step(call)),
+    }
+}
+
+// A step that owns nothing.
+fn plain_step(call: Call) -> Step {
+    match call {
         Call::Unwatch => Step::Unwatch(1),
         Call::Scan(group) => Step::ScanGroup(1, group),
         Call::Offload(group) => Step::BeginOffload {
@@ -205,13 +213,21 @@ fn step(alloc: Global, call: Call) -> Result<Step, Refusal> {
         Call::Commit(job) => Step::Commit(job),
         Call::Install(job) => Step::Install(job),
         Call::Merge(job) => Step::Merge(job),
+        call => reading_step(call),
+    }
+}
+
+// A step that looks at the table.
+fn reading_step(call: Call) -> Step {
+    match call {
+        Call::Ask(a) => Step::Ask(a),
         Call::Lend(from, to) => Step::Lend {
             column: 0,
             from,
             to,
         },
-        Call::Prefetch => Step::Prefetch(0),
-    })
+        _ => Step::Prefetch(0),
+    }
 }
 
 fn is_total(answer: &Answer, count: i128, sum: i128) -> bool {
@@ -266,8 +282,10 @@ fn is_served<S: FarStore>(
     if world.faults() > 9 {
         return Err(Refusal::FarFault);
     }
-    let reply = world.serve(step(alloc, call)?);
-    Ok(is_reply(&reply, due))
+    match step(alloc, call) {
+        Ok(step) => Ok(is_reply(&world.serve(step), due)),
+        Err(refusal) => Err(refusal),
+    }
 }
 
 /// The first step that has another reply than is due.
@@ -277,95 +295,107 @@ fn first_other<S: FarStore>(
     calls: &[(Call, Due)],
 ) -> Result<Option<usize>, Refusal> {
     for (at, (call, due)) in calls.iter().enumerate() {
-        if !is_served(alloc, world, *call, *due)? {
-            return Ok(Some(at));
+        match is_served(alloc, world, *call, *due) {
+            Ok(true) => {}
+            Ok(false) => return Ok(Some(at)),
+            Err(refusal) => return Err(refusal),
         }
     }
     Ok(None)
 }
 
-/// No row, over a store.
-fn world<S: FarStore>(alloc: Global, store: S) -> Result<World<S>, Refusal> {
-    let schema = Schema::new(Vec::from_array(alloc, [Kind::Int])?)?;
-    let limits = Limits {
-        group: 2,
-        places: 100,
-        edits: 100,
-        int_segments: 4,
-        int_size: 4,
-        text_segments: 1,
-        text_size: 64,
-    };
-    match World::new(alloc, Frame::open(alloc, schema, limits, 0)?, store) {
-        Ok(world) => Ok(world),
-        Err((refusal, _, _)) => Err(refusal),
+/// The same, once the table has its rows.
+fn first_other_then<S: FarStore>(
+    alloc: Global,
+    world: &mut World<S>,
+    calls: &[(Call, Due)],
+) -> Result<Option<usize>, Refusal> {
+    match first_other(alloc, world, &ROWS) {
+        Ok(None) => first_other(alloc, world, calls),
+        wrong => wrong,
     }
 }
 
-/// The first step that has another reply than is due, on the table over a store.
+const LIMITS: Limits = Limits {
+    group: 2,
+    places: 100,
+    edits: 100,
+    int_segments: 4,
+    int_size: 4,
+    text_segments: 1,
+    text_size: 64,
+};
+
+/// The same of a new table over a store.
 fn first_other_over<S: FarStore>(
     alloc: Global,
     store: S,
     calls: &[(Call, Due)],
 ) -> Result<Option<usize>, Refusal> {
-    let mut world = world(alloc, store)?;
-    match first_other(alloc, &mut world, &ROWS)? {
-        None => first_other(alloc, &mut world, calls),
-        wrong => Ok(wrong),
+    match world(alloc, &[Kind::Int], LIMITS, store) {
+        Ok(mut world) => first_other_then(alloc, &mut world, calls),
+        Err(refusal) => Err(refusal),
+    }
+}
+
+/// A store of so many contents, and which put and which get of it fail, counted from 1.
+type Plan = (u64, u64, u64);
+
+/// The same over the store of a plan.
+fn play<R: Wait + Sync + Drop + Copy>(
+    rt: R,
+    alloc: Global,
+    (capacity, failing_put, failing_get): Plan,
+    calls: &[(Call, Due)],
+) -> Result<Option<usize>, Refusal> {
+    match agent(rt, alloc, capacity) {
+        Ok(store) => {
+            first_other_over(
+                alloc,
+                FaultyStore::new(store, failing_put, failing_get),
+                calls,
+            )
+        }
+        Err(refusal) => Err(refusal),
     }
 }
 
 #[test]
 fn a_carry_that_met_a_fault_is_repeated(rt: HostRuntime) -> Result<(), Fail> {
-    let store = FaultyStore::new(agent(&rt, 16)?, 2, 0);
-    answered(first_other_over(rt.alloc(), store, &SECOND_PUT))
+    answered(play(&rt, rt.alloc(), (16, 2, 0), &SECOND_PUT))
 }
 
 #[test]
 fn a_fetch_that_met_a_fault_is_repeated(rt: HostRuntime) -> Result<(), Fail> {
-    let store = FaultyStore::new(agent(&rt, 16)?, 0, 1);
-    answered(first_other_over(rt.alloc(), store, &FIRST_GET))
-}
-
-/// The first step that has another reply than is due, over a store that fails this get.
-fn first_other_on<R: Wait + Sync + Drop>(
-    rt: R,
-    alloc: Global,
-    failing_get: u64,
-    calls: &[(Call, Due)],
-) -> Result<Option<usize>, Refusal> {
-    let far = AgentStore::new(rt, alloc, 16)?;
-    first_other_over(alloc, FaultyStore::new(far, 0, failing_get), calls)
+    answered(play(&rt, rt.alloc(), (16, 0, 1), &FIRST_GET))
 }
 
 #[test]
 fn a_row_group_that_is_away_is_built_in(rt: HostRuntime) -> Result<(), Fail> {
-    answered(first_other_on(&rt, rt.alloc(), 1, &BUILT))
+    answered(play(&rt, rt.alloc(), (16, 0, 1), &BUILT))
 }
 
 #[test]
 fn a_build_is_stale_once_a_row_was_inserted(rt: HostRuntime) -> Result<(), Fail> {
-    answered(first_other_on(&rt, rt.alloc(), 0, &OUTDATED))
+    answered(play(&rt, rt.alloc(), (16, 0, 0), &OUTDATED))
 }
 
 #[test]
 fn a_build_waits_while_its_aggregate_is_forgotten(rt: HostRuntime) -> Result<(), Fail> {
-    answered(first_other_on(&rt, rt.alloc(), 0, &FORGOTTEN))
+    answered(play(&rt, rt.alloc(), (16, 0, 0), &FORGOTTEN))
 }
 
 #[test]
 fn a_build_that_was_not_carried_is_stale(rt: HostRuntime) -> Result<(), Fail> {
-    answered(first_other_on(&rt, rt.alloc(), 0, &UNCARRIED))
+    answered(play(&rt, rt.alloc(), (16, 0, 0), &UNCARRIED))
 }
 
 #[test]
 fn an_object_stays_where_the_store_is_full(rt: HostRuntime) -> Result<(), Fail> {
-    let store = agent(&rt, 1)?;
-    answered(first_other_over(rt.alloc(), store, &FULL))
+    answered(play(&rt, rt.alloc(), (1, 0, 0), &FULL))
 }
 
 #[test]
 fn parts_are_lent_in_turn_and_the_next_is_proposed(rt: HostRuntime) -> Result<(), Fail> {
-    let store = agent(&rt, 4)?;
-    answered(first_other_over(rt.alloc(), store, &STRIDE))
+    answered(play(&rt, rt.alloc(), (4, 0, 0), &STRIDE))
 }

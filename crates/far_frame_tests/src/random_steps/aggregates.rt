@@ -84,20 +84,20 @@ impl Watched {
         !is_of_numbers(self.value)
     }
 
-    // Whether a table may have it.
-    fn check(&self) -> Result<(), Refusal> {
+    // Why a table has it not.
+    fn refusal(&self) -> Option<Refusal> {
         if self.tests.len() > 4 {
-            return Err(Refusal::BadSpec);
+            return Some(Refusal::BadSpec);
         }
         for column in COLUMNS..8 {
             if self.needs(column) {
-                return Err(Refusal::NoColumn);
+                return Some(Refusal::NoColumn);
             }
         }
         if self.is_of_texts() {
-            return Err(Refusal::WrongKind);
+            return Some(Refusal::WrongKind);
         }
-        Ok(())
+        None
     }
 
     // Whether a row passes its tests.
@@ -113,9 +113,10 @@ impl Watched {
 
     // The value of a row that stands under a key, if it has one and is kept. Without a key column each row stands under none.
     fn value_under(&self, values: &Values, key: Option<Value>) -> Option<i128> {
-        let own = self
-            .key
-            .and_then(|column| values.get(column as usize).copied());
+        let own = match self.key {
+            Some(column) => values.get(column as usize).copied(),
+            None => None,
+        };
         if own != key || own == Some(Value::Missing) || !self.keeps(values) {
             return None;
         }
@@ -141,14 +142,28 @@ fn holds(number: i64, op: Op, constant: i64) -> bool {
     }
 }
 
-/// A registered aggregate: the number under which it is among those that are drawn, that of its registration, and which row groups
-/// are still to be built in.
+/// An aggregate: whether it is registered, what is drawn, the number of its registration, and which row groups are still to be built
+/// in.
 #[derive(Clone, Copy)]
 pub struct Aggregate {
+    pub registered: bool,
     pub watched: Watched,
     pub registration: u64,
     pub unbuilt: [bool; GROUPS],
 }
+
+/// No aggregate.
+pub const FREE: Aggregate = Aggregate {
+    registered: false,
+    watched: Watched {
+        fold: Fold::Totals,
+        value: 0,
+        key: None,
+        tests: &[],
+    },
+    registration: 0,
+    unbuilt: [false; GROUPS],
+};
 
 impl Aggregate {
     /// Whether a row group is still to be built in.
@@ -196,108 +211,126 @@ impl Sums {
 
 impl Plain {
     /// The aggregate of a number.
-    pub fn aggregate(&self, a: u32) -> Result<Aggregate, Refusal> {
+    pub fn aggregate(&self, a: u32) -> Aggregate {
         match self.aggregates.get(a as usize) {
-            Some(Some(aggregate)) => Ok(*aggregate),
-            _ => Err(Refusal::NoAggregate),
+            Some(aggregate) => *aggregate,
+            None => FREE,
         }
     }
 
-    /// Something stands under the number of an aggregate, or nothing.
-    pub fn put_aggregate(&mut self, a: u32, aggregate: Option<Aggregate>) {
+    // This stands under a number.
+    fn put_aggregate(&mut self, a: u32, aggregate: Aggregate) {
         if let Some(old) = self.aggregates.get_mut(a as usize) {
             *old = aggregate;
         }
     }
 
     // The lowest free number.
-    fn free(&self) -> Result<u32, Refusal> {
+    fn free(&self) -> Option<u32> {
         for a in 0..SLOTS {
-            if self.aggregate(a).is_err() {
-                return Ok(a);
+            if !self.aggregate(a).registered {
+                return Some(a);
             }
         }
-        Err(Refusal::TooManyAggregates)
+        None
+    }
+
+    // Which row groups are there.
+    fn there(&self) -> [bool; GROUPS] {
+        let mut there = [false; GROUPS];
+        for (group, flag) in there.iter_mut().enumerate() {
+            *flag = group < self.groups() as usize;
+        }
+        there
     }
 
     /// An aggregate is registered under the lowest free number, with all row groups still to be built in.
-    pub fn watch(&mut self, n: u32) -> Result<Due, Refusal> {
+    pub fn watch(&mut self, n: u32) -> Due {
         let watched = drawn_by(n);
-        watched.check()?;
-        let a = self.free()?;
-        if a as usize >= self.aggregates.len() {
-            self.aggregates.push(None)?;
+        if let Some(refusal) = watched.refusal() {
+            return Due::Refused(refusal);
         }
-        let mut unbuilt = [false; GROUPS];
-        for (group, flag) in unbuilt.iter_mut().enumerate() {
-            *flag = group < self.groups() as usize;
-        }
-        self.put_aggregate(
-            a,
-            Some(Aggregate {
-                watched,
-                registration: self.registrations,
-                unbuilt,
-            }),
-        );
+        let Some(a) = self.free() else {
+            return Due::Refused(Refusal::TooManyAggregates);
+        };
+        let aggregate = Aggregate {
+            registered: true,
+            watched,
+            registration: self.registrations,
+            unbuilt: self.there(),
+        };
+        self.put_aggregate(a, aggregate);
         self.registrations = self.registrations.wrapping_add(1);
-        Ok(Due::Aggregate(a))
+        Due::Aggregate(a)
     }
 
     /// An aggregate is forgotten.
-    pub fn unwatch(&mut self, a: u32) -> Result<(), Refusal> {
-        self.aggregate(a)?;
-        self.put_aggregate(a, None);
-        Ok(())
+    pub fn unwatch(&mut self, a: u32) -> Option<Refusal> {
+        if !self.aggregate(a).registered {
+            return Some(Refusal::NoAggregate);
+        }
+        self.put_aggregate(a, FREE);
+        None
     }
 
     /// A row group is built into an aggregate.
     pub fn build(&mut self, a: u32, group: u32) {
-        if let Ok(mut aggregate) = self.aggregate(a) {
-            if let Some(flag) = aggregate.unbuilt.get_mut(group as usize) {
-                *flag = false;
-            }
-            self.put_aggregate(a, Some(aggregate));
+        let mut aggregate = self.aggregate(a);
+        if let Some(flag) = aggregate.unbuilt.get_mut(group as usize) {
+            *flag = false;
+        }
+        self.put_aggregate(a, aggregate);
+    }
+
+    /// Why a row group is not there and still to be built into an aggregate.
+    pub fn build_refusal(&self, a: u32, group: u32) -> Option<Refusal> {
+        let aggregate = self.aggregate(a);
+        if !aggregate.registered {
+            Some(Refusal::NoAggregate)
+        } else if group >= self.groups() {
+            Some(Refusal::OutOfRange)
+        } else if !aggregate.is_unbuilt(group) {
+            Some(Refusal::StaleJob)
+        } else {
+            None
         }
     }
 
-    /// Whether a row group is there and still to be built into an aggregate.
-    pub fn may_build(&self, a: u32, group: u32) -> Result<Aggregate, Refusal> {
-        let aggregate = self.aggregate(a)?;
-        if group >= self.groups() {
-            return Err(Refusal::OutOfRange);
+    /// Why it is not scanned.
+    pub fn scan_refusal(&self, a: u32, group: u32) -> Option<Refusal> {
+        let refusal = self.build_refusal(a, group);
+        if refusal.is_some() {
+            return refusal;
         }
-        if !aggregate.is_unbuilt(group) {
-            return Err(Refusal::StaleJob);
-        }
-        Ok(aggregate)
-    }
-
-    /// Whether it may be scanned.
-    pub fn may_scan(&self, a: u32, group: u32) -> Result<(), Refusal> {
-        let aggregate = self.may_build(a, group)?;
+        let watched = self.aggregate(a).watched;
         for column in 0..COLUMNS {
-            if aggregate.watched.needs(column) {
-                self.local(column, group)?;
+            let away = self.away(column, group);
+            if watched.needs(column) && away.is_some() {
+                return away;
             }
         }
-        Ok(())
+        None
     }
 
     /// A row group is scanned.
-    pub fn scan(&mut self, a: u32, group: u32) -> Result<(), Refusal> {
-        self.may_scan(a, group)?;
-        self.build(a, group);
-        Ok(())
+    pub fn scan(&mut self, a: u32, group: u32) -> Option<Refusal> {
+        let refusal = self.scan_refusal(a, group);
+        if refusal.is_none() {
+            self.build(a, group);
+        }
+        refusal
     }
 
     /// An aggregate is asked.
-    pub fn ask(&self, a: u32) -> Result<Due, Refusal> {
-        let left = self.aggregate(a)?.left();
-        if left > 0 {
-            return Err(Refusal::Building(left));
+    pub fn ask(&self, a: u32) -> Due {
+        let aggregate = self.aggregate(a);
+        if !aggregate.registered {
+            return Due::Refused(Refusal::NoAggregate);
         }
-        Ok(Due::Answer(a))
+        match aggregate.left() {
+            0 => Due::Answer(a),
+            left => Due::Refused(Refusal::Building(left)),
+        }
     }
 
     /// What stands under a key, over the places that are alive.

@@ -99,7 +99,10 @@ fn cell(alloc: Global, value: Value) -> Result<Cell, Refusal> {
     match value {
         Value::Missing => Ok(Cell::Missing),
         Value::Int(number) => Ok(Cell::Int(number)),
-        Value::Text(n) => Ok(Cell::Text(Text::new(String::from_str(alloc, word(n))?))),
+        Value::Text(n) => match String::from_str(alloc, word(n)) {
+            Ok(string) => Ok(Cell::Text(Text::new(string))),
+            Err(_) => Err(Refusal::NoMemory),
+        },
     }
 }
 
@@ -271,7 +274,7 @@ fn drawn_lending(draws: &mut Draws, column: u32, len: u32) -> Call {
 /// A later step of a job, mostly of one of the last that were begun and of its kind.
 fn drawn_work(draws: &mut Draws, plain: &Plain) -> Call {
     let back = u64::from(draws.below(6));
-    let n = plain.begun().wrapping_sub(back);
+    let n = plain.begun.wrapping_sub(back);
     match draws.below(16) {
         0..=6 => Call::Carry(n),
         7 => Call::Commit(n),
@@ -283,7 +286,7 @@ fn drawn_work(draws: &mut Draws, plain: &Plain) -> Call {
 
 /// The next step. It may name what is not there.
 pub fn drawn_call(draws: &mut Draws, plain: &Plain) -> Call {
-    let len = plain.len();
+    let len = plain.len;
     match draws.below(20) {
         0..=5 => drawn_edit(draws, len),
         6..=8 => drawn_asking(draws, len),

@@ -1,6 +1,6 @@
 //! Edits of a plain table.
 use super::call::{COLUMNS, KINDS, PLACES, SIZE, Value, Values, word};
-use super::objects::{NEW, index};
+use super::objects::index;
 use super::plain::{Due, Place, Plain};
 use far_types::{Kind, Refusal};
 
@@ -13,17 +13,17 @@ fn is_of_kind(value: Value, kind: Kind) -> bool {
     }
 }
 
-// Whether so many of these values are a row.
-fn may_be_row(values: &Values, width: u32) -> Result<(), Refusal> {
+// Why so many of these values are no row.
+fn row_refusal(values: &Values, width: u32) -> Option<Refusal> {
     for (value, kind) in values.iter().zip(KINDS.iter()).take(width as usize) {
         if !is_of_kind(*value, *kind) {
-            return Err(Refusal::WrongKind);
+            return Some(Refusal::WrongKind);
         }
     }
     if width != COLUMNS {
-        return Err(Refusal::RowWidth);
+        return Some(Refusal::RowWidth);
     }
-    Ok(())
+    None
 }
 
 // The value of a column.
@@ -94,45 +94,48 @@ impl Plain {
         self.list_len(column, group, PLACES, Value::Missing)
     }
 
-    // Whether some text object is too long for a segment, once a place has these values.
-    fn may_hold(&self, place: u32, values: &Values) -> Result<(), Refusal> {
+    // Why some text object is too long for a segment, once a place has these values.
+    fn long_refusal(&self, place: u32, values: &Values) -> Option<Refusal> {
         for column in 0..COLUMNS {
             let len = self.list_len(column, place / SIZE, place, value_in(values, column));
             if len > self.limits.text_size {
-                return Err(Refusal::ChunkFull);
+                return Some(Refusal::ChunkFull);
             }
         }
-        Ok(())
+        None
     }
 
-    // Whether one more edit is accepted.
-    fn may_count(&self) -> Result<(), Refusal> {
+    // Why one more edit is not accepted.
+    fn count_refusal(&self) -> Option<Refusal> {
         if self.edits >= self.limits.edits {
-            return Err(Refusal::EditsUsedUp);
+            Some(Refusal::EditsUsedUp)
+        } else {
+            None
         }
-        Ok(())
     }
 
     // Whether the lists that an object of a row group gets, once a place has these values, find room beside all that is there.
-    fn reserve_all(&mut self, place: u32, values: &Values, begins: bool) -> Result<(), Refusal> {
+    fn reserve_all(&mut self, place: u32, values: &Values, begins: bool) -> bool {
         for (column, kind) in (0..COLUMNS).zip(KINDS) {
             if begins || kind == Kind::Text {
                 let len = self.list_len(column, place / SIZE, place, value_in(values, column));
                 if !self.reserve(index(column, place / SIZE), kind, len) {
-                    return Err(Refusal::RegionFull);
+                    return false;
                 }
             }
         }
-        Ok(())
+        true
     }
 
     // A row is there, and its objects have it.
-    fn append(&mut self, place: u32, values: Values, begins: bool) -> Result<(), Refusal> {
-        self.may_count()?;
-        self.rows.push(Place {
-            values,
-            alive: true,
-        })?;
+    fn append(&mut self, place: u32, values: &Values, begins: bool) {
+        if let Some(row) = self.rows.get_mut(place as usize) {
+            *row = Place {
+                values: *values,
+                alive: true,
+            };
+        }
+        self.len = place.saturating_add(1);
         self.edits = self.edits.wrapping_add(1);
         for column in 0..COLUMNS {
             if begins {
@@ -141,107 +144,102 @@ impl Plain {
                 self.write(index(column, place / SIZE));
             }
         }
-        Ok(())
-    }
-
-    // A row finds room and is appended.
-    fn append_all(&mut self, place: u32, values: Values, begins: bool) -> Result<(), Refusal> {
-        self.reserve_all(place, &values, begins)?;
-        self.append(place, values, begins)
-    }
-
-    // A row group more or less, whose objects have no list yet.
-    fn begin_group(&mut self) -> Result<(), Refusal> {
-        for _ in 0..COLUMNS {
-            self.objects.push(NEW)?;
-        }
-        Ok(())
-    }
-
-    fn unbegin_group(&mut self) {
-        for _ in 0..COLUMNS {
-            let _none = self.objects.pop();
-        }
     }
 
     /// A row more.
-    pub fn insert(&mut self, values: Values, width: u32) -> Result<Due, Refusal> {
-        may_be_row(&values, width)?;
-        let place = self.len();
-        if place >= PLACES {
-            return Err(Refusal::TableFull);
+    pub fn insert(&mut self, values: &Values, width: u32) -> Due {
+        match self.insert_refusal(values, width) {
+            Some(refusal) => Due::Refused(refusal),
+            None => self.insert_at(self.len, values),
         }
-        self.here(place / SIZE)?;
-        self.may_hold(place, &values)?;
-        self.insert_at(place, values)
     }
 
-    fn insert_at(&mut self, place: u32, values: Values) -> Result<Due, Refusal> {
-        let begins = place % SIZE == 0;
+    // Why a row is not inserted, whatever room there is.
+    fn insert_refusal(&self, values: &Values, width: u32) -> Option<Refusal> {
+        let refusal = row_refusal(values, width);
+        if refusal.is_some() {
+            return refusal;
+        }
+        if self.len >= PLACES {
+            return Some(Refusal::TableFull);
+        }
+        let away = self.here(self.len / SIZE);
+        if away.is_some() {
+            return away;
+        }
+        self.long_refusal(self.len, values)
+    }
+
+    // A row finds room, where it begins a row group for objects that have no list yet, and is appended.
+    fn insert_at(&mut self, place: u32, values: &Values) -> Due {
+        let (begins, made) = (place % SIZE == 0, self.made);
         if begins {
-            self.begin_group()?;
+            self.made = made.saturating_add(COLUMNS as usize);
         }
-        match self.append_all(place, values, begins) {
-            Ok(()) => Ok(Due::Place(place)),
-            Err(refusal) => {
+        let refusal = if self.reserve_all(place, values, begins) {
+            self.count_refusal()
+        } else {
+            Some(Refusal::RegionFull)
+        };
+        match refusal {
+            None => {
+                self.append(place, values, begins);
+                Due::Place(place)
+            }
+            Some(refusal) => {
                 self.give_up();
-                if begins {
-                    self.unbegin_group();
-                }
-                Err(refusal)
+                self.made = made;
+                Due::Refused(refusal)
             }
         }
     }
 
-    // Whether a place may be edited.
-    fn may_edit(&self, place: u32) -> Result<Place, Refusal> {
+    // Why a place is not edited.
+    fn edit_refusal(&self, place: u32) -> Option<Refusal> {
         match self.place(place) {
-            None => Err(Refusal::NoRow),
-            Some(row) if !row.alive => Err(Refusal::RemovedRow),
-            Some(row) => {
-                self.here(place / SIZE)?;
-                Ok(row)
-            }
+            None => Some(Refusal::NoRow),
+            Some(row) if !row.alive => Some(Refusal::RemovedRow),
+            Some(_) => self.here(place / SIZE),
         }
     }
 
-    // Whether a text finds room, and one more edit is accepted.
-    fn may_place(&mut self, o: usize, kind: Kind, len: u32) -> Result<(), Refusal> {
+    // Why a text finds no room, or one more edit is not accepted.
+    fn place_refusal(&mut self, o: usize, kind: Kind, len: u32) -> Option<Refusal> {
         if kind == Kind::Text && len > self.limits.text_size {
-            return Err(Refusal::ChunkFull);
+            return Some(Refusal::ChunkFull);
         }
         if kind == Kind::Text && !self.reserve(o, kind, len) {
-            return Err(Refusal::RegionFull);
+            return Some(Refusal::RegionFull);
         }
-        self.may_count()
+        self.count_refusal()
     }
 
     /// Another value of a column at a place.
-    pub fn set(&mut self, place: u32, column: u32, value: Value) -> Result<(), Refusal> {
+    pub fn set(&mut self, place: u32, column: u32, value: Value) -> Option<Refusal> {
         let Some(kind) = KINDS.get(column as usize).copied() else {
-            return Err(Refusal::NoColumn);
+            return Some(Refusal::NoColumn);
         };
         if !is_of_kind(value, kind) {
-            return Err(Refusal::WrongKind);
+            return Some(Refusal::WrongKind);
         }
-        self.may_edit(place)?;
+        let refusal = self.edit_refusal(place);
+        if refusal.is_some() {
+            return refusal;
+        }
         self.set_at(place, column, kind, value)
     }
 
-    fn set_at(&mut self, place: u32, column: u32, kind: Kind, value: Value) -> Result<(), Refusal> {
+    fn set_at(&mut self, place: u32, column: u32, kind: Kind, value: Value) -> Option<Refusal> {
         let o = index(column, place / SIZE);
         let len = self.list_len(column, place / SIZE, place, value);
-        match self.may_place(o, kind, len) {
-            Ok(()) => {
-                self.put(place, column, value);
-                self.write(o);
-                Ok(())
-            }
-            Err(refusal) => {
-                self.give_up();
-                Err(refusal)
-            }
+        let refusal = self.place_refusal(o, kind, len);
+        if refusal.is_some() {
+            self.give_up();
+        } else {
+            self.put(place, column, value);
+            self.write(o);
         }
+        refusal
     }
 
     // A place has this value, and an edit more was accepted.
@@ -255,13 +253,18 @@ impl Plain {
     }
 
     /// A place is dead from now on.
-    pub fn remove(&mut self, place: u32) -> Result<(), Refusal> {
-        self.may_edit(place)?;
-        self.may_count()?;
-        self.edits = self.edits.wrapping_add(1);
-        if let Some(row) = self.rows.get_mut(place as usize) {
-            row.alive = false;
+    pub fn remove(&mut self, place: u32) -> Option<Refusal> {
+        let refusal = self.edit_refusal(place);
+        if refusal.is_some() {
+            return refusal;
         }
-        Ok(())
+        let refusal = self.count_refusal();
+        if refusal.is_none() {
+            self.edits = self.edits.wrapping_add(1);
+            if let Some(row) = self.rows.get_mut(place as usize) {
+                row.alive = false;
+            }
+        }
+        refusal
     }
 }

@@ -5,10 +5,12 @@ use super::plain::{Due, Plain};
 use far_frame::JobKind;
 use far_types::{Kind, Refusal};
 
-/// What a job rests on, and whether it was carried. An offloaded build is of an aggregate and a row group, the others of an object.
+/// What a job rests on, and whether it is spent or was carried. An offloaded build is of an aggregate and a row group, the others of
+/// an object.
 #[derive(Clone, Copy)]
 pub struct Job {
     pub kind: JobKind,
+    pub spent: bool,
     pub carried: bool,
     pub column: u32,
     pub group: u32,
@@ -25,8 +27,10 @@ pub struct Job {
     pub alive: [Option<bool>; 3],
 }
 
-const NOTHING: Job = Job {
+/// A job that is spent.
+pub const SPENT: Job = Job {
     kind: JobKind::Evac,
+    spent: true,
     carried: false,
     column: 0,
     group: 0,
@@ -39,64 +43,72 @@ const NOTHING: Job = Job {
     alive: [None; 3],
 };
 
+/// How many of the last jobs are kept. No step names one before them.
+const KEPT: u64 = 8;
+
 // A job on an object.
 fn on(object: &Object, kind: JobKind, column: u32, group: u32) -> Job {
     Job {
         kind,
+        spent: false,
         column,
         group,
         version: object.version,
         leavings: object.leavings,
         ticket: object.ticket,
-        ..NOTHING
+        ..SPENT
     }
 }
 
 impl Plain {
-    /// How many jobs were begun.
-    pub fn begun(&self) -> u64 {
-        self.jobs.len() as u64
-    }
-
     /// The step that ends the job of a number by its kind.
     pub fn end_of(&self, n: u64) -> Call {
-        match self.job(n) {
-            Ok(job) => match job.kind {
-                JobKind::Evac => Call::Commit(n),
-                JobKind::Fetch => Call::Install(n),
-                JobKind::Offload => Call::Merge(n),
-            },
-            Err(_) => Call::Commit(n),
+        match self.job(n).kind {
+            JobKind::Evac => Call::Commit(n),
+            JobKind::Fetch => Call::Install(n),
+            JobKind::Offload => Call::Merge(n),
         }
+    }
+
+    // Whether the job of a number is kept.
+    fn is_kept(&self, n: u64) -> bool {
+        n < self.begun && self.begun.wrapping_sub(n) <= KEPT
     }
 
     // The job of a number.
-    fn job(&self, n: u64) -> Result<Job, Refusal> {
-        match self.jobs.get(n as usize) {
-            Some(Some(job)) => Ok(*job),
-            _ => Err(Refusal::StaleJob),
+    fn job(&self, n: u64) -> Job {
+        match self.jobs.get((n % KEPT) as usize) {
+            Some(job) if self.is_kept(n) => *job,
+            _ => SPENT,
         }
     }
 
-    fn put_job(&mut self, n: u64, job: Option<Job>) {
-        if let Some(old) = self.jobs.get_mut(n as usize) {
+    fn put_job(&mut self, n: u64, job: Job) {
+        if !self.is_kept(n) {
+            return;
+        }
+        if let Some(old) = self.jobs.get_mut((n % KEPT) as usize) {
             *old = job;
         }
     }
 
     // One job more.
-    fn add(&mut self, job: Job) -> Result<Due, Refusal> {
-        let n = self.begun();
+    fn add(&mut self, job: Job) -> Due {
+        let n = self.begun;
         if n >= self.limits.edits {
-            return Err(Refusal::EditsUsedUp);
+            return Due::Refused(Refusal::EditsUsedUp);
         }
-        self.jobs.push(Some(job))?;
-        Ok(Due::Job(n))
+        self.begun = n.wrapping_add(1);
+        self.put_job(n, job);
+        Due::Job(n)
     }
 
     /// An evacuation begins.
-    pub fn evac(&mut self, column: u32, group: u32) -> Result<Due, Refusal> {
-        let object = self.local(column, group)?;
+    pub fn evac(&mut self, column: u32, group: u32) -> Due {
+        if let Some(refusal) = self.away(column, group) {
+            return Due::Refused(refusal);
+        }
+        let object = self.object(column, group);
         let mut job = on(&object, JobKind::Evac, column, group);
         if object.dirty {
             job.ticket = None;
@@ -105,37 +117,61 @@ impl Plain {
     }
 
     /// A fetch begins.
-    pub fn fetch(&mut self, column: u32, group: u32) -> Result<Due, Refusal> {
-        let object = self.find(column, group)?;
+    pub fn fetch(&mut self, column: u32, group: u32) -> Due {
+        if let Some(refusal) = self.missing(column, group) {
+            return Due::Refused(refusal);
+        }
+        let object = self.object(column, group);
         if object.part.is_some() {
-            return Err(Refusal::StaleJob);
+            return Due::Refused(Refusal::StaleJob);
         }
         self.add(on(&object, JobKind::Fetch, column, group))
     }
 
+    // Whether a place is alive; none where there is no such place.
+    fn flag(&self, place: u32) -> Option<bool> {
+        match self.place(place) {
+            Some(row) => Some(row.alive),
+            None => None,
+        }
+    }
+
     // Whether each place of a row group is alive.
     fn flags(&self, group: u32) -> [Option<bool>; 3] {
-        let mut flags = [None; 3];
-        for (flag, at) in flags.iter_mut().zip(0..SIZE) {
-            let place = group.saturating_mul(SIZE).saturating_add(at);
-            *flag = self.place(place).map(|row| row.alive);
-        }
-        flags
+        let first = group.saturating_mul(SIZE);
+        [
+            self.flag(first),
+            self.flag(first.saturating_add(1)),
+            self.flag(first.saturating_add(2)),
+        ]
     }
 
     // The number under which the store has a row group of a column as it is now.
-    fn copy(&self, column: u32, group: u32) -> Result<u64, Refusal> {
-        let object = self.find(column, group)?;
-        match object.ticket {
-            Some(ticket) if !object.dirty => Ok(ticket),
-            _ => Err(Refusal::StaleJob),
-        }
+    fn copy(&self, column: u32, group: u32) -> Option<u64> {
+        let object = self.object(column, group);
+        if object.dirty { None } else { object.ticket }
     }
 
-    /// A build that may be offloaded.
-    pub fn may_offload(&self, a: u32, group: u32) -> Result<Job, Refusal> {
-        let aggregate = self.may_build(a, group)?;
-        let mut job = NOTHING;
+    /// Why a build is not offloaded.
+    pub fn offload_refusal(&self, a: u32, group: u32) -> Option<Refusal> {
+        let refusal = self.build_refusal(a, group);
+        if refusal.is_some() {
+            return refusal;
+        }
+        let watched = self.aggregate(a).watched;
+        for column in 0..COLUMNS {
+            if watched.needs(column) && self.copy(column, group).is_none() {
+                return Some(Refusal::StaleJob);
+            }
+        }
+        None
+    }
+
+    // A build that may be offloaded.
+    fn offload_job(&self, a: u32, group: u32) -> Job {
+        let aggregate = self.aggregate(a);
+        let mut job = SPENT;
+        job.spent = false;
         job.kind = JobKind::Offload;
         job.aggregate = a;
         job.group = group;
@@ -143,149 +179,166 @@ impl Plain {
         job.alive = self.flags(group);
         for (ticket, column) in job.tickets.iter_mut().zip(0..COLUMNS) {
             if aggregate.watched.needs(column) {
-                *ticket = Some(self.copy(column, group)?);
+                *ticket = self.copy(column, group);
             }
         }
-        Ok(job)
+        job
     }
 
     /// An offloaded build begins.
-    pub fn offload(&mut self, a: u32, group: u32) -> Result<Due, Refusal> {
-        let job = self.may_offload(a, group)?;
-        self.add(job)
-    }
-
-    // What a carry gives: the number of the content that was read or put.
-    fn carried(&mut self, job: &Job) -> Result<Option<u64>, Refusal> {
-        match (job.kind, job.ticket) {
-            (JobKind::Evac, None) => Ok(Some(self.store.put()?)),
-            (JobKind::Evac, own) => Ok(own),
-            (JobKind::Fetch, own) => {
-                self.store.get()?;
-                Ok(own)
-            }
-            (JobKind::Offload, own) => {
-                self.read_all(job)?;
-                Ok(own)
-            }
+    pub fn offload(&mut self, a: u32, group: u32) -> Due {
+        match self.offload_refusal(a, group) {
+            Some(refusal) => Due::Refused(refusal),
+            None => self.add(self.offload_job(a, group)),
         }
     }
 
-    fn read_all(&mut self, job: &Job) -> Result<(), Refusal> {
+    // Why a job is not carried. Its content is read or put.
+    fn carried(&mut self, job: &mut Job) -> Option<Refusal> {
+        match job.kind {
+            JobKind::Evac if job.ticket.is_some() => None,
+            JobKind::Evac => match self.store.put() {
+                Ok(ticket) => {
+                    job.ticket = Some(ticket);
+                    None
+                }
+                Err(refusal) => Some(refusal),
+            },
+            JobKind::Fetch => self.store.get(),
+            JobKind::Offload => self.read_all(job),
+        }
+    }
+
+    fn read_all(&mut self, job: &Job) -> Option<Refusal> {
         for ticket in job.tickets {
             if ticket.is_some() {
-                self.store.get()?;
+                let refusal = self.store.get();
+                if refusal.is_some() {
+                    return refusal;
+                }
             }
         }
-        Ok(())
+        None
     }
 
     /// The job of a number is carried.
-    pub fn carry(&mut self, n: u64) -> Result<(), Refusal> {
-        let mut job = self.job(n)?;
-        if job.carried {
-            return Err(Refusal::StaleJob);
+    pub fn carry(&mut self, n: u64) -> Option<Refusal> {
+        let mut job = self.job(n);
+        if job.spent || job.carried {
+            return Some(Refusal::StaleJob);
         }
-        job.ticket = self.carried(&job)?;
-        job.carried = true;
-        self.put_job(n, Some(job));
-        Ok(())
+        let refusal = self.carried(&mut job);
+        if refusal.is_none() {
+            job.carried = true;
+            self.put_job(n, job);
+        }
+        refusal
     }
 
-    // The job of a number, if it is of this kind and was carried.
-    fn ready(&self, n: u64, kind: JobKind) -> Result<Job, Refusal> {
-        let job = self.job(n)?;
-        if job.kind != kind || !job.carried {
-            return Err(Refusal::StaleJob);
-        }
-        Ok(job)
+    // Whether the job of a number is of this kind and was carried.
+    fn is_ready(&self, n: u64, kind: JobKind) -> bool {
+        let job = self.job(n);
+        !job.spent && job.kind == kind && job.carried
     }
 
     // The job of a number came to this end.
-    fn ended(&mut self, n: u64, outcome: Result<(), Refusal>) -> Result<(), Refusal> {
-        if outcome == Ok(()) || outcome == Err(Refusal::StaleJob) {
-            self.put_job(n, None);
+    fn ended(&mut self, n: u64, refusal: Option<Refusal>) -> Option<Refusal> {
+        if refusal.is_none() || refusal == Some(Refusal::StaleJob) {
+            self.put_job(n, SPENT);
         }
-        outcome
+        refusal
     }
 
     /// An evacuation ends.
-    pub fn commit(&mut self, n: u64) -> Result<(), Refusal> {
-        let outcome = self.committed(n);
-        self.ended(n, outcome)
+    pub fn commit(&mut self, n: u64) -> Option<Refusal> {
+        let refusal = self.commit_refusal(n);
+        if refusal.is_none() {
+            self.leave(self.job(n));
+        }
+        self.ended(n, refusal)
     }
 
-    fn committed(&mut self, n: u64) -> Result<(), Refusal> {
-        let job = self.ready(n, JobKind::Evac)?;
-        let Ok(mut object) = self.local(job.column, job.group) else {
-            return Err(Refusal::StaleJob);
-        };
-        if object.version != job.version || object.leavings != job.leavings {
-            return Err(Refusal::StaleJob);
+    fn commit_refusal(&self, n: u64) -> Option<Refusal> {
+        let job = self.job(n);
+        let object = self.object(job.column, job.group);
+        let same = object.version == job.version && object.leavings == job.leavings;
+        if !self.is_ready(n, JobKind::Evac) || object.part.is_none() || !same {
+            return Some(Refusal::StaleJob);
         }
         if object.leavings >= self.limits.edits {
-            return Err(Refusal::StaleJob);
+            return Some(Refusal::StaleJob);
         }
         if object.pins > 0 {
-            return Err(Refusal::Pinned);
+            return Some(Refusal::Pinned);
         }
+        None
+    }
+
+    // The object of a job goes away.
+    fn leave(&mut self, job: Job) {
+        let mut object = self.object(job.column, job.group);
         object.part = None;
         object.dirty = false;
         object.hot = false;
         object.leavings = object.leavings.wrapping_add(1);
         object.ticket = job.ticket;
         self.keep(index(job.column, job.group), object);
-        Ok(())
     }
 
     /// A fetch ends.
-    pub fn install(&mut self, n: u64) -> Result<(), Refusal> {
-        let outcome = self.installed(n);
-        self.ended(n, outcome)
+    pub fn install(&mut self, n: u64) -> Option<Refusal> {
+        let refusal = self.installed(n);
+        self.ended(n, refusal)
     }
 
-    fn installed(&mut self, n: u64) -> Result<(), Refusal> {
-        let job = self.ready(n, JobKind::Fetch)?;
-        let mut object = self.find(job.column, job.group)?;
-        if object.part.is_some() || object.leavings != job.leavings {
-            return Err(Refusal::StaleJob);
+    // Why it does not. Its object comes back.
+    fn installed(&mut self, n: u64) -> Option<Refusal> {
+        let job = self.job(n);
+        let mut object = self.object(job.column, job.group);
+        let same = object.part.is_none() && object.leavings == job.leavings;
+        if !self.is_ready(n, JobKind::Fetch) || !same {
+            return Some(Refusal::StaleJob);
         }
         let Some(part) = self.spot(kind_of(job.column), self.len_now(job.column, job.group)) else {
-            return Err(Refusal::RegionFull);
+            return Some(Refusal::RegionFull);
         };
         object.part = Some(part);
         object.dirty = false;
         object.hot = true;
         self.keep(index(job.column, job.group), object);
-        Ok(())
+        None
     }
 
     /// An offloaded build ends.
-    pub fn merge(&mut self, n: u64) -> Result<(), Refusal> {
-        let outcome = self.merged(n);
-        self.ended(n, outcome)
+    pub fn merge(&mut self, n: u64) -> Option<Refusal> {
+        let refusal = self.merge_refusal(n);
+        if refusal.is_none() {
+            let job = self.job(n);
+            self.build(job.aggregate, job.group);
+        }
+        self.ended(n, refusal)
     }
 
     // Whether what a build rests on holds still.
     fn holds(&self, job: &Job) -> bool {
-        match self.may_offload(job.aggregate, job.group) {
-            Ok(now) => {
-                now.registration == job.registration
-                    && now.tickets == job.tickets
-                    && now.alive == job.alive
-            }
-            Err(_) => false,
+        if self.offload_refusal(job.aggregate, job.group).is_some() {
+            return false;
         }
+        let now = self.offload_job(job.aggregate, job.group);
+        now.registration == job.registration && now.tickets == job.tickets && now.alive == job.alive
     }
 
-    fn merged(&mut self, n: u64) -> Result<(), Refusal> {
-        let job = self.ready(n, JobKind::Offload)?;
-        self.aggregate(job.aggregate)?;
-        if !self.holds(&job) {
-            return Err(Refusal::StaleJob);
+    fn merge_refusal(&self, n: u64) -> Option<Refusal> {
+        let job = self.job(n);
+        if !self.is_ready(n, JobKind::Offload) {
+            Some(Refusal::StaleJob)
+        } else if !self.aggregate(job.aggregate).registered {
+            Some(Refusal::NoAggregate)
+        } else if !self.holds(&job) {
+            Some(Refusal::StaleJob)
+        } else {
+            None
         }
-        self.build(job.aggregate, job.group);
-        Ok(())
     }
 }
 

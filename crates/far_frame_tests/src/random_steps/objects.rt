@@ -39,13 +39,6 @@ pub const NEW: Object = Object {
     ticket: None,
 };
 
-impl Object {
-    /// It is clean under this number.
-    pub fn is_under(&self, ticket: Option<u64>) -> bool {
-        !self.dirty && self.ticket == ticket
-    }
-}
-
 // Where the objects of a kind lie, and how many.
 fn segments(limits: &Limits, kind: Kind) -> (u32, u32) {
     match kind {
@@ -73,35 +66,49 @@ pub fn index(column: u32, group: u32) -> usize {
 }
 
 impl Plain {
-    /// The object of a row group of a column.
-    pub fn find(&self, column: u32, group: u32) -> Result<Object, Refusal> {
+    /// Why there is no object of a row group of a column.
+    pub fn missing(&self, column: u32, group: u32) -> Option<Refusal> {
         if column >= COLUMNS {
-            return Err(Refusal::NoColumn);
+            Some(Refusal::NoColumn)
+        } else if index(column, group) >= self.made {
+            Some(Refusal::OutOfRange)
+        } else {
+            None
         }
+    }
+
+    /// The object of a row group of a column; where there is none, what it will be.
+    pub fn object(&self, column: u32, group: u32) -> Object {
         match self.objects.get(index(column, group)) {
-            Some(object) => Ok(*object),
-            None => Err(Refusal::OutOfRange),
+            Some(object) => *object,
+            None => NEW,
         }
     }
 
-    /// It, where it is local.
-    pub fn local(&self, column: u32, group: u32) -> Result<Object, Refusal> {
-        let object = self.find(column, group)?;
-        match object.part {
-            Some(_) => Ok(object),
-            None => Err(Refusal::Absent { column, group }),
+    /// Why it is not local.
+    pub fn away(&self, column: u32, group: u32) -> Option<Refusal> {
+        let missing = self.missing(column, group);
+        if missing.is_some() {
+            return missing;
+        }
+        match self.object(column, group).part {
+            Some(_) => None,
+            None => Some(Refusal::Absent { column, group }),
         }
     }
 
-    /// Whether all objects of a row group are local; one that has no place yet is.
-    pub fn here(&self, group: u32) -> Result<(), Refusal> {
-        if index(0, group) >= self.objects.len() {
-            return Ok(());
+    /// Why some object of a row group is not local; one that has no place yet is.
+    pub fn here(&self, group: u32) -> Option<Refusal> {
+        if index(0, group) >= self.made {
+            return None;
         }
         for column in 0..COLUMNS {
-            self.local(column, group)?;
+            let away = self.away(column, group);
+            if away.is_some() {
+                return away;
+            }
         }
-        Ok(())
+        None
     }
 
     /// Other things are known of an object.
@@ -175,22 +182,29 @@ impl Plain {
     }
 
     /// One pin more.
-    pub fn pin(&mut self, column: u32, group: u32) -> Result<(), Refusal> {
-        let mut object = self.local(column, group)?;
-        object.pins = object.pins.wrapping_add(1);
-        self.keep(index(column, group), object);
-        Ok(())
+    pub fn pin(&mut self, column: u32, group: u32) -> Option<Refusal> {
+        let away = self.away(column, group);
+        if away.is_none() {
+            let mut object = self.object(column, group);
+            object.pins = object.pins.wrapping_add(1);
+            self.keep(index(column, group), object);
+        }
+        away
     }
 
     /// One pin less.
-    pub fn unpin(&mut self, column: u32, group: u32) -> Result<(), Refusal> {
-        let mut object = self.find(column, group)?;
+    pub fn unpin(&mut self, column: u32, group: u32) -> Option<Refusal> {
+        let missing = self.missing(column, group);
+        if missing.is_some() {
+            return missing;
+        }
+        let mut object = self.object(column, group);
         if object.pins == 0 {
-            return Err(Refusal::NotPinned);
+            return Some(Refusal::NotPinned);
         }
         object.pins = object.pins.wrapping_sub(1);
         self.keep(index(column, group), object);
-        Ok(())
+        None
     }
 
     // The lowest segment without parts but this one.
@@ -230,17 +244,17 @@ impl Plain {
     }
 
     /// A segment is compacted into the lowest other one without parts.
-    pub fn compact(&mut self, kind: Kind, segment: u32) -> Result<(), Refusal> {
+    pub fn compact(&mut self, kind: Kind, segment: u32) -> Option<Refusal> {
         let (count, _) = segments(&self.limits, kind);
         if segment >= count {
-            return Err(Refusal::OutOfRange);
+            return Some(Refusal::OutOfRange);
         }
         let Some(to) = self.empty_other(kind, segment) else {
-            return Err(Refusal::RegionFull);
+            return Some(Refusal::RegionFull);
         };
         self.move_all(kind, segment, to, true);
         self.move_all(kind, segment, to, false);
-        Ok(())
+        None
     }
 
     // The objects of a segment are moved, the lowest first.

@@ -1,11 +1,10 @@
-//! A world as plain lists, and what its steps reply.
-use super::aggregates::Aggregate;
-use super::call::{COLUMNS, Call, PLACES, SIZE, Values};
-use super::jobs::Job;
-use super::objects::{Object, index};
+//! A world as plain values, and what its steps reply. It has no memory of its own.
+use super::aggregates::{Aggregate, FREE};
+use super::call::{COLUMNS, Call, SIZE, Value, Values};
+use super::jobs::{Job, SPENT};
+use super::objects::{NEW, Object, index};
 use super::store::Store;
 use far_types::{Limits, Refusal};
-use std::alloc::Global;
 
 /// The reply that is due.
 #[derive(Clone, Copy)]
@@ -37,20 +36,29 @@ pub struct Seen {
     pub last: [i64; 4],
 }
 
-/// All that a step can see or change: the rows, the objects by row group and there by column, what was lent of each column, the
-/// aggregates and jobs by number, and the store.
+/// All that a step can see or change: how many places there are and the rows, how many objects there are and each, by row group and
+/// there by column, what was lent of each column, the aggregates by number, how many jobs were begun and the last of them, and the
+/// store.
 #[derive(Drop)]
 pub struct Plain {
     pub limits: Limits,
-    pub rows: Vec<Place>,
+    pub len: u32,
+    pub rows: [Place; 18],
     pub edits: u64,
-    pub objects: Vec<Object>,
+    pub made: usize,
+    pub objects: [Object; 24],
     pub seen: [Seen; 4],
-    pub aggregates: Vec<Option<Aggregate>>,
+    pub aggregates: [Aggregate; 32],
     pub registrations: u64,
-    pub jobs: Vec<Option<Job>>,
+    pub begun: u64,
+    pub jobs: [Job; 8],
     pub store: Store,
 }
+
+const NO_PLACE: Place = Place {
+    values: [Value::Missing; 4],
+    alive: false,
+};
 
 const UNSEEN: Seen = Seen {
     count: 0,
@@ -59,60 +67,67 @@ const UNSEEN: Seen = Seen {
 
 impl Plain {
     /// No row.
-    pub fn new(alloc: Global, limits: Limits, store: Store) -> Plain {
+    pub fn new(limits: Limits, store: Store) -> Plain {
         Plain {
             limits,
-            rows: Vec::new(alloc),
+            len: 0,
+            rows: [NO_PLACE; 18],
             edits: 0,
-            objects: Vec::new(alloc),
+            made: 0,
+            objects: [NEW; 24],
             seen: [UNSEEN; 4],
-            aggregates: Vec::new(alloc),
+            aggregates: [FREE; 32],
             registrations: 0,
-            jobs: Vec::new(alloc),
+            begun: 0,
+            jobs: [SPENT; 8],
             store,
         }
     }
 
-    /// How many places there are.
-    pub fn len(&self) -> u32 {
-        u32::try_from(self.rows.len()).unwrap_or(PLACES)
-    }
-
     /// How many row groups have a place.
     pub fn groups(&self) -> u32 {
-        self.len().div_ceil(SIZE)
+        self.len.div_ceil(SIZE)
     }
 
     /// The row of a place.
     pub fn place(&self, place: u32) -> Option<Place> {
-        self.rows.get(place as usize).copied()
+        if place < self.len {
+            self.rows.get(place as usize).copied()
+        } else {
+            None
+        }
     }
 
-    // Whether a part of a column can be lent.
-    fn may_lend(&self, column: u32, from: u32, to: u32) -> Result<(), Refusal> {
+    // Why a part of a column is not lent.
+    fn lend_refusal(&self, column: u32, from: u32, to: u32) -> Option<Refusal> {
         if column >= COLUMNS {
-            return Err(Refusal::NoColumn);
+            return Some(Refusal::NoColumn);
         }
-        if from > to || to > self.len() {
-            return Err(Refusal::OutOfRange);
+        if from > to || to > self.len {
+            return Some(Refusal::OutOfRange);
         }
         for group in 0..self.groups() {
             if has_some(group, from, to) {
-                self.local(column, group)?;
+                let away = self.away(column, group);
+                if away.is_some() {
+                    return away;
+                }
             }
         }
-        Ok(())
+        None
     }
 
     /// A part of a column is lent.
-    fn lend(&mut self, column: u32, from: u32, to: u32) -> Result<Due, Refusal> {
-        self.may_lend(column, from, to)?;
+    fn lend(&mut self, column: u32, from: u32, to: u32) -> Due {
+        if let Some(refusal) = self.lend_refusal(column, from, to) {
+            return Due::Refused(refusal);
+        }
         for group in 0..self.groups() {
             if has_some(group, from, to) {
                 self.see(column, group);
             }
         }
-        Ok(Due::Lent(column, from, to))
+        Due::Lent(column, from, to)
     }
 
     // A row group of a column is lent.
@@ -129,7 +144,9 @@ impl Plain {
 
     /// The row groups of a column to fetch next: the n-th of them, from 1 on, if there is one.
     pub fn next(&self, column: u32, n: i64) -> Option<u32> {
-        let seen = self.seen.get(column as usize).copied()?;
+        let Some(seen) = self.seen.get(column as usize) else {
+            return None;
+        };
         let [last, b, c, d] = seen.last;
         let stride = last.wrapping_sub(b);
         if seen.count < 4 || stride == 0 {
@@ -145,17 +162,10 @@ impl Plain {
         }
     }
 
-    fn prefetch(&self, column: u32) -> Result<Due, Refusal> {
-        if column >= COLUMNS {
-            return Err(Refusal::NoColumn);
-        }
-        Ok(Due::Next(column))
-    }
-
-    // What a step replies, but that it is refused.
-    fn served(&mut self, call: Call) -> Result<Due, Refusal> {
+    /// What a step replies.
+    pub fn serve(&mut self, call: Call) -> Due {
         match call {
-            Call::Insert(values, width) => self.insert(values, width),
+            Call::Insert(values, width) => self.insert(&values, width),
             Call::Set(place, column, value) => done(self.set(place, column, value)),
             Call::Remove(place) => done(self.remove(place)),
             Call::Watch(n) => self.watch(n),
@@ -166,13 +176,13 @@ impl Plain {
             Call::Pin(column, group) => done(self.pin(column, group)),
             Call::Unpin(column, group) => done(self.unpin(column, group)),
             Call::Compact(kind, segment) => done(self.compact(kind, segment)),
-            Call::Prefetch(column) => self.prefetch(column),
+            Call::Prefetch(column) => prefetch(column),
             call => self.worked(call),
         }
     }
 
     // What a step of jobs replies.
-    fn worked(&mut self, call: Call) -> Result<Due, Refusal> {
+    fn worked(&mut self, call: Call) -> Due {
         match call {
             Call::Evac(column, group) => self.evac(column, group),
             Call::Fetch(column, group) => self.fetch(column, group),
@@ -181,24 +191,24 @@ impl Plain {
             Call::Commit(n) => done(self.commit(n)),
             Call::Install(n) => done(self.install(n)),
             Call::Merge(n) => done(self.merge(n)),
-            _ => Err(Refusal::OutOfRange),
-        }
-    }
-
-    /// What a step replies. Refused with `NoMemory` (1) alone.
-    pub fn serve(&mut self, call: Call) -> Result<Due, Refusal> {
-        match self.served(call) {
-            Err(Refusal::NoMemory) => Err(Refusal::NoMemory),
-            Err(refusal) => Ok(Due::Refused(refusal)),
-            Ok(due) => Ok(due),
+            _ => Due::Refused(Refusal::OutOfRange),
         }
     }
 }
 
-fn done(outcome: Result<(), Refusal>) -> Result<Due, Refusal> {
-    match outcome {
-        Ok(()) => Ok(Due::Done),
-        Err(refusal) => Err(refusal),
+fn prefetch(column: u32) -> Due {
+    if column >= COLUMNS {
+        Due::Refused(Refusal::NoColumn)
+    } else {
+        Due::Next(column)
+    }
+}
+
+// The reply of a step that says nothing where it is done.
+fn done(refusal: Option<Refusal>) -> Due {
+    match refusal {
+        None => Due::Done,
+        Some(refusal) => Due::Refused(refusal),
     }
 }
 

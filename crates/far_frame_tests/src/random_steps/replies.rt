@@ -1,5 +1,5 @@
 //! Whether replies and tables are as plain lists say.
-use super::aggregates::{Sums, Watched};
+use super::aggregates::{Aggregate, Sums, Watched};
 use super::call::{COLUMNS, KINDS, SIZE, Value, word};
 use super::plain::{Due, Place, Plain};
 use far_frame::{IntPiece, Reply, TextPiece};
@@ -78,10 +78,14 @@ fn is_line_of_all(answer: &Answer, plain: &Plain, watched: &Watched) -> bool {
 
 // Whether the aggregate of a number answers so, over the rows as they are.
 fn is_answer(answer: &Answer, plain: &Plain, a: u32) -> bool {
-    let Ok(aggregate) = plain.aggregate(a) else {
+    let Aggregate {
+        registered: true,
+        watched,
+        ..
+    } = plain.aggregate(a)
+    else {
         return false;
     };
-    let watched = aggregate.watched;
     match watched.key {
         None => is_line_of_all(answer, plain, &watched),
         Some(column) => {
@@ -109,9 +113,13 @@ fn is_number(number: Option<i64>, due: Value) -> bool {
 
 // What is lent of a place: its value in a column, and whether it is alive.
 fn lent(plain: &Plain, column: u32, place: u32) -> Option<(Value, bool)> {
-    let Place { values, alive } = plain.place(place)?;
-    let value = values.get(column as usize).copied()?;
-    Some((value, alive))
+    let Some(row) = plain.place(place) else {
+        return None;
+    };
+    match row.values.get(column as usize) {
+        Some(value) => Some((*value, row.alive)),
+        None => None,
+    }
 }
 
 // Where the piece ends that begins at a place, of the places up to one.

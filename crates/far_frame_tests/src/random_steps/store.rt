@@ -42,13 +42,13 @@ impl Store {
         Ok(number)
     }
 
-    /// A content is read.
-    pub fn get(&mut self) -> Result<(), Refusal> {
+    /// A content is read, or why it is not.
+    pub fn get(&mut self) -> Option<Refusal> {
         self.gets = self.gets.wrapping_add(1);
         if self.gets == self.failing_get {
             self.faults = self.faults.wrapping_add(1);
-            return Err(Refusal::FarFault);
+            return Some(Refusal::FarFault);
         }
-        Ok(())
+        None
     }
 }
