@@ -1,0 +1,85 @@
+// How a scene begins: the names of its plan, of its cells and of its store are picked, each by a call.
+ghost use Rattle.std.specs.Prelude.{◌≡◌};
+ghost use Rattle.far_shared.specs.Opening.{AreNamed};
+
+use crate::gates::{Gated, gate_of};
+use crate::plans::plan_of;
+use crate::playing::play_scene;
+use crate::scenes::Scene;
+use far_history::Naming;
+use far_shared::{Made, Plan, Site};
+use far_store::{AgentStore, FarStore};
+use far_types::Refusal;
+use std::alloc::Global;
+use std::marker::Brand;
+use std::sync::Wait;
+use std::thread::Threads;
+
+// How many contents a store takes.
+const CAPACITY: u64 = 16_777_216;
+
+// Whether a scene comes out on a table whose cells and store have these names.
+fn opened<
+    N: Naming + Send + Sync,
+    B: Site + Send + Sync,
+    S: FarStore + Gated,
+    R: Threads + Wait + Sync,
+>(rt: &R, alloc: Global, made: Made<N, S>, store: &S, scene: &Scene) -> Result<bool, Refusal>
+    requires names { AreNamed made B.cells }
+    requires store { S.name store.now ≡ B.store }
+{
+    match made.open::<B>(alloc) {
+        Ok((shared, sessions)) => play_scene(rt, alloc, shared, store, sessions, scene),
+        Err(refusal) => Err(refusal),
+    }
+}
+
+// The same on a table of a plan that has this name.
+fn planned<N: Naming + Send + Sync, S: FarStore + Gated, R: Threads + Wait + Sync>(
+    rt: &R,
+    alloc: Global,
+    plan: Plan,
+    store: &S,
+    scene: &Scene,
+) -> Result<bool, Refusal>
+    requires { plan ≡ N.plan }
+{
+    match plan.make::<N, S>(alloc) {
+        Ok(made) => opened::<N, Brand, S, R>(rt, alloc, made, store, scene),
+        Err(refusal) => Err(refusal),
+    }
+}
+
+// The same over a store that is lent.
+fn staged<S: FarStore + Gated, R: Threads + Wait + Sync>(
+    rt: &R,
+    alloc: Global,
+    store: &S,
+    scene: &Scene,
+) -> Result<bool, Refusal> {
+    match plan_of(alloc, scene.table, scene.roles.len() as u64) {
+        Ok(plan) => planned::<Brand, S, R>(rt, alloc, plan, store, scene),
+        Err(refusal) => Err(refusal),
+    }
+}
+
+// The same over a store of its own.
+fn on_agent<R: Threads + Wait + Sync>(
+    rt: &R,
+    alloc: Global,
+    scene: &Scene,
+) -> Result<bool, Refusal> {
+    match AgentStore::new(rt, alloc, CAPACITY) {
+        Ok(store) => staged(rt, alloc, &gate_of(store, scene.gate), scene),
+        Err(refusal) => Err(refusal),
+    }
+}
+
+// Whether a scene comes out, played a second time where the first found no memory.
+pub fn comes_out<R: Threads + Wait + Sync>(rt: &R, alloc: Global, scene: &Scene) -> bool {
+    let answer = match on_agent(rt, alloc, scene) {
+        Err(Refusal::NoMemory) => on_agent(rt, alloc, scene),
+        answer => answer,
+    };
+    answer == Ok(true)
+}
