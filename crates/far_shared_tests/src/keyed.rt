@@ -102,8 +102,10 @@ fn counts_now<N: Naming, B: Site, S: FarTickets, R: Wait>(
     bells: &Bells,
 ) -> Result<(u64, u64), Refusal> {
     bells.ask();
-    let answer = shared.ask_all(rt, 1)?;
-    Ok((count_under(&answer, "p"), count_under(&answer, "q")))
+    let answer = shared.ask_all(rt, 1);
+    answer.map(|answer: Answer| -> (u64, u64) {
+        (count_under(&answer, "p"), count_under(&answer, "q"))
+    })
 }
 
 // Asks for the totals by key until so many pairs are inserted. Says whether no answer had a second row of a pair without the first,

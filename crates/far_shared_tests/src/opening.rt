@@ -7,7 +7,8 @@ use crate::plans::plan_of;
 use crate::playing::play_scene;
 use crate::scenes::Scene;
 use far_history::Naming;
-use far_shared::{Made, Plan, Site};
+use far_sessions::Session;
+use far_shared::{Made, Plan, Shared, Site};
 use far_store::{AgentStore, FarStore};
 use far_types::Refusal;
 use std::alloc::Global;
@@ -28,10 +29,26 @@ fn opened<
     requires names { AreNamed made B.cells }
     requires store { S.name store.now ≡ B.store }
 {
-    match made.open::<B>(alloc) {
-        Ok((shared, sessions)) => play_scene(rt, alloc, shared, store, sessions, scene),
-        Err(refusal) => Err(refusal),
-    }
+    let opened = made.open::<B>(alloc);
+    opened.and_then(
+        |opened: (Shared<N, B, S>, Vec<Session<B>>)| -> Result<bool, Refusal>
+            requires store { S.name store.now ≡ B.store }
+        {
+            let (shared, sessions) = opened;
+            play_scene(rt, alloc, shared, store, sessions, scene)
+        },
+    )
+}
+
+// Gives the cells of a table and its store their names.
+fn named<N: Naming + Send + Sync, S: FarStore + Gated, R: Threads + Wait + Sync>(
+    rt: &R,
+    alloc: Global,
+    made: Made<N, S>,
+    store: &S,
+    scene: &Scene,
+) -> Result<bool, Refusal> {
+    opened::<N, Brand, S, R>(rt, alloc, made, store, scene)
 }
 
 // The same on a table of a plan that has this name.
@@ -44,10 +61,10 @@ fn planned<N: Naming + Send + Sync, S: FarStore + Gated, R: Threads + Wait + Syn
 ) -> Result<bool, Refusal>
     requires { plan ≡ N.plan }
 {
-    match plan.make::<N, S>(alloc) {
-        Ok(made) => opened::<N, Brand, S, R>(rt, alloc, made, store, scene),
-        Err(refusal) => Err(refusal),
-    }
+    let made = plan.make::<N, S>(alloc);
+    made.and_then(|made: Made<N, S>| -> Result<bool, Refusal> {
+        named(rt, alloc, made, store, scene)
+    })
 }
 
 // The same over a store that is lent.
@@ -57,10 +74,8 @@ fn staged<S: FarStore + Gated, R: Threads + Wait + Sync>(
     store: &S,
     scene: &Scene,
 ) -> Result<bool, Refusal> {
-    match plan_of(alloc, scene.table, scene.roles.len() as u64) {
-        Ok(plan) => planned::<Brand, S, R>(rt, alloc, plan, store, scene),
-        Err(refusal) => Err(refusal),
-    }
+    let plan = plan_of(alloc, scene.table, scene.roles.len() as u64)?;
+    planned::<Brand, S, R>(rt, alloc, plan, store, scene)
 }
 
 // The same over a store of its own.
@@ -69,10 +84,10 @@ fn on_agent<R: Threads + Wait + Sync>(
     alloc: Global,
     scene: &Scene,
 ) -> Result<bool, Refusal> {
-    match AgentStore::new(rt, alloc, CAPACITY) {
-        Ok(store) => staged(rt, alloc, &gate_of(store, scene.gate), scene),
-        Err(refusal) => Err(refusal),
-    }
+    let made = AgentStore::new(rt, alloc, CAPACITY);
+    made.and_then(|store: AgentStore<&R>| -> Result<bool, Refusal> {
+        staged(rt, alloc, &gate_of(store, scene.gate), scene)
+    })
 }
 
 // Whether a scene comes out, played a second time where the first found no memory.

@@ -3,10 +3,10 @@ ghost use Rattle.std.specs.Prelude.{◌≡◌};
 
 use crate::bells::Bells;
 use crate::editing::edit_at_random;
-use crate::ending::ends;
+use crate::ending::{Finale, closes_with_all, finale_of};
 use crate::gates::Gated;
 use crate::keyed::{ask_pairs, insert_pairs};
-use crate::scenes::{Left, Line, NO_ROW, Replied, Role, Scene, Step};
+use crate::scenes::{End, Left, Line, NO_ROW, Replied, Role, Scene, Step};
 use crate::serving::serve;
 use crate::working::{read_beside, work_beside};
 use far_history::Naming;
@@ -21,8 +21,8 @@ use std::thread::{self, Threads};
 // A session that has played its role, and what it says that it left on its home stripe. It is refused where something did not come
 // out as it should.
 #[derive(Drop)]
-pub struct Played<B: Site> {
-    pub session: Session<B>,
+pub struct Played<T> {
+    pub session: T,
     pub left: Result<Left, Refusal>,
 }
 
@@ -127,7 +127,13 @@ fn play<
     B: Site + Send + Sync,
     S: FarStore + Gated,
     R: Threads + Wait + Sync,
->(rt: &R, shared: &Shared<N, B, S>, store: &S, stage: &Stage, mut me: Session<B>) -> Played<B>
+>(
+    rt: &R,
+    shared: &Shared<N, B, S>,
+    store: &S,
+    stage: &Stage,
+    mut me: Session<B>,
+) -> Played<Session<B>>
     requires store { S.name store.now ≡ B.store }
 {
     let role = role_of(&stage.scene, me.number());
@@ -147,13 +153,41 @@ fn play_all<
     store: &S,
     stage: &Stage,
     sessions: Vec<Session<B>>,
-) -> Result<Vec<Played<B>>, AllocError>
+) -> Result<Vec<Played<Session<B>>>, AllocError>
     requires store { S.name store.now ≡ B.store }
 {
-    let play_one = |me: Session<B>| -> Played<B>
+    let play_one = |me: Session<B>| -> Played<Session<B>>
         requires { S.name store.now ≡ B.store }
     { play(rt, shared, store, stage, me) };
     thread::map_vec(rt, sessions, &play_one)
+}
+
+// What comes at the end of a scene, where there was memory for its threads.
+fn ended<T: Drop>(
+    alloc: Global,
+    played: Result<Vec<Played<T>>, AllocError>,
+    end: End,
+) -> Result<Finale<T>, Refusal> {
+    finale_of(alloc, played?, end)
+}
+
+// Plays the roles of all sessions.
+fn play_to_end<
+    N: Naming + Send + Sync,
+    B: Site + Send + Sync,
+    S: FarStore + Gated,
+    R: Threads + Wait + Sync,
+>(
+    rt: &R,
+    shared: &Shared<N, B, S>,
+    store: &S,
+    stage: &Stage,
+    sessions: Vec<Session<B>>,
+) -> Result<Finale<Session<B>>, Refusal>
+    requires store { S.name store.now ≡ B.store }
+{
+    let played = play_all(rt, shared, store, stage, sessions);
+    ended(stage.alloc, played, stage.scene.end)
 }
 
 // Whether a scene comes out.
@@ -177,8 +211,6 @@ pub fn play_scene<
         bells: Bells::new(),
         scene: *scene,
     };
-    match play_all(rt, &shared, store, &stage, sessions) {
-        Ok(played) => ends(rt, alloc, shared, played, scene.end),
-        Err(_) => Err(Refusal::NoMemory),
-    }
+    let finale = play_to_end(rt, &shared, store, &stage, sessions);
+    finale.map(|finale: Finale<Session<B>>| -> bool { closes_with_all(rt, shared, finale) })
 }

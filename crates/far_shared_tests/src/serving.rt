@@ -1,5 +1,5 @@
 // The calls of a session.
-ghost use Rattle.std.specs.Prelude.{◌≡◌};
+ghost use Rattle.std.specs.Prelude.{◌≡◌, IfOk, IfSome};
 ghost use Rattle.far_frame.specs.Jobs.{IsJobAt};
 
 use crate::bells::Bells;
@@ -10,9 +10,9 @@ use crate::workers::run;
 use far_frame::{Job, View};
 use far_history::Naming;
 use far_sessions::{Cells, Session};
-use far_shared::{Shared, Site, Work};
+use far_shared::{Scope, Shared, Site, Work};
 use far_store::{FarStore, FarTickets, Meter};
-use far_types::{Answer, Cell, Edit, Fold};
+use far_types::{Answer, Cell, Edit, Fold, Refusal};
 use std::alloc::Global;
 use std::sync::Wait;
 use std::thread::Threads;
@@ -84,10 +84,8 @@ fn lend<N: Naming, B: Site, S: FarTickets, R: Wait>(
     shared: &Shared<N, B, S>,
     stripe: u32,
 ) -> Replied {
-    match shared.scope(rt, stripe) {
-        Ok(scope) => first_number(&scope.view()),
-        Err(refusal) => Err(refusal),
-    }
+    let scope = shared.scope(rt, stripe);
+    scope.and_then(|scope: Scope<'_, N, B, S>| -> Replied { first_number(&scope.view()) })
 }
 
 // Registers an aggregate of all numbers on all stripes.
@@ -123,10 +121,8 @@ pub fn ask<N: Naming, B: Site, S: FarTickets, R: Wait>(
     shared: &Shared<N, B, S>,
     a: u32,
 ) -> Replied {
-    match shared.ask_all(rt, a) {
-        Ok(answer) => Ok(reply_of(&answer)),
-        Err(refusal) => Err(refusal),
-    }
+    let answer = shared.ask_all(rt, a);
+    answer.map(|answer: Answer| -> Reply { reply_of(&answer) })
 }
 
 // Sends the coldest object of a stripe away.
@@ -180,6 +176,50 @@ pub fn build<N: Naming, B: Site, S: FarStore, R: Wait>(
     }
 }
 
+// What is answered where a job was begun, and `Nothing` where there was nothing to do.
+fn once_begun<J: Drop, F: FnOnce(J) -> Replied + Drop>(
+    begun: Result<Option<J>, Refusal>,
+    go_on: F,
+) -> Replied
+    requires { IfOk begun (λ job. IfSome job (F.pre go_on)) }
+{
+    match begun {
+        Ok(Some(job)) => go_on(job),
+        Ok(None) => Ok(Reply::Nothing),
+        Err(refusal) => Err(refusal),
+    }
+}
+
+// What is answered where a job was carried.
+fn once_carried<J: Drop, F: FnOnce(J) -> Replied + Drop>(
+    carried: Result<J, (Refusal, J)>,
+    go_on: F,
+) -> Replied
+    requires { IfOk carried (F.pre go_on) }
+{
+    match carried {
+        Ok(job) => go_on(job),
+        Err((refusal, _)) => Err(refusal),
+    }
+}
+
+// Ends a carried job of a stripe.
+fn finish<N: Naming, B: Site, S: FarStore, R: Wait>(
+    rt: &R,
+    shared: &Shared<N, B, S>,
+    store: &S,
+    stripe: u32,
+    job: &Job<S>,
+) -> Replied
+    requires store { S.name store.now ≡ B.store }
+    requires here { IsJobAt S.is_of B.store job.now }
+{
+    match shared.finish(rt, stripe, store, job) {
+        Ok(()) => Ok(Reply::Done),
+        Err(refusal) => Err(refusal),
+    }
+}
+
 // Carries a job of a stripe and ends it.
 fn complete<N: Naming, B: Site, S: FarStore, R: Wait>(
     rt: &R,
@@ -193,14 +233,13 @@ fn complete<N: Naming, B: Site, S: FarStore, R: Wait>(
     requires here { IsJobAt S.is_of B.store job }
 {
     let mut meter = Meter::new();
-    let carried = match job.carry(alloc, store, &mut meter) {
-        Ok(carried) => carried,
-        Err((refusal, _)) => return Err(refusal),
-    };
-    match shared.finish(rt, stripe, store, &carried) {
-        Ok(()) => Ok(Reply::Done),
-        Err(refusal) => Err(refusal),
-    }
+    once_carried(
+        job.carry(alloc, store, &mut meter),
+        |carried: Job<S>| -> Replied
+            requires store { S.name store.now ≡ B.store }
+            requires here { IsJobAt S.is_of B.store carried }
+        { finish(rt, shared, store, stripe, &carried) },
+    )
 }
 
 // Begins a work, carries its job and ends it.
@@ -213,11 +252,14 @@ pub fn complete_work<N: Naming, B: Site, S: FarStore, R: Wait>(
 ) -> Replied
     requires store { S.name store.now ≡ B.store }
 {
-    match shared.begin(rt, store, &work) {
-        Ok(Some(job)) => complete(rt, alloc, shared, store, work.stripe(), job),
-        Ok(None) => Ok(Reply::Nothing),
-        Err(refusal) => Err(refusal),
-    }
+    let stripe = work.stripe();
+    once_begun(
+        shared.begin(rt, store, &work),
+        |job: Job<S>| -> Replied
+            requires store { S.name store.now ≡ B.store }
+            requires here { IsJobAt S.is_of B.store job }
+        { complete(rt, alloc, shared, store, stripe, job) },
+    )
 }
 
 // What it answers that something was waited for.
@@ -229,6 +271,13 @@ fn waited(is_so: bool) -> Replied {
     }
 }
 
+// Tells the others, waits until the sessions were told so often, and looks at the first row then.
+fn look_later<S: FarTickets>(view: &View<'_, S>, bells: &Bells, times: u64) -> Replied {
+    bells.ring();
+    let is_told = bells.awaits(times);
+    waited(is_told && view.is_alive(0).is_some())
+}
+
 // Reads a stripe, tells the others, and lets go of the stripe when the sessions were told so often.
 fn hold<N: Naming, B: Site, S: FarTickets, R: Wait>(
     rt: &R,
@@ -237,10 +286,10 @@ fn hold<N: Naming, B: Site, S: FarTickets, R: Wait>(
     stripe: u32,
     times: u64,
 ) -> Replied {
-    let scope = shared.scope(rt, stripe)?;
-    bells.ring();
-    let is_told = bells.awaits(times);
-    waited(is_told && scope.view().is_alive(0).is_some())
+    let scope = shared.scope(rt, stripe);
+    scope.and_then(|scope: Scope<'_, N, B, S>| -> Replied {
+        look_later(&scope.view(), bells, times)
+    })
 }
 
 // Waits for other sessions, or tells them.
