@@ -1,38 +1,11 @@
 // Worked examples of a shared table, as scenes.
 use crate::opening::comes_out;
-use crate::scenes::{End, Gate, Left, NO_ROW, Reply, Role, Scene, Step, Table};
-use far_types::{Name, Refusal};
-
-// The numbers of the first row group.
-const FIRST: Name = Name {
-    column: 0,
-    group: 0,
+use crate::scenes::{
+    AWAY, End, FIRST, Gate, Left, NO_ROW, ROW_OF_5, ROW_OF_6, ROW_OF_7, Reply, Role, Scene, Step,
+    Table,
 };
-
-// They are away.
-const AWAY: Refusal = Refusal::Absent {
-    column: 0,
-    group: 0,
-};
-
-// One row of a number.
-const ROW_OF_5: Left = Left {
-    places: 1,
-    count: 1,
-    sum: 5,
-};
-
-const ROW_OF_6: Left = Left {
-    places: 1,
-    count: 1,
-    sum: 6,
-};
-
-const ROW_OF_7: Left = Left {
-    places: 1,
-    count: 1,
-    sum: 7,
-};
+use far_shared::Work;
+use far_types::Refusal;
 
 const GAUGED: Scene = Scene {
     table: Table::Numbers,
@@ -69,7 +42,7 @@ const FIFTH_STRIPE: Scene = Scene {
         (Step::Evacuate(4), Err(Refusal::OutOfRange)),
         (Step::Fetch(4), Err(Refusal::OutOfRange)),
         (Step::Build(4), Err(Refusal::OutOfRange)),
-        (Step::EvacuateByHand(4), Err(Refusal::OutOfRange)),
+        (Step::ByHand(Work::Evacuate(4)), Err(Refusal::OutOfRange)),
     ])],
     end: End::Leaves([NO_ROW; 4]),
 };
@@ -122,7 +95,7 @@ const BUILT: Scene = Scene {
         (Step::Build(0), Ok(Reply::Done)),
         (Step::Build(0), Ok(Reply::Nothing)),
         (Step::Ask(1), Ok(Reply::Extrema(5, 5))),
-        (Step::EvacuateByHand(0), Ok(Reply::Done)),
+        (Step::ByHand(Work::Evacuate(0)), Ok(Reply::Done)),
         (Step::Ask(0), Ok(Reply::Totals(1, 5))),
         (Step::Ask(2), Err(Refusal::NoAggregate)),
     ])],

@@ -27,6 +27,8 @@ mod scenes;
 #[cfg(test)]
 mod serving;
 #[cfg(test)]
+mod stripes;
+#[cfg(test)]
 mod together;
 #[cfg(test)]
 mod workers;

@@ -47,8 +47,8 @@ pub enum Step {
     Fetch(u32),
     // Builds a row group that is left on a stripe.
     Build(u32),
-    // Begins to send the coldest object of a stripe away, carries the job and ends it.
-    EvacuateByHand(u32),
+    // Begins a work, carries its job and ends it.
+    ByHand(Work),
     // Lets so many threads do these works.
     Run(u32, &'static [Work]),
     // Waits until a put has come to the gate.
@@ -124,6 +124,43 @@ pub const NO_ROW: Left = Left {
     places: 0,
     count: 0,
     sum: 0,
+};
+
+// One row of a number.
+pub const ROW_OF_5: Left = Left {
+    places: 1,
+    count: 1,
+    sum: 5,
+};
+
+pub const ROW_OF_6: Left = Left {
+    places: 1,
+    count: 1,
+    sum: 6,
+};
+
+pub const ROW_OF_7: Left = Left {
+    places: 1,
+    count: 1,
+    sum: 7,
+};
+
+pub const ROW_OF_8: Left = Left {
+    places: 1,
+    count: 1,
+    sum: 8,
+};
+
+// The numbers of the first row group.
+pub const FIRST: Name = Name {
+    column: 0,
+    group: 0,
+};
+
+// They are away.
+pub const AWAY: Refusal = Refusal::Absent {
+    column: 0,
+    group: 0,
 };
 
 // What the four stripes have at the end of a scene.

@@ -344,9 +344,7 @@ pub fn serve<
         Step::Evacuate(stripe) => evacuate(rt, shared, store, stripe),
         Step::Fetch(stripe) => fetch(rt, shared, store, stripe, 0),
         Step::Build(stripe) => build(rt, shared, store, stripe),
-        Step::EvacuateByHand(stripe) => {
-            complete_work(rt, alloc, shared, store, Work::Evacuate(stripe))
-        }
+        Step::ByHand(work) => complete_work(rt, alloc, shared, store, work),
         Step::Run(workers, works) => run(rt, alloc, shared, store, workers, works),
         other => wait_or_tell(rt, shared, store, bells, other),
     }

@@ -2,7 +2,9 @@
 ghost use Rattle.std.specs.Prelude.{◌≡◌};
 
 use crate::opening::comes_out;
-use crate::scenes::{End, Gate, Left, NO_ROW, Replied, Reply, Role, Scene, Step, Table};
+use crate::scenes::{
+    AWAY, End, FIRST, Gate, NO_ROW, ROW_OF_5, Replied, Reply, Role, Scene, Step, Table,
+};
 use far_history::Naming;
 use far_shared::{Background, Shared, Site, Work};
 use far_store::FarStore;
@@ -38,19 +40,6 @@ pub fn run<N: Naming + Send + Sync, B: Site + Send + Sync, S: FarStore, R: Threa
     }
 }
 
-// The numbers of the first row group are away.
-const AWAY: Refusal = Refusal::Absent {
-    column: 0,
-    group: 0,
-};
-
-// One row of the number 5.
-const ROW_OF_5: Left = Left {
-    places: 1,
-    count: 1,
-    sum: 5,
-};
-
 // Each of two threads is given one stripe.
 const EIGHT: &[Work] = &[
     Work::Evacuate(0),
@@ -77,6 +66,16 @@ const SENT_AWAY: Scene = Scene {
         (Step::Lend(0), Err(AWAY)),
         (Step::Lend(1), Err(AWAY)),
         (Step::Ask(0), Ok(Reply::Totals(2, 10))),
+        (
+            Step::Run(1, &[Work::Fetch(1, FIRST)]),
+            Ok(Reply::Worked(1, 0)),
+        ),
+        (Step::Lend(1), Ok(Reply::Lent(5))),
+        (Step::Lend(0), Err(AWAY)),
+        (Step::Watch, Ok(Reply::Number(1))),
+        (Step::Run(1, &[Work::Build(1)]), Ok(Reply::Worked(1, 0))),
+        (Step::Build(1), Ok(Reply::Nothing)),
+        (Step::Ask(1), Err(Refusal::Building(1))),
     ])],
     end: End::Leaves([ROW_OF_5, ROW_OF_5, NO_ROW, NO_ROW]),
 };
