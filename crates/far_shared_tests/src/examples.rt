@@ -7,7 +7,7 @@ use crate::scenes::{
 use far_shared::Work;
 use far_types::Refusal;
 
-const GAUGED: Scene = Scene {
+static GAUGED: Scene = Scene {
     table: Table::Numbers,
     gate: Gate::Open,
     roles: &[Role::Plays(&[
@@ -30,7 +30,7 @@ fn a_gauge_tells_what_its_session_did(rt: HostRuntime) {
 }
 
 // The calls that name a stripe, of which there is no fifth.
-const FIFTH_STRIPE: Scene = Scene {
+static FIFTH_STRIPE: Scene = Scene {
     table: Table::Numbers,
     gate: Gate::Open,
     roles: &[Role::Plays(&[
@@ -52,7 +52,7 @@ fn there_is_no_fifth_stripe(rt: HostRuntime) {
     assert!(rt; comes_out(&rt, rt.alloc(), &FIFTH_STRIPE));
 }
 
-const GAUGED_ABOVE_ZERO: Scene = Scene {
+static GAUGED_ABOVE_ZERO: Scene = Scene {
     table: Table::NumbersAboveZero,
     gate: Gate::Open,
     roles: &[Role::Plays(&[
@@ -85,7 +85,7 @@ fn a_gauge_folds_the_rows_that_its_filter_keeps(rt: HostRuntime) {
     assert!(rt; comes_out(&rt, rt.alloc(), &GAUGED_ABOVE_ZERO));
 }
 
-const BUILT: Scene = Scene {
+static BUILT: Scene = Scene {
     table: Table::Numbers,
     gate: Gate::Open,
     roles: &[Role::Plays(&[
@@ -107,7 +107,7 @@ fn an_aggregate_answers_once_its_row_groups_are_built(rt: HostRuntime) {
     assert!(rt; comes_out(&rt, rt.alloc(), &BUILT));
 }
 
-const BUILT_FAR: Scene = Scene {
+static BUILT_FAR: Scene = Scene {
     table: Table::Numbers,
     gate: Gate::Open,
     roles: &[Role::Plays(&[
@@ -129,7 +129,7 @@ fn a_row_group_that_is_away_is_built_from_the_far_store(rt: HostRuntime) {
 }
 
 // Each session inserts rows on stripes of its own choice.
-const CLOSED: Scene = Scene {
+static CLOSED: Scene = Scene {
     table: Table::Numbers,
     gate: Gate::Open,
     roles: &[
@@ -151,7 +151,7 @@ fn a_missing_session_hands_all_back(rt: HostRuntime) {
 }
 
 // The one session sends away an object whose put is held until the other has set its row.
-const OVERTAKEN: Scene = Scene {
+static OVERTAKEN: Scene = Scene {
     table: Table::Numbers,
     gate: Gate::Released,
     roles: &[
@@ -177,7 +177,7 @@ fn an_edit_that_overtakes_an_evacuation_makes_it_stale(rt: HostRuntime) {
 }
 
 // The put of the one session is held until that of the other begins.
-const PAIRED: Scene = Scene {
+static PAIRED: Scene = Scene {
     table: Table::Numbers,
     gate: Gate::Paired,
     roles: &[
@@ -201,7 +201,7 @@ fn two_sessions_put_at_once(rt: HostRuntime) {
 }
 
 // The one put is held until it is a fault.
-const ALONE: Scene = Scene {
+static ALONE: Scene = Scene {
     table: Table::Numbers,
     gate: Gate::Paired,
     roles: &[Role::Plays(&[
@@ -219,7 +219,7 @@ fn a_fault_of_the_store_leaves_the_object_where_it_is(rt: HostRuntime) {
 }
 
 // The one session reads a stripe, and does not let go of it before the other has edited another and read the gauge of this one.
-const HELD: Scene = Scene {
+static HELD: Scene = Scene {
     table: Table::Numbers,
     gate: Gate::Open,
     roles: &[

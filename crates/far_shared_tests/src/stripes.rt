@@ -8,7 +8,7 @@ use far_shared::Work;
 use far_types::Refusal;
 
 // Objects are sent away and brought back by single calls.
-const MOVED: Scene = Scene {
+static MOVED: Scene = Scene {
     table: Table::Numbers,
     gate: Gate::Open,
     roles: &[Role::Plays(&[
@@ -52,7 +52,7 @@ fn each_stripe_has_its_own_rows_and_objects(rt: HostRuntime) {
 }
 
 // The same by jobs that are begun, carried and ended.
-const MOVED_BY_HAND: Scene = Scene {
+static MOVED_BY_HAND: Scene = Scene {
     table: Table::Numbers,
     gate: Gate::Open,
     roles: &[Role::Plays(&[
@@ -87,7 +87,7 @@ fn a_job_ends_on_the_stripe_that_it_was_begun_on(rt: HostRuntime) {
 }
 
 // Extrema are built by scans on each stripe, and others from the far store's copies.
-const ASKED: Scene = Scene {
+static ASKED: Scene = Scene {
     table: Table::Numbers,
     gate: Gate::Open,
     roles: &[Role::Plays(&[
@@ -138,7 +138,7 @@ fn an_aggregate_answers_over_four_stripes_once_each_is_built(rt: HostRuntime) {
 }
 
 // The gauge and 31 more.
-const FILLED: Scene = Scene {
+static FILLED: Scene = Scene {
     table: Table::Numbers,
     gate: Gate::Open,
     roles: &[Role::Plays(&[

@@ -3,7 +3,7 @@ use crate::opening::comes_out;
 use crate::scenes::{End, Gate, Left, NO_ROW, Role, Scene, Table};
 
 // Four sessions edit, one works beside them, and one reads the gauges.
-const EDITED: Scene = Scene {
+static EDITED: Scene = Scene {
     table: Table::Numbers,
     gate: Gate::Open,
     roles: &[
@@ -23,7 +23,7 @@ fn the_totals_are_those_of_the_accepted_edits_whatever_moves_meanwhile(rt: HostR
 }
 
 // One session inserts pairs of rows, and one asks.
-const PAIRS: Scene = Scene {
+static PAIRS: Scene = Scene {
     table: Table::NumbersWithTexts,
     gate: Gate::Open,
     roles: &[Role::InsertsPairs(100), Role::AsksPairs(100)],

@@ -52,7 +52,7 @@ const EIGHT: &[Work] = &[
     Work::Evacuate(1),
 ];
 
-const SENT_AWAY: Scene = Scene {
+static SENT_AWAY: Scene = Scene {
     table: Table::Numbers,
     gate: Gate::Open,
     roles: &[Role::Plays(&[
@@ -86,7 +86,7 @@ fn workers_send_objects_away_and_no_row_changes(rt: HostRuntime) {
 }
 
 // The put of the one worker is held until that of the other begins.
-const AT_ONCE: Scene = Scene {
+static AT_ONCE: Scene = Scene {
     table: Table::Numbers,
     gate: Gate::Paired,
     roles: &[Role::Plays(&[
@@ -108,7 +108,7 @@ fn two_workers_put_at_once(rt: HostRuntime) {
 }
 
 // A fifth stripe, a column that is not there, and nothing to build.
-const REFUSED: Scene = Scene {
+static REFUSED: Scene = Scene {
     table: Table::Numbers,
     gate: Gate::Open,
     roles: &[Role::Plays(&[(
