@@ -4,19 +4,16 @@
 use crate::playing::Played;
 use crate::scenes::{End, Left, NO_ROW};
 use far_frame::Frame;
-use far_history::Naming;
-use far_sessions::Session;
-use far_shared::{Four, Shared, Site};
+use far_shared::Four;
 use far_store::FarTickets;
 use far_types::Refusal;
 use std::alloc::{AllocError, Global};
-use std::sync::Wait;
 
 // The sessions but for the last, the last, and what the four stripes are to have.
 #[derive(Drop)]
-pub struct Finale<T: Drop> {
-    sessions: Vec<T>,
-    last: T,
+pub struct Finale<P> {
+    sessions: Vec<P>,
+    last: P,
     left: [Left; 4],
 }
 
@@ -26,76 +23,44 @@ fn has_left<S: FarTickets>(frame: &Frame<S>, left: Left) -> bool {
 }
 
 // Whether four tables have these rows.
-fn have_left<S: FarTickets>(frames: &Four<Frame<S>>, left: &[Left; 4]) -> bool {
+pub fn have_left<S: FarTickets>(frames: &Four<Frame<S>>, left: &[Left; 4]) -> bool {
     has_left(&frames.zero, left[0])
         && has_left(&frames.one, left[1])
         && has_left(&frames.two, left[2])
         && has_left(&frames.three, left[3])
 }
 
-// Whether a shared table is closed with these sessions, and leaves these rows.
-fn closes<N: Naming, B: Site, S: FarTickets, R: Wait>(
-    rt: &R,
-    shared: Shared<N, B, S>,
-    sessions: Vec<Session<B>>,
-    left: &[Left; 4],
-) -> bool {
-    let closed = shared.close(rt, sessions);
-    closed.is_ok_and(|frames: Four<Frame<S>>| -> bool { have_left(&frames, left) })
-}
+// What a shared table and its sessions become when it is closed: what it leaves, or both again.
+type Closed<X, T, P> = Result<X, (Refusal, T, Vec<P>)>;
 
-// A list with one more.
-fn with_last<T: Drop>(mut list: Vec<T>, last: T) -> Result<Vec<T>, AllocError> {
-    list.push(last)?;
-    Ok(list)
-}
-
-// Whether a shared table is closed with these sessions and one more.
-fn closes_with<N: Naming, B: Site, S: FarTickets, R: Wait>(
-    rt: &R,
-    shared: Shared<N, B, S>,
-    sessions: Vec<Session<B>>,
-    last: Session<B>,
-    left: &[Left; 4],
-) -> bool {
-    let all = with_last(sessions, last);
-    all.is_ok_and(|all: Vec<Session<B>>| -> bool { closes(rt, shared, all, left) })
-}
-
-// Whether what is refused with `OutOfRange` is given back, and then comes out.
-fn comes_back<T: Drop, A: Drop, C: Drop, F: FnOnce(A, C) -> bool + Drop>(
-    refused: Result<T, (Refusal, A, C)>,
-    go_on: F,
-) -> bool
-    requires { F.IsAlwaysCallable go_on }
+// Whether a scene comes out: what was opened is played on, is given back where one session is missing, and is closed when that one is
+// there again. Then it leaves what is due.
+pub fn comes_to_end<
+    P: Drop,
+    T: Drop,
+    X: Drop,
+    F: FnOnce(&T, Vec<P>) -> Result<Finale<P>, Refusal> + Drop,
+    G: Fn(T, Vec<P>) -> Closed<X, T, P> + Drop,
+    H: FnOnce(&X, &[Left; 4]) -> bool + Drop,
+>(opened: Result<(T, Vec<P>), Refusal>, play: F, close: G, has_left: H) -> Result<bool, Refusal>
+    requires play { F.IsAlwaysCallable play }
+    requires close { G.IsAlwaysCallable close }
+    requires left { H.IsAlwaysCallable has_left }
 {
-    match refused {
-        Err((Refusal::OutOfRange, one, other)) => go_on(one, other),
-        _ => false,
+    let (shared, sessions) = opened?;
+    let finale = play(&shared, sessions)?;
+    let Err((Refusal::OutOfRange, shared, mut sessions)) = close(shared, finale.sessions) else {
+        return Ok(false);
+    };
+    sessions.push(finale.last)?;
+    match close(shared, sessions) {
+        Ok(tables) => Ok(has_left(&tables, &finale.left)),
+        Err(_) => Ok(false),
     }
 }
 
-// Whether a shared table comes back with its sessions where one is missing, and is closed when it is there again.
-pub fn closes_with_all<N: Naming, B: Site, S: FarTickets, R: Wait>(
-    rt: &R,
-    shared: Shared<N, B, S>,
-    finale: Finale<Session<B>>,
-) -> bool {
-    let Finale {
-        sessions,
-        last,
-        left,
-    } = finale;
-    comes_back(
-        shared.close(rt, sessions),
-        |shared: Shared<N, B, S>, sessions: Vec<Session<B>>| -> bool {
-            closes_with(rt, shared, sessions, last, &left)
-        },
-    )
-}
-
 // What four sessions at least say that they left, in order.
-fn told_of<T>(played: &[Played<T>]) -> [Left; 4] {
+fn told_of<P>(played: &[Played<P>]) -> [Left; 4] {
     match played {
         [zero, one, two, three, ..] => [
             zero.left.unwrap_or(NO_ROW),
@@ -108,15 +73,15 @@ fn told_of<T>(played: &[Played<T>]) -> [Left; 4] {
 }
 
 // What the four stripes are to have.
-fn due_of<T>(played: &[Played<T>], end: End) -> [Left; 4] {
+fn due_of<P>(played: &[Played<P>], end: End) -> [Left; 4] {
     match end {
-        End::Leaves(left) => left,
+        End::Leaves(left) => *left,
         End::LeavesWhatIsTold => told_of(played),
     }
 }
 
 // Refused as the first session is whose role did not come out.
-fn all_came_out<T>(played: &[Played<T>]) -> Result<(), Refusal> {
+fn all_came_out<P>(played: &[Played<P>]) -> Result<(), Refusal> {
     for one in played {
         if let Err(refusal) = one.left {
             return Err(refusal);
@@ -126,7 +91,7 @@ fn all_came_out<T>(played: &[Played<T>]) -> Result<(), Refusal> {
 }
 
 // The sessions that played.
-fn sessions_of<T: Drop>(alloc: Global, played: Vec<Played<T>>) -> Result<Vec<T>, AllocError> {
+fn sessions_of<P: Drop>(alloc: Global, played: Vec<Played<P>>) -> Result<Vec<P>, AllocError> {
     let mut sessions = Vec::with_capacity(alloc, played.len())?;
     for one in played {
         sessions.push(one.session)?;
@@ -135,11 +100,11 @@ fn sessions_of<T: Drop>(alloc: Global, played: Vec<Played<T>>) -> Result<Vec<T>,
 }
 
 // What comes at the end of a scene, once all roles came out.
-pub fn finale_of<T: Drop>(
+pub fn finale_of<P: Drop>(
     alloc: Global,
-    played: Vec<Played<T>>,
+    played: Vec<Played<P>>,
     end: End,
-) -> Result<Finale<T>, Refusal> {
+) -> Result<Finale<P>, Refusal> {
     all_came_out(&played)?;
     let left = due_of(&played, end);
     let mut sessions = sessions_of(alloc, played)?;

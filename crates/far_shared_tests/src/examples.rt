@@ -21,7 +21,7 @@ static GAUGED: Scene = Scene {
         (Step::Set(0, 0, 6), Ok(Reply::Applied(2, 0))),
         (Step::Gauge(0), Ok(Reply::Reading(2, 1, 6))),
     ])],
-    end: End::Leaves([ROW_OF_6, NO_ROW, NO_ROW, NO_ROW]),
+    end: End::Leaves(&[ROW_OF_6, NO_ROW, NO_ROW, NO_ROW]),
 };
 
 #[test]
@@ -44,7 +44,7 @@ static FIFTH_STRIPE: Scene = Scene {
         (Step::Build(4), Err(Refusal::OutOfRange)),
         (Step::ByHand(Work::Evacuate(4)), Err(Refusal::OutOfRange)),
     ])],
-    end: End::Leaves([NO_ROW; 4]),
+    end: End::Leaves(&[NO_ROW; 4]),
 };
 
 #[test]
@@ -68,7 +68,7 @@ static GAUGED_ABOVE_ZERO: Scene = Scene {
         (Step::Remove(2, 1), Ok(Reply::Applied(4, 1))),
         (Step::Gauge(2), Ok(Reply::Reading(4, 1, 3))),
     ])],
-    end: End::Leaves([
+    end: End::Leaves(&[
         NO_ROW,
         NO_ROW,
         Left {
@@ -99,7 +99,7 @@ static BUILT: Scene = Scene {
         (Step::Ask(0), Ok(Reply::Totals(1, 5))),
         (Step::Ask(2), Err(Refusal::NoAggregate)),
     ])],
-    end: End::Leaves([ROW_OF_5, NO_ROW, NO_ROW, NO_ROW]),
+    end: End::Leaves(&[ROW_OF_5, NO_ROW, NO_ROW, NO_ROW]),
 };
 
 #[test]
@@ -120,7 +120,7 @@ static BUILT_FAR: Scene = Scene {
         (Step::Ask(1), Ok(Reply::Extrema(5, 5))),
         (Step::Lend(1), Err(AWAY)),
     ])],
-    end: End::Leaves([NO_ROW, ROW_OF_5, NO_ROW, NO_ROW]),
+    end: End::Leaves(&[NO_ROW, ROW_OF_5, NO_ROW, NO_ROW]),
 };
 
 #[test]
@@ -142,7 +142,7 @@ static CLOSED: Scene = Scene {
             (Step::Insert(3, 5), Ok(Reply::Applied(1, 0))),
         ]),
     ],
-    end: End::Leaves([ROW_OF_5, ROW_OF_7, ROW_OF_6, ROW_OF_5]),
+    end: End::Leaves(&[ROW_OF_5, ROW_OF_7, ROW_OF_6, ROW_OF_5]),
 };
 
 #[test]
@@ -168,7 +168,7 @@ static OVERTAKEN: Scene = Scene {
             (Step::OpenGate, Ok(Reply::Done)),
         ]),
     ],
-    end: End::Leaves([ROW_OF_6, NO_ROW, NO_ROW, NO_ROW]),
+    end: End::Leaves(&[ROW_OF_6, NO_ROW, NO_ROW, NO_ROW]),
 };
 
 #[test]
@@ -192,7 +192,7 @@ static PAIRED: Scene = Scene {
             (Step::Set(1, 0, 1), Err(AWAY)),
         ]),
     ],
-    end: End::Leaves([ROW_OF_5, ROW_OF_7, NO_ROW, NO_ROW]),
+    end: End::Leaves(&[ROW_OF_5, ROW_OF_7, NO_ROW, NO_ROW]),
 };
 
 #[test]
@@ -210,7 +210,7 @@ static ALONE: Scene = Scene {
         (Step::Lend(0), Ok(Reply::Lent(5))),
         (Step::Evacuate(0), Ok(Reply::Object(FIRST))),
     ])],
-    end: End::Leaves([ROW_OF_5, NO_ROW, NO_ROW, NO_ROW]),
+    end: End::Leaves(&[ROW_OF_5, NO_ROW, NO_ROW, NO_ROW]),
 };
 
 #[test]
@@ -234,7 +234,7 @@ static HELD: Scene = Scene {
             (Step::Ring, Ok(Reply::Done)),
         ]),
     ],
-    end: End::Leaves([ROW_OF_5, ROW_OF_7, NO_ROW, NO_ROW]),
+    end: End::Leaves(&[ROW_OF_5, ROW_OF_7, NO_ROW, NO_ROW]),
 };
 
 #[test]

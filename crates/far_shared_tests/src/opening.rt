@@ -2,13 +2,15 @@
 ghost use Rattle.std.specs.Prelude.{◌≡◌};
 ghost use Rattle.far_shared.specs.Opening.{AreNamed};
 
+use crate::ending::{Finale, comes_to_end, have_left};
 use crate::gates::{Gated, gate_of};
 use crate::plans::plan_of;
-use crate::playing::play_scene;
-use crate::scenes::Scene;
+use crate::playing::play_to_end;
+use crate::scenes::{Left, Scene};
+use far_frame::Frame;
 use far_history::Naming;
 use far_sessions::Session;
-use far_shared::{Made, Plan, Shared, Site};
+use far_shared::{Four, Made, Plan, Shared, Site};
 use far_store::{AgentStore, FarStore};
 use far_types::Refusal;
 use std::alloc::Global;
@@ -29,14 +31,16 @@ fn opened<
     requires names { AreNamed made B.cells }
     requires store { S.name store.now ≡ B.store }
 {
-    let opened = made.open::<B>(alloc);
-    opened.and_then(
-        |opened: (Shared<N, B, S>, Vec<Session<B>>)| -> Result<bool, Refusal>
+    comes_to_end(
+        made.open::<B>(alloc),
+        |shared: &Shared<N, B, S>, sessions: Vec<Session<B>>| -> Result<Finale<Session<B>>, Refusal>
             requires store { S.name store.now ≡ B.store }
-        {
-            let (shared, sessions) = opened;
-            play_scene(rt, alloc, shared, store, sessions, scene)
-        },
+        { play_to_end(rt, alloc, shared, store, sessions, scene) },
+        |shared: Shared<N, B, S>, sessions: Vec<Session<B>>| -> Result<
+            Four<Frame<S>>,
+            (Refusal, Shared<N, B, S>, Vec<Session<B>>),
+        > { shared.close(rt, sessions) },
+        |frames: &Four<Frame<S>>, left: &[Left; 4]| -> bool { have_left(frames, left) },
     )
 }
 

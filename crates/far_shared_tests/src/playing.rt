@@ -3,7 +3,7 @@ ghost use Rattle.std.specs.Prelude.{◌≡◌};
 
 use crate::bells::Bells;
 use crate::editing::edit_at_random;
-use crate::ending::{Finale, closes_with_all, finale_of};
+use crate::ending::{Finale, finale_of};
 use crate::gates::Gated;
 use crate::keyed::{ask_pairs, insert_pairs};
 use crate::scenes::{End, Left, Line, NO_ROW, Replied, Role, Scene, Step};
@@ -21,8 +21,8 @@ use std::thread::{self, Threads};
 // A session that has played its role, and what it says that it left on its home stripe. It is refused where something did not come
 // out as it should.
 #[derive(Drop)]
-pub struct Played<T> {
-    pub session: T,
+pub struct Played<P> {
+    pub session: P,
     pub left: Result<Left, Refusal>,
 }
 
@@ -163,35 +163,16 @@ fn play_all<
 }
 
 // What comes at the end of a scene, where there was memory for its threads.
-fn ended<T: Drop>(
+fn ended<P: Drop>(
     alloc: Global,
-    played: Result<Vec<Played<T>>, AllocError>,
+    played: Result<Vec<Played<P>>, AllocError>,
     end: End,
-) -> Result<Finale<T>, Refusal> {
+) -> Result<Finale<P>, Refusal> {
     finale_of(alloc, played?, end)
 }
 
 // Plays the roles of all sessions.
-fn play_to_end<
-    N: Naming + Send + Sync,
-    B: Site + Send + Sync,
-    S: FarStore + Gated,
-    R: Threads + Wait + Sync,
->(
-    rt: &R,
-    shared: &Shared<N, B, S>,
-    store: &S,
-    stage: &Stage,
-    sessions: Vec<Session<B>>,
-) -> Result<Finale<Session<B>>, Refusal>
-    requires store { S.name store.now ≡ B.store }
-{
-    let played = play_all(rt, shared, store, stage, sessions);
-    ended(stage.alloc, played, stage.scene.end)
-}
-
-// Whether a scene comes out.
-pub fn play_scene<
+pub fn play_to_end<
     N: Naming + Send + Sync,
     B: Site + Send + Sync,
     S: FarStore + Gated,
@@ -199,11 +180,11 @@ pub fn play_scene<
 >(
     rt: &R,
     alloc: Global,
-    shared: Shared<N, B, S>,
+    shared: &Shared<N, B, S>,
     store: &S,
     sessions: Vec<Session<B>>,
     scene: &Scene,
-) -> Result<bool, Refusal>
+) -> Result<Finale<Session<B>>, Refusal>
     requires store { S.name store.now ≡ B.store }
 {
     let stage = Stage {
@@ -211,6 +192,6 @@ pub fn play_scene<
         bells: Bells::new(),
         scene: *scene,
     };
-    let finale = play_to_end(rt, &shared, store, &stage, sessions);
-    finale.map(|finale: Finale<Session<B>>| -> bool { closes_with_all(rt, shared, finale) })
+    let played = play_all(rt, shared, store, &stage, sessions);
+    ended(alloc, played, scene.end)
 }

@@ -167,7 +167,7 @@ pub const AWAY: Refusal = Refusal::Absent {
 #[derive(Clone, Copy)]
 pub enum End {
     // These rows.
-    Leaves([Left; 4]),
+    Leaves(&'static [Left; 4]),
     // The rows that the first four sessions tell, one each.
     LeavesWhatIsTold,
 }

@@ -43,7 +43,7 @@ static MOVED: Scene = Scene {
         (Step::Fetch(2), Ok(Reply::Done)),
         (Step::Lend(2), Ok(Reply::Lent(7))),
     ])],
-    end: End::Leaves([ROW_OF_5, ROW_OF_6, ROW_OF_7, ROW_OF_8]),
+    end: End::Leaves(&[ROW_OF_5, ROW_OF_6, ROW_OF_7, ROW_OF_8]),
 };
 
 #[test]
@@ -78,7 +78,7 @@ static MOVED_BY_HAND: Scene = Scene {
         (Step::ByHand(Work::Fetch(2, FIRST)), Ok(Reply::Done)),
         (Step::Lend(2), Ok(Reply::Lent(7))),
     ])],
-    end: End::Leaves([ROW_OF_5, ROW_OF_6, ROW_OF_7, ROW_OF_8]),
+    end: End::Leaves(&[ROW_OF_5, ROW_OF_6, ROW_OF_7, ROW_OF_8]),
 };
 
 #[test]
@@ -129,7 +129,7 @@ static ASKED: Scene = Scene {
         (Step::Ask(2), Ok(Reply::Extrema(5, 8))),
         (Step::Ask(1), Ok(Reply::Extrema(5, 8))),
     ])],
-    end: End::Leaves([ROW_OF_5, ROW_OF_6, ROW_OF_7, ROW_OF_8]),
+    end: End::Leaves(&[ROW_OF_5, ROW_OF_6, ROW_OF_7, ROW_OF_8]),
 };
 
 #[test]
@@ -178,7 +178,7 @@ static FILLED: Scene = Scene {
         (Step::Ask(32), Err(Refusal::NoAggregate)),
         (Step::Ask(4_294_967_295), Err(Refusal::NoAggregate)),
     ])],
-    end: End::Leaves([NO_ROW; 4]),
+    end: End::Leaves(&[NO_ROW; 4]),
 };
 
 #[test]

@@ -27,7 +27,7 @@ static PAIRS: Scene = Scene {
     table: Table::NumbersWithTexts,
     gate: Gate::Open,
     roles: &[Role::InsertsPairs(100), Role::AsksPairs(100)],
-    end: End::Leaves([HUNDRED, HUNDRED, NO_ROW, NO_ROW]),
+    end: End::Leaves(&[HUNDRED, HUNDRED, NO_ROW, NO_ROW]),
 };
 
 // A hundred rows of the number 1.

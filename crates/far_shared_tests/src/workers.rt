@@ -77,7 +77,7 @@ static SENT_AWAY: Scene = Scene {
         (Step::Build(1), Ok(Reply::Nothing)),
         (Step::Ask(1), Err(Refusal::Building(1))),
     ])],
-    end: End::Leaves([ROW_OF_5, ROW_OF_5, NO_ROW, NO_ROW]),
+    end: End::Leaves(&[ROW_OF_5, ROW_OF_5, NO_ROW, NO_ROW]),
 };
 
 #[test]
@@ -99,7 +99,7 @@ static AT_ONCE: Scene = Scene {
         (Step::Set(0, 0, 1), Err(AWAY)),
         (Step::Set(1, 0, 1), Err(AWAY)),
     ])],
-    end: End::Leaves([ROW_OF_5, ROW_OF_5, NO_ROW, NO_ROW]),
+    end: End::Leaves(&[ROW_OF_5, ROW_OF_5, NO_ROW, NO_ROW]),
 };
 
 #[test]
@@ -128,7 +128,7 @@ static REFUSED: Scene = Scene {
         ),
         Ok(Reply::Worked(1, 2)),
     )])],
-    end: End::Leaves([NO_ROW; 4]),
+    end: End::Leaves(&[NO_ROW; 4]),
 };
 
 #[test]
