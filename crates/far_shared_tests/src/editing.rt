@@ -33,12 +33,17 @@ struct Rows {
     edits: u64,
 }
 
+// How many places a list has.
+fn places_in(numbers: &[Option<i64>]) -> u32 {
+    u32::try_from(numbers.len()).unwrap_or(u32::MAX)
+}
+
 // The next edit of a list of so many places.
-fn draw(draws: &mut Draws, len: usize) -> Call {
+fn draw(draws: &mut Draws, places: u32) -> Call {
     let kind = draws.below(8);
     let number = i64::from(draws.below(2_000_001)).wrapping_sub(1_000_000);
-    let place = draws.below(len as u32);
-    if kind < 5 || len == 0 {
+    let place = draws.below(places);
+    if kind < 5 || places == 0 {
         Call::Insert(number)
     } else if kind < 7 {
         Call::Set(place, number)
@@ -62,7 +67,7 @@ fn edit_of(alloc: Global, call: Call) -> Result<Edit, AllocError> {
 // The place of an edit on a list.
 fn place_of(rows: &Rows, call: Call) -> u32 {
     match call {
-        Call::Insert(_) => rows.numbers.len() as u32,
+        Call::Insert(_) => places_in(&rows.numbers),
         Call::Set(place, _) => place,
         Call::Remove(place) => place,
     }
@@ -102,7 +107,7 @@ fn left_of(numbers: &[Option<i64>]) -> Left {
         }
     }
     Left {
-        places: numbers.len() as u32,
+        places: places_in(numbers),
         count,
         sum,
     }
@@ -211,7 +216,7 @@ fn edit_all<N: Naming, B: Site, S: FarStore, R: Wait>(
         edits: 0,
     };
     for _ in 0..edits {
-        let call = draw(&mut draws, rows.numbers.len());
+        let call = draw(&mut draws, places_in(&rows.numbers));
         edit_both(rt, alloc, shared, store, me, home, call, &mut rows)?;
     }
     as_gauged(rt, shared.cells(), me, home, &rows)
