@@ -10,7 +10,7 @@ use crate::workers::run;
 use far_frame::{Job, View};
 use far_history::Naming;
 use far_sessions::{Cells, Session};
-use far_shared::{Scope, Shared, Site, Work};
+use far_shared::{Shared, Site, Work};
 use far_store::{FarStore, FarTickets, Meter};
 use far_types::{Answer, Cell, Edit, Fold, Refusal};
 use std::alloc::Global;
@@ -84,8 +84,10 @@ fn lend<N: Naming, B: Site, S: FarTickets, R: Wait>(
     shared: &Shared<N, B, S>,
     stripe: u32,
 ) -> Replied {
-    let scope = shared.scope(rt, stripe);
-    scope.and_then(|scope: Scope<'_, N, B, S>| -> Replied { first_number(&scope.view()) })
+    match shared.scope(rt, stripe) {
+        Ok(scope) => first_number(&scope.view()),
+        Err(refusal) => Err(refusal),
+    }
 }
 
 // Registers an aggregate of all numbers on all stripes.
@@ -286,10 +288,10 @@ fn hold<N: Naming, B: Site, S: FarTickets, R: Wait>(
     stripe: u32,
     times: u64,
 ) -> Replied {
-    let scope = shared.scope(rt, stripe);
-    scope.and_then(|scope: Scope<'_, N, B, S>| -> Replied {
-        look_later(&scope.view(), bells, times)
-    })
+    match shared.scope(rt, stripe) {
+        Ok(scope) => look_later(&scope.view(), bells, times),
+        Err(refusal) => Err(refusal),
+    }
 }
 
 // Waits for other sessions, or tells them.
