@@ -4,10 +4,13 @@
 use crate::playing::Played;
 use crate::scenes::{End, Left, NO_ROW};
 use far_frame::Frame;
-use far_shared::Four;
+use far_history::Naming;
+use far_sessions::Session;
+use far_shared::{Four, Shared, Site};
 use far_store::FarTickets;
 use far_types::Refusal;
 use std::alloc::{AllocError, Global};
+use std::sync::Wait;
 
 // The sessions but for the last, the last, and what the four stripes are to have.
 #[derive(Drop)]
@@ -23,7 +26,7 @@ fn has_left<S: FarTickets>(frame: &Frame<S>, left: Left) -> bool {
 }
 
 // Whether four tables have these rows.
-pub fn have_left<S: FarTickets>(frames: &Four<Frame<S>>, left: &[Left; 4]) -> bool {
+fn have_left<S: FarTickets>(frames: &Four<Frame<S>>, left: &[Left; 4]) -> bool {
     has_left(&frames.zero, left[0])
         && has_left(&frames.one, left[1])
         && has_left(&frames.two, left[2])
@@ -33,22 +36,19 @@ pub fn have_left<S: FarTickets>(frames: &Four<Frame<S>>, left: &[Left; 4]) -> bo
 // What a shared table and its sessions become when it is closed: what it leaves, or both again.
 type Closed<X, T, P> = Result<X, (Refusal, T, Vec<P>)>;
 
-// Whether a scene comes out: what was opened is played on, is given back where one session is missing, and is closed when that one is
-// there again. Then it leaves what is due.
-pub fn comes_to_end<
+// Whether a table that was played on is given back where one session is missing, is closed when that one is there again, and leaves
+// what is due then.
+fn comes_to_end<
     P: Drop,
     T: Drop,
     X: Drop,
-    F: FnOnce(&T, Vec<P>) -> Result<Finale<P>, Refusal> + Drop,
-    G: Fn(T, Vec<P>) -> Closed<X, T, P> + Drop,
-    H: FnOnce(&X, &[Left; 4]) -> bool + Drop,
->(opened: Result<(T, Vec<P>), Refusal>, play: F, close: G, has_left: H) -> Result<bool, Refusal>
-    requires play { F.IsAlwaysCallable play }
-    requires close { G.IsAlwaysCallable close }
-    requires left { H.IsAlwaysCallable has_left }
+    F: Fn(T, Vec<P>) -> Closed<X, T, P> + Drop,
+    G: FnOnce(&X, &[Left; 4]) -> bool + Drop,
+>(shared: T, finale: Result<Finale<P>, Refusal>, close: F, has_left: G) -> Result<bool, Refusal>
+    requires close { F.IsAlwaysCallable close }
+    requires left { G.IsAlwaysCallable has_left }
 {
-    let (shared, sessions) = opened?;
-    let finale = play(&shared, sessions)?;
+    let finale = finale?;
     let Err((Refusal::OutOfRange, shared, mut sessions)) = close(shared, finale.sessions) else {
         return Ok(false);
     };
@@ -57,6 +57,23 @@ pub fn comes_to_end<
         Ok(tables) => Ok(has_left(&tables, &finale.left)),
         Err(_) => Ok(false),
     }
+}
+
+// The same of four stripes.
+pub fn ends<N: Naming, B: Site, S: FarTickets, R: Wait>(
+    rt: &R,
+    shared: Shared<N, B, S>,
+    finale: Result<Finale<Session<B>>, Refusal>,
+) -> Result<bool, Refusal> {
+    comes_to_end(
+        shared,
+        finale,
+        |shared: Shared<N, B, S>, sessions: Vec<Session<B>>| -> Result<
+            Four<Frame<S>>,
+            (Refusal, Shared<N, B, S>, Vec<Session<B>>),
+        > { shared.close(rt, sessions) },
+        |frames: &Four<Frame<S>>, left: &[Left; 4]| -> bool { have_left(frames, left) },
+    )
 }
 
 // What four sessions at least say that they left, in order.

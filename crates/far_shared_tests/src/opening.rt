@@ -2,15 +2,13 @@
 ghost use Rattle.std.specs.Prelude.{◌≡◌};
 ghost use Rattle.far_shared.specs.Opening.{AreNamed};
 
-use crate::ending::{Finale, comes_to_end, have_left};
+use crate::ending::ends;
 use crate::gates::{Gated, gate_of};
 use crate::plans::plan_of;
 use crate::playing::play_to_end;
-use crate::scenes::{Left, Scene};
-use far_frame::Frame;
+use crate::scenes::Scene;
 use far_history::Naming;
-use far_sessions::Session;
-use far_shared::{Four, Made, Plan, Shared, Site};
+use far_shared::{Made, Plan, Site};
 use far_store::{AgentStore, FarStore};
 use far_types::Refusal;
 use std::alloc::Global;
@@ -31,17 +29,11 @@ fn opened<
     requires names { AreNamed made B.cells }
     requires store { S.name store.now ≡ B.store }
 {
-    comes_to_end(
-        made.open::<B>(alloc),
-        |shared: &Shared<N, B, S>, sessions: Vec<Session<B>>| -> Result<Finale<Session<B>>, Refusal>
-            requires store { S.name store.now ≡ B.store }
-        { play_to_end(rt, alloc, shared, store, sessions, scene) },
-        |shared: Shared<N, B, S>, sessions: Vec<Session<B>>| -> Result<
-            Four<Frame<S>>,
-            (Refusal, Shared<N, B, S>, Vec<Session<B>>),
-        > { shared.close(rt, sessions) },
-        |frames: &Four<Frame<S>>, left: &[Left; 4]| -> bool { have_left(frames, left) },
-    )
+    let Ok((shared, sessions)) = made.open::<B>(alloc) else {
+        return Err(Refusal::NoMemory);
+    };
+    let finale = play_to_end(rt, alloc, &shared, store, sessions, scene);
+    ends(rt, shared, finale)
 }
 
 // Gives the cells of a table and its store their names.
