@@ -1,0 +1,96 @@
+// How a scene begins: the names of its plan, of its cells and of its store are picked, each by a call.
+ghost use Rattle.std.specs.Prelude.{◌≡◌};
+ghost use Rattle.far_shared.specs.Opening.{AreNamed};
+
+use crate::ending::ends;
+use crate::gates::{Gated, gate_of};
+use crate::plans::plan_of;
+use crate::playing::play_to_end;
+use crate::scenes::Scene;
+use far_history::Naming;
+use far_shared::{Made, Plan, Site};
+use far_store::{AgentStore, FarStore};
+use far_types::Refusal;
+use std::alloc::Global;
+use std::marker::Brand;
+use std::sync::Wait;
+use std::thread::Threads;
+
+// How many contents a store takes.
+const CAPACITY: u64 = 16_777_216;
+
+// Whether a scene comes out on a table whose cells and store have these names.
+fn opened<
+    N: Naming + Send + Sync,
+    B: Site + Send + Sync,
+    S: FarStore + Gated,
+    R: Threads + Wait + Sync,
+>(rt: &R, alloc: Global, made: Made<N, S>, store: &S, scene: &Scene) -> Result<bool, Refusal>
+    requires names { AreNamed made B.cells }
+    requires store { S.name store.now ≡ B.store }
+{
+    let Ok((shared, sessions)) = made.open::<B>(alloc) else {
+        return Err(Refusal::NoMemory);
+    };
+    let finale = play_to_end(rt, alloc, &shared, store, sessions, scene);
+    ends(rt, shared, finale)
+}
+
+// Gives the cells of a table and its store their names.
+fn named<N: Naming + Send + Sync, S: FarStore + Gated, R: Threads + Wait + Sync>(
+    rt: &R,
+    alloc: Global,
+    made: Made<N, S>,
+    store: &S,
+    scene: &Scene,
+) -> Result<bool, Refusal> {
+    opened::<N, Brand, S, R>(rt, alloc, made, store, scene)
+}
+
+// The same on a table of a plan that has this name.
+fn planned<N: Naming + Send + Sync, S: FarStore + Gated, R: Threads + Wait + Sync>(
+    rt: &R,
+    alloc: Global,
+    plan: Plan,
+    store: &S,
+    scene: &Scene,
+) -> Result<bool, Refusal>
+    requires { plan ≡ N.plan }
+{
+    let made = plan.make::<N, S>(alloc);
+    made.and_then(|made: Made<N, S>| -> Result<bool, Refusal> {
+        named(rt, alloc, made, store, scene)
+    })
+}
+
+// The same over a store that is lent.
+fn staged<S: FarStore + Gated, R: Threads + Wait + Sync>(
+    rt: &R,
+    alloc: Global,
+    store: &S,
+    scene: &Scene,
+) -> Result<bool, Refusal> {
+    let plan = plan_of(alloc, scene.table, scene.roles.len() as u64)?;
+    planned::<Brand, S, R>(rt, alloc, plan, store, scene)
+}
+
+// The same over a store of its own.
+fn on_agent<R: Threads + Wait + Sync>(
+    rt: &R,
+    alloc: Global,
+    scene: &Scene,
+) -> Result<bool, Refusal> {
+    let made = AgentStore::new(rt, alloc, CAPACITY);
+    made.and_then(|store: AgentStore<&R>| -> Result<bool, Refusal> {
+        staged(rt, alloc, &gate_of(store, scene.gate), scene)
+    })
+}
+
+// Whether a scene comes out, played a second time where the first found no memory.
+pub fn comes_out<R: Threads + Wait + Sync>(rt: &R, alloc: Global, scene: &Scene) -> bool {
+    let answer = match on_agent(rt, alloc, scene) {
+        Err(Refusal::NoMemory) => on_agent(rt, alloc, scene),
+        answer => answer,
+    };
+    answer == Ok(true)
+}

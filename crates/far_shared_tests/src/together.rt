@@ -1,0 +1,43 @@
+// Sessions that edit at once, beside work in the background and readers.
+use crate::opening::comes_out;
+use crate::scenes::{End, Gate, Left, NO_ROW, Role, Scene, Table};
+
+// Four sessions edit, one works beside them, and one reads the gauges.
+static EDITED: Scene = Scene {
+    table: Table::Numbers,
+    gate: Gate::Open,
+    roles: &[
+        Role::Edits(10_000),
+        Role::Edits(10_000),
+        Role::Edits(10_000),
+        Role::Edits(10_000),
+        Role::Works(4),
+        Role::Reads(4),
+    ],
+    end: End::LeavesWhatIsTold,
+};
+
+#[test]
+fn the_totals_are_those_of_the_accepted_edits_whatever_moves_meanwhile(rt: HostRuntime) {
+    assert!(rt; comes_out(&rt, rt.alloc(), &EDITED));
+}
+
+// One session inserts pairs of rows, and one asks.
+static PAIRS: Scene = Scene {
+    table: Table::NumbersWithTexts,
+    gate: Gate::Open,
+    roles: &[Role::InsertsPairs(100), Role::AsksPairs(100)],
+    end: End::Leaves(&[HUNDRED, HUNDRED, NO_ROW, NO_ROW]),
+};
+
+// A hundred rows of the number 1.
+const HUNDRED: Left = Left {
+    places: 100,
+    count: 100,
+    sum: 100,
+};
+
+#[test]
+fn an_answer_over_all_stripes_never_shows_a_later_row_without_the_earlier(rt: HostRuntime) {
+    assert!(rt; comes_out(&rt, rt.alloc(), &PAIRS));
+}
