@@ -1,6 +1,4 @@
 // How a scene ends: the table is closed, first without one of its sessions.
-//
-// What takes a table or a session out of a result knows nothing of what it is: to know it would cost the proof of a function minutes.
 use crate::playing::Played;
 use crate::scenes::{End, Left, NO_ROW};
 use far_frame::Frame;
@@ -33,47 +31,67 @@ fn have_left<S: FarTickets>(frames: &Four<Frame<S>>, left: &[Left; 4]) -> bool {
         && has_left(&frames.three, left[3])
 }
 
-// What a shared table and its sessions become when it is closed: what it leaves, or both again.
-type Closed<X, T, P> = Result<X, (Refusal, T, Vec<P>)>;
-
-// Whether a table that was played on is given back where one session is missing, is closed when that one is there again, and leaves
-// what is due then.
-fn comes_to_end<
-    P: Drop,
-    T: Drop,
-    X: Drop,
-    F: Fn(T, Vec<P>) -> Closed<X, T, P> + Drop,
-    G: FnOnce(&X, &[Left; 4]) -> bool + Drop,
->(shared: T, finale: Result<Finale<P>, Refusal>, close: F, has_left: G) -> Result<bool, Refusal>
-    requires close { F.IsAlwaysCallable close }
-    requires left { G.IsAlwaysCallable has_left }
-{
-    let finale = finale?;
-    let Err((Refusal::OutOfRange, shared, mut sessions)) = close(shared, finale.sessions) else {
-        return Ok(false);
-    };
-    sessions.push(finale.last)?;
-    match close(shared, sessions) {
-        Ok(tables) => Ok(has_left(&tables, &finale.left)),
-        Err(_) => Ok(false),
+// Whether a shared table is closed with these sessions, and leaves these rows.
+fn closes<N: Naming, B: Site, S: FarTickets, R: Wait>(
+    rt: &R,
+    shared: Shared<N, B, S>,
+    sessions: Vec<Session<B>>,
+    left: &[Left; 4],
+) -> bool {
+    match shared.close(rt, sessions) {
+        Ok(frames) => have_left(&frames, left),
+        Err(_) => false,
     }
 }
 
-// The same of four stripes.
+// A list with one more.
+fn with_last<P: Drop>(mut list: Vec<P>, last: P) -> Result<Vec<P>, AllocError> {
+    list.push(last)?;
+    Ok(list)
+}
+
+// Whether a shared table is closed with these sessions, where there was memory for their list.
+fn closes_with<N: Naming, B: Site, S: FarTickets, R: Wait>(
+    rt: &R,
+    shared: Shared<N, B, S>,
+    sessions: Result<Vec<Session<B>>, AllocError>,
+    left: &[Left; 4],
+) -> bool {
+    match sessions {
+        Ok(sessions) => closes(rt, shared, sessions, left),
+        Err(_) => false,
+    }
+}
+
+// Whether a shared table comes back with its sessions where one is missing, and is closed when it is there again.
+fn closes_with_all<N: Naming, B: Site, S: FarTickets, R: Wait>(
+    rt: &R,
+    shared: Shared<N, B, S>,
+    finale: Finale<Session<B>>,
+) -> bool {
+    let Finale {
+        sessions,
+        last,
+        left,
+    } = finale;
+    match shared.close(rt, sessions) {
+        Err((Refusal::OutOfRange, shared, sessions)) => {
+            closes_with(rt, shared, with_last(sessions, last), &left)
+        }
+        _ => false,
+    }
+}
+
+// The same, once all roles came out.
 pub fn ends<N: Naming, B: Site, S: FarTickets, R: Wait>(
     rt: &R,
     shared: Shared<N, B, S>,
     finale: Result<Finale<Session<B>>, Refusal>,
 ) -> Result<bool, Refusal> {
-    comes_to_end(
-        shared,
-        finale,
-        |shared: Shared<N, B, S>, sessions: Vec<Session<B>>| -> Result<
-            Four<Frame<S>>,
-            (Refusal, Shared<N, B, S>, Vec<Session<B>>),
-        > { shared.close(rt, sessions) },
-        |frames: &Four<Frame<S>>, left: &[Left; 4]| -> bool { have_left(frames, left) },
-    )
+    match finale {
+        Ok(finale) => Ok(closes_with_all(rt, shared, finale)),
+        Err(refusal) => Err(refusal),
+    }
 }
 
 // What four sessions at least say that they left, in order.
