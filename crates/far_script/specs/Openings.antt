@@ -1,9 +1,10 @@
 -- The first line of a script.
-use Rattle.std.specs.Prelude.{ℕ, ◌≤◌, ⊤, max, nat_le, ◌&&◌, List, [], ◌∷◌, Option, None, Some, option_map, option_and_then, is_none, codes, if◌then◌else◌}
+use Rattle.std.specs.Prelude.{ℕ, ◌≤◌, ⊤, nat_le, ◌&&◌, List, [], ◌∷◌, Option, None, Some, option_map, option_and_then, is_none, codes, if◌then◌else◌}
 use Rattle.std.specs.List.{slice_split}
 use Rattle.far_types.specs.declared.cell.Kind.{Kind}
 use Rattle.far_types.specs.declared.cell.Kind.TheVariants as kind
 use Rattle.far_types.specs.declared.limits.Limits.{Limits}
+use Rattle.far_types.specs.Bounds.{usual_limits}
 use Rattle.far_script.specs.declared.opening.FirstLine.{FirstLine}
 use Rattle.far_script.specs.declared.opening.FirstLine.TheVariants as line
 use Rattle.far_script.specs.OneRecord.{is_comma}
@@ -22,10 +23,6 @@ kinds_named (name ∷ names) = option_and_then (λ kind. option_map (λ kinds. k
 
 abbrev pub kinds_of : List ℕ → Option (List Kind)
 kinds_of word = kinds_named (slice_split is_comma word)
-
--- the limits of a line that names none
-abbrev pub usual_limits : ℕ → Limits
-usual_limits g = record { group = g; places = 16777216; edits = 1099511627776; int_segments = 64; int_size = max g 4096; text_segments = 64; text_size = 65536 }
 
 -- PLACES EDITS INT_SEGMENTS INT_SIZE TEXT_SEGMENTS TEXT_SIZE
 abbrev pub given_limits : ℕ → Option (List ℕ) → Option Limits

@@ -2,7 +2,7 @@
 ghost use Rattle.std.specs.Prelude.{◌≡◌, ◌≤◌, ◌++◌, IfOk, IfErr, IfSome, option_map, option_and_then, Some, None};
 ghost use Rattle.std.specs.List.{slice_split};
 ghost use Rattle.far_script.specs.OneRecord.{is_comma};
-ghost use Rattle.far_script.specs.Openings.{kind_named, kinds_named, kinds_of, usual_limits, given_limits, limits_of, opening_in, between, threads_in, start_in, start_of, IsWithin};
+ghost use Rattle.far_script.specs.Openings.{kind_named, kinds_named, kinds_of, given_limits, limits_of, opening_in, between, threads_in, start_in, start_of, IsWithin};
 
 use super::words::Words;
 use far_types::{Kind, Limits, Refusal};
@@ -74,21 +74,6 @@ fn read_kinds(alloc: Global, word: &str) -> Result<Option<Vec<Kind>>, Refusal>
     }
 }
 
-/// The limits of a line that names none.
-fn usual_limits(group: u32) -> Limits
-    ensures { result ≡ usual_limits group }
-{
-    Limits {
-        group,
-        places: 16_777_216,
-        edits: 1_099_511_627_776,
-        int_segments: 64,
-        int_size: group.max(4096),
-        text_segments: 64,
-        text_size: 65_536,
-    }
-}
-
 fn given_limits(group: u32, mut words: Words) -> Option<Limits>
     ensures { result ≡ given_limits group words.entry }
 {
@@ -113,7 +98,7 @@ fn read_limits(group: u32, words: Words) -> Option<Limits>
     ensures { result ≡ limits_of group words.entry }
 {
     if words.is_empty() {
-        Some(usual_limits(group))
+        Some(Limits::in_groups_of(group))
     } else {
         given_limits(group, words)
     }

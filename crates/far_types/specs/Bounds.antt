@@ -1,5 +1,5 @@
 -- What a schema, limits and an aggregate's specification may be.
-use Rattle.std.specs.Prelude.{ℕ, ◌≤◌, ◌^◌, ◌==◌, Bool, true, false, not, ◌&&◌, ◌||◌, nat_lt, List, [], ◌∷◌, length, Option, None, Some, slice_get}
+use Rattle.std.specs.Prelude.{ℕ, ◌≤◌, ◌^◌, ◌==◌, Bool, true, false, not, ◌&&◌, ◌||◌, nat_lt, max, List, [], ◌∷◌, length, Option, None, Some, slice_get}
 use Rattle.std.specs.Option.{option_map_or}
 use Rattle.std.specs.List.{list_any, list_all}
 use Rattle.far_types.specs.declared.cell.Kind.{Kind}
@@ -32,6 +32,10 @@ pub record AreLimits (limits : Limits) : Type 0 where
   pub text_segments_high : limits.text_segments ≤ 1024
   pub text_size_low : 64 ≤ limits.text_size
   pub text_size_high : limits.text_size ≤ 16777216
+
+-- the limits of a table for which none are named, in row groups of g places
+abbrev pub usual_limits : ℕ → Limits
+usual_limits g = record { group = g; places = 16777216; edits = 1099511627776; int_segments = 64; int_size = max g 4096; text_segments = 64; text_size = 65536 }
 
 -- the column that a test looks at
 abbrev pub column_of : Test → ℕ

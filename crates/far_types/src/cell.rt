@@ -34,3 +34,25 @@ impl Cell {
         }
     }
 }
+
+impl From<i64> for Cell {
+    ghost use Rattle.std.specs.Prelude.{◌≡◌};
+    ghost use Rattle.far_types.specs.declared.cell.Cell.TheVariants.{Int};
+
+    ghost from_gives = { λ number cell. cell ≡ Int number };
+
+    fn from(number: i64) -> Cell {
+        Cell::Int(number)
+    }
+}
+
+impl From<Text> for Cell {
+    ghost use Rattle.std.specs.Prelude.{◌≡◌};
+    ghost use Rattle.far_types.specs.declared.cell.Cell.TheVariants.{Text};
+
+    ghost from_gives = { λ text cell. cell ≡ Text text };
+
+    fn from(text: Text) -> Cell {
+        Cell::Text(text)
+    }
+}

@@ -97,3 +97,25 @@ impl Ord for Key {
         }
     }
 }
+
+impl From<i64> for Key {
+    ghost use Rattle.std.specs.Prelude.{◌≡◌};
+    ghost use Rattle.far_types.specs.declared.key.Key.TheVariants.{Int};
+
+    ghost from_gives = { λ number key. key ≡ Int number };
+
+    fn from(number: i64) -> Key {
+        Key::Int(number)
+    }
+}
+
+impl From<Text> for Key {
+    ghost use Rattle.std.specs.Prelude.{◌≡◌};
+    ghost use Rattle.far_types.specs.declared.key.Key.TheVariants.{Text};
+
+    ghost from_gives = { λ text key. key ≡ Text text };
+
+    fn from(text: Text) -> Key {
+        Key::Text(text)
+    }
+}

@@ -23,7 +23,23 @@ pub struct Limits {
 }
 
 impl Limits {
-    ghost use Rattle.far_types.specs.Bounds.{AreLimits};
+    ghost use Rattle.far_types.specs.Bounds.{AreLimits, usual_limits};
+
+    /// The usual limits, in row groups of so many places: as many rows as a table may have, 64 segments of 4,096 numbers, or of a row
+    /// group where that is more, and 64 segments of 65,536 bytes of texts.
+    pub fn in_groups_of(group: u32) -> Limits
+        ensures { result ≡ usual_limits group }
+    {
+        Limits {
+            group,
+            places: 16_777_216,
+            edits: 1_099_511_627_776,
+            int_segments: 64,
+            int_size: group.max(4_096),
+            text_segments: 64,
+            text_size: 65_536,
+        }
+    }
 
     /// Whether a table may have these limits. Refused with `BadSchema` (2) exactly where one is out of its bounds.
     /// Takes no memory.
@@ -56,5 +72,17 @@ impl Limits {
             return Err(Refusal::BadSchema);
         }
         Ok(())
+    }
+}
+
+/// The usual limits, in row groups of 64 places.
+impl Default for Limits {
+    ghost use Rattle.std.specs.Prelude.{◌≡◌};
+    ghost use Rattle.far_types.specs.Bounds.{usual_limits};
+
+    ghost is_default = { λ limits. limits ≡ usual_limits 64 };
+
+    fn default() -> Limits {
+        Limits::in_groups_of(64)
     }
 }

@@ -1,5 +1,5 @@
 // What an aggregate computes.
-ghost use Rattle.std.specs.Prelude.{◌≡◌, ◌↔◌, IsTrue, ◌==◌, IfOk, IfErr, OnOk, nat_lt, length, slice_get, Some, None};
+ghost use Rattle.std.specs.Prelude.{◌≡◌, ◌↔◌, IsTrue, ◌==◌, IfOk, IfErr, OnOk, nat_lt, length, slice_get, Some, None, [], ◌∷◌, ◌++◌};
 ghost use Rattle.std.specs.List.{list_any, list_all};
 ghost use Rattle.far_types.specs.Bounds.{has_its_kind, has_long_constant, column_of};
 
@@ -7,6 +7,7 @@ use super::cell::Kind;
 use super::filter::{Filter, Test};
 use super::refusal::Refusal;
 use super::schema::Schema;
+use std::alloc::Global;
 
 /// What an aggregate makes of the values under each key.
 #[derive(Clone, Copy, Debug, PartialEq, Eq)]
@@ -77,6 +78,72 @@ fn are_within(tests: &[Test], columns: usize) -> bool
 
 impl Spec {
     ghost use Rattle.far_types.specs.Bounds.{needs, is_within, spec_refusal};
+
+    /// How many values a column of numbers has, and their sum, over all rows. Takes no memory.
+    ///
+    /// `Spec::totals(alloc, 1).by(0)` is the same under each key of column 0.
+    pub fn totals(alloc: Global, value: u32) -> Spec
+        ensures { result ≡ record { fold = Fold.Totals; value = value; key = None; filter = [] } }
+    {
+        Spec::of_all(alloc, Fold::Totals, value)
+    }
+
+    /// The least and the greatest value of a column of numbers, over all rows. Takes no memory.
+    pub fn extrema(alloc: Global, value: u32) -> Spec
+        ensures { result ≡ record { fold = Fold.Extrema; value = value; key = None; filter = [] } }
+    {
+        Spec::of_all(alloc, Fold::Extrema, value)
+    }
+
+    fn of_all(alloc: Global, fold: Fold, value: u32) -> Spec
+        ensures { result ≡ record { fold = fold; value = value; key = None; filter = [] } }
+    {
+        Spec {
+            fold,
+            value,
+            key: None,
+            filter: Filter::new(Vec::new(alloc)),
+        }
+    }
+
+    /// The same under each key of a column. Takes no memory.
+    pub fn by(self, key: u32) -> Spec
+        ensures { result ≡ record self { key = Some key } }
+    {
+        let Spec {
+            fold,
+            value,
+            key: _,
+            filter,
+        } = self;
+        Spec {
+            fold,
+            value,
+            key: Some(key),
+            filter,
+        }
+    }
+
+    /// The same over the rows alone that pass this test too. Refused with `NoMemory` (1) alone.
+    pub fn only(self, test: Test) -> Result<Spec, Refusal>
+        ensures test { IfOk result (λ spec. spec ≡ record self { filter = self.filter ++ test ∷ [] }) }
+        ensures memory { IfErr result (λ e. e ≡ Refusal.NoMemory) }
+    {
+        let Spec {
+            fold,
+            value,
+            key,
+            filter,
+        } = self;
+        let mut tests = filter.into_tests();
+        tests.push(test)?;
+        Ok(Spec {
+            fold,
+            value,
+            key,
+            filter: Filter::new(tests),
+        })
+    }
 
     /// Whether the aggregate needs a column: that of a test, of its key or of its value. Takes no memory.
     pub fn needs(&self, column: u32) -> bool

@@ -1,6 +1,6 @@
 // In which order an aggregate is checked.
 use crate::samples::{schema, spec};
-use far_types::Refusal;
+use far_types::{Fold, Op, Refusal, Spec, Test};
 use std::alloc::Global;
 use std::test::Fail;
 
@@ -8,6 +8,25 @@ use std::test::Fail;
 fn checked(alloc: Global, value: u32, column: u32, tests: u32) -> Result<(), Refusal> {
     let schema = schema(alloc)?;
     spec(alloc, value, column, tests)?.check(&schema)
+}
+
+/// The totals of column 1 by column 0, over the rows whose number there is 5 or more.
+fn totals_of_many(alloc: Global) -> Result<Spec, Refusal> {
+    let many = Test::Int {
+        column: 1,
+        op: Op::Ge,
+        value: 5,
+    };
+    Spec::totals(alloc, 1).by(0).only(many)
+}
+
+#[test]
+fn an_aggregate_is_made_in_steps(rt: HostRuntime) -> Result<(), Fail> {
+    let spec = totals_of_many(rt.alloc())?;
+    assert!(rt; spec.fold == Fold::Totals && spec.value == 1 && spec.key == Some(0));
+    assert!(rt; spec.filter.as_slice().len() == 1);
+    assert!(rt; Spec::extrema(rt.alloc(), 3).fold == Fold::Extrema);
+    Ok(())
 }
 
 #[test]

@@ -4,15 +4,7 @@ use std::alloc::Global;
 use std::test::Fail;
 
 fn limits() -> Limits {
-    Limits {
-        group: 4,
-        places: 16_777_216,
-        edits: 1_099_511_627_776,
-        int_segments: 64,
-        int_size: 4096,
-        text_segments: 64,
-        text_size: 65_536,
-    }
+    Limits::in_groups_of(4)
 }
 
 fn with_group(group: u32) -> Limits {
@@ -112,4 +104,11 @@ fn a_schema_has_one_to_sixteen_columns(rt: HostRuntime) -> Result<(), Fail> {
         );
     }
     Ok(())
+}
+
+#[test]
+fn usual_limits_are_within_their_bounds(rt: HostRuntime) {
+    assert!(rt; Limits::default() == Limits::in_groups_of(64));
+    assert!(rt; Limits::default().check() == Ok(()));
+    assert!(rt; Limits::in_groups_of(65_536).check() == Ok(()));
 }
