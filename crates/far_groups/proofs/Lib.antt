@@ -1,6 +1,7 @@
 pub mod FoldLaws
 pub mod JoinLaws
 pub mod NewLines
+pub mod NumberLaws
 pub mod PairLaws
 pub mod RaiseLaws
 pub mod RoomLaws

@@ -1,4 +1,6 @@
+pub mod ByKey
 pub mod Folds
 pub mod Live
+pub mod Numbers
 pub mod Tallies
 pub mod Walks

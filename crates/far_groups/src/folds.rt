@@ -1,21 +1,23 @@
 // Pairs that are folded into tallies one after another.
 ghost use Rattle.std.specs.Prelude.{◌≡◌, ◌≤◌, length, take, OnOk, OnErr, IfErr};
 ghost use Rattle.far_types.specs.Answers.{Totals};
-ghost use Rattle.far_groups.specs.Tallies.{totals_of, AreTallies};
+ghost use Rattle.far_groups.specs.Tallies.{AreTallies};
+ghost use Rattle.far_groups.specs.ByKey.{totals_in};
 ghost use Rattle.far_groups.specs.Folds.{with_pairs, CanFoldAll, HasFolded};
 
-use super::tallies::{Tallies, add_under, take, tally_of};
+use super::by_key::{ByKey, add_under, take};
+use super::tallies::tally_of;
 use far_types::{Key, Refusal};
 
 /// A folded row: its key, none in an aggregate without key column, and its value.
 pub type Pair = (Option<Key>, i64);
 
 /// Takes the first pairs out of the tallies into which they were folded, the last of them first. Takes no memory.
-fn take_back(tallies: &mut Tallies, pairs: &[Pair], count: usize)
+fn take_back(tallies: &mut ByKey, pairs: &[Pair], count: usize)
     requires within { count ≤ length pairs.now }
-    requires tallied { AreTallies (totals_of tallies.old.entries) }
-    requires folded { (start : Totals) × HasFolded start (take count pairs.now) (totals_of tallies.old.entries) }
-    ensures { (start : Totals) → HasFolded start (take count pairs.now) (totals_of tallies.old.entries) → totals_of tallies.new.entries ≡ start }
+    requires tallied { AreTallies (totals_in tallies.old) }
+    requires folded { (start : Totals) × HasFolded start (take count pairs.now) (totals_in tallies.old) }
+    ensures { (start : Totals) → HasFolded start (take count pairs.now) (totals_in tallies.old) → totals_in tallies.new ≡ start }
 {
     for done in 0..count {
         let pair = &pairs[count - 1 - done];
@@ -24,12 +26,12 @@ fn take_back(tallies: &mut Tallies, pairs: &[Pair], count: usize)
 }
 
 /// Folds pairs into tallies. What a refusal cut short is taken back.
-pub fn fold_all(tallies: &mut Tallies, pairs: &[Pair]) -> Result<(), Refusal>
-    requires tallied { AreTallies (totals_of tallies.old.entries) }
-    requires can { CanFoldAll (totals_of tallies.old.entries) pairs.now }
-    ensures tallied { AreTallies (totals_of tallies.new.entries) }
-    ensures ok { OnOk result (totals_of tallies.new.entries ≡ with_pairs (totals_of tallies.old.entries) pairs.now) }
-    ensures err { OnErr result (totals_of tallies.new.entries ≡ totals_of tallies.old.entries) }
+pub fn fold_all(tallies: &mut ByKey, pairs: &[Pair]) -> Result<(), Refusal>
+    requires tallied { AreTallies (totals_in tallies.old) }
+    requires can { CanFoldAll (totals_in tallies.old) pairs.now }
+    ensures tallied { AreTallies (totals_in tallies.new) }
+    ensures ok { OnOk result (totals_in tallies.new ≡ with_pairs (totals_in tallies.old) pairs.now) }
+    ensures err { OnErr result (totals_in tallies.new ≡ totals_in tallies.old) }
     ensures memory { IfErr result (λ e. e ≡ Refusal.NoMemory) }
 {
     for i in 0..pairs.len() {

@@ -90,7 +90,7 @@ fn new_lines(
 }
 
 /// A map of lines whose keys ascend.
-fn map_of(alloc: Global, lines: Vec<(Option<Key>, Tally)>) -> Result<Tallies, Refusal>
+pub fn map_of(alloc: Global, lines: Vec<(Option<Key>, Tally)>) -> Result<Tallies, Refusal>
     ensures ok { IfOk result (IsFromIterResult line_cmp lines.items) }
     ensures memory { IfErr result (λ e. e ≡ Refusal.NoMemory) }
 {

@@ -1,12 +1,11 @@
 // Totals that are kept up to date.
 ghost use Rattle.std.specs.Prelude.{◌≡◌, ◌≢◌, ◌+◌, ◌-◌, ◌^◌, ◌<◌, ◌≤◌, pos, None, Some, Err, unwrap_or, OnOk, OnErr, IfOk, IfErr};
 
+use super::by_key::{ByKey, add, add_under, join, lines, nothing, plain, take};
 use super::folds::{Pair, fold_all};
-use super::joins::join_all;
-use super::tallies::{Tallies, add, add_under, lines, take, tally_of};
+use super::tallies::tally_of;
 use far_types::{Answer, Key, Refusal, TotalLines};
 use std::alloc::Global;
-use std::collections::BTreeMap;
 use std::marker::Model;
 
 /// How many rows are folded under each key and the sum of their values, kept up to date row by row, and how many row
@@ -18,21 +17,21 @@ use std::marker::Model;
 #[derive(Drop)]
 pub struct LiveTotals {
     left: u32,
-    tallies: Tallies,
-    alloc: Global,
+    tallies: ByKey,
 }
 
 impl Model for LiveTotals {
     ghost use Rattle.far_groups.specs.Live.{Live, coded_live};
-    ghost use Rattle.far_groups.specs.Tallies.{totals_of, AreTallies};
+    ghost use Rattle.far_groups.specs.Tallies.{AreTallies};
+    ghost use Rattle.far_groups.specs.ByKey.{totals_in};
 
     ghost Value = { Live };
 
     ghost coded = { coded_live };
 
-    ghost view = { λ live. record { left = live.left; totals = totals_of live.tallies.entries } };
+    ghost view = { λ live. record { left = live.left; totals = totals_in live.tallies } };
 
-    ghost invariant = { λ live. AreTallies (totals_of live.tallies.entries) };
+    ghost invariant = { λ live. AreTallies (totals_in live.tallies) };
 }
 
 impl LiveTotals {
@@ -50,8 +49,7 @@ impl LiveTotals {
     {
         LiveTotals {
             left,
-            tallies: BTreeMap::new(alloc),
-            alloc,
+            tallies: nothing(alloc),
         }
     }
 
@@ -107,9 +105,10 @@ impl LiveTotals {
     }
 
     /// Joins the rows of another to these, key by key; one row group less is left. Nothing else of the other is looked
-    /// at. Costs two walks along the keys of both, and a look-up for each key that is new here unless these are more than
-    /// a quarter as many as the keys here; where the other has less than a quarter as many keys, a look-up for each of
-    /// them and no walk. Refused with `NoMemory` (1) alone, and then nothing is changed.
+    /// at. Costs a look-up for each key of the other where the keys are numbers. Else it costs two walks along the keys of
+    /// both, and a look-up for each key that is new here unless these are more than a quarter as many as the keys here; where
+    /// the other has less than a quarter as many keys, a look-up for each of them and no walk. Refused with `NoMemory` (1)
+    /// alone, and then nothing is changed.
     pub fn merge(&mut self, other: &LiveTotals) -> Result<(), Refusal>
         requires left { self.old.left ≢ 0 }
         requires can_join { CanJoin self.old.totals other.now.totals }
@@ -117,7 +116,7 @@ impl LiveTotals {
         ensures err { OnErr result (self.new ≡ self.old) }
         ensures memory { IfErr result (λ e. e ≡ Refusal.NoMemory) }
     {
-        join_all(self.alloc, &mut self.tallies, &other.tallies)?;
+        join(&mut self.tallies, &other.tallies)?;
         self.left -= 1;
         Ok(())
     }
@@ -158,6 +157,6 @@ impl LiveTotals {
     pub fn plain(&self) -> (u64, i128)
         ensures { result ≡ unwrap_or (fin.get self.now.totals None) (0, pos 0) }
     {
-        self.tallies.get(&None).copied().unwrap_or((0, 0))
+        plain(&self.tallies)
     }
 }

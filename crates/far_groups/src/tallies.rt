@@ -27,7 +27,7 @@ pub fn tally_of(value: i64) -> Tally
 }
 
 /// Two counts and sums together.
-fn together(tally: Tally, more: Tally) -> Tally
+pub fn together(tally: Tally, more: Tally) -> Tally
     requires tallied { IsTally tally }
     requires more_tallied { IsTally more }
     requires room { tally.0 + more.0 ≤ 2 ^ 26 }
@@ -38,7 +38,7 @@ fn together(tally: Tally, more: Tally) -> Tally
 }
 
 /// What is left of a count and a sum when another goes.
-fn apart(tally: Tally, less: Tally) -> Tally
+pub fn apart(tally: Tally, less: Tally) -> Tally
     requires tallied { IsTally tally }
     requires there { LeavesTally less (Some tally) }
     ensures { result ≡ (tally.0 - less.0, tally.1 -ℤ less.1) }

@@ -5,10 +5,12 @@ ghost use Rattle.far_types.specs.Cells.{key_in};
 ghost use Rattle.far_offload.specs.Columns.{cell_of};
 
 use crate::column::Column;
-use far_types::{Key, Refusal};
+use far_types::{CellRef, Key, Refusal};
 use std::alloc::Global;
 
-/// The key of a column at a place, where there is one. The memory of an earlier key is used again.
+/// The key of a column at a place, where there is one. The memory of an earlier key is used again. A number is told apart
+/// here, where the loop over the places is: it takes no memory.
+#[inline(always)]
 pub(crate) fn key_at(
     alloc: Global,
     column: Option<&Column<'_>>,
@@ -18,8 +20,11 @@ pub(crate) fn key_at(
     ensures key { IfOk result (λ key. key ≡ key_in (option_map (cell_of place) (option_copied column.entry))) }
     ensures memory { IfErr result (λ e. e ≡ Refusal.NoMemory) }
 {
-    match column {
-        Some(column) => column.cell(place).key(alloc, earlier),
-        None => Ok(None),
+    let Some(column) = column else {
+        return Ok(None);
+    };
+    match column.cell(place) {
+        CellRef::Int(number) => Ok(Some(Key::Int(number))),
+        cell => cell.key(alloc, earlier),
     }
 }

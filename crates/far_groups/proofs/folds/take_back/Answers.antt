@@ -4,7 +4,8 @@ use Rattle.std.specs.FinMap as fin
 use Rattle.std.proofs.lemmas.Int.{to_z-of_z}
 use Rattle.std.proofs.lemmas.Option.{slice_get_read}
 use Rattle.far_types.specs.Answers.{Totals}
-use Rattle.far_groups.specs.Tallies.{totals_of, LeavesTally, without_tally}
+use Rattle.far_groups.specs.Tallies.{LeavesTally, without_tally}
+use Rattle.far_groups.specs.ByKey.{totals_in}
 use Rattle.far_groups.specs.Folds.{with_pairs}
 use Rattle.far_groups.proofs.FoldLaws.{pairs-next, fewer_fold, fits_at, folded_tallies, last_leaves, last_goes_back}
 use Rattle.far_groups.proofs.folds.take_back.Goals as goal
@@ -22,7 +23,7 @@ take-requires-clause-there c =
     let before = with_pairs start (take n pairs) in
     let is = c.loop-done.invariant.rest start came ∙ pairs-next start pairs (c.args.count - c.loop-done.done) n pair there (omega arith) in
     let tallied = folded_tallies start (take n pairs) came.0 (fewer_fold start pairs n c.args.count (omega arith) came.1) in
-    subst (λ (t : ℕ × ℤ). LeavesTally t (fin.get (totals_of c.loop-done.tallies.entries) pair.0)) (sym one)
+    subst (λ (t : ℕ × ℤ). LeavesTally t (fin.get (totals_in c.loop-done.tallies) pair.0)) (sym one)
     (subst (λ (m : Totals). LeavesTally (1, pair.1) (fin.get m pair.0)) (sym is) (last_leaves before pair tallied))
 
 pub loop-done-preserved : goal.loop-done-preserved
@@ -41,7 +42,7 @@ loop-done-preserved c =
           let tallied = folded_tallies start (take n pairs) came.0 (fewer_fold start pairs n c.args.count (omega arith) came.1) in
           let fewer : n ≡ c.args.count - (c.loop-done.done + 1) = omega arith in
           c.take.ensures.less
-          ∙ ap (without_tally (totals_of c.loop-done.tallies.entries) pair.0) one
+          ∙ ap (without_tally (totals_in c.loop-done.tallies) pair.0) one
           ∙ ap (λ (m : Totals). without_tally m pair.0 (1, pair.1)) is
           ∙ last_goes_back before pair tallied
           ∙ ap (λ k. with_pairs start (take k pairs)) fewer;

@@ -1,0 +1,32 @@
+-- What stands by key where all keys are numbers.
+use Rattle.std.specs.Prelude.{ℕ, ℤ, List, map, Option, None, Some}
+use Rattle.far_types.specs.declared.key.Key.{Key}
+use Rattle.far_types.specs.declared.key.Key.TheVariants.{Int, Text}
+use Rattle.far_types.specs.Answers.{Totals}
+use Rattle.far_groups.specs.Tallies.{totals_of}
+
+-- a number as a key
+abbrev pub number_key : ℤ → Option Key
+number_key number = Some (Int number)
+
+-- the number that a key is
+abbrev pub number_of : Option Key → Option ℤ
+number_of None = None
+number_of (Some (Int number)) = Some number
+number_of (Some (Text text)) = None
+
+-- counts and sums by number, as they stand by key
+abbrev pub numbered : List (ℤ × (ℕ × ℤ)) → List (Option Key × (ℕ × ℤ))
+numbered entries = map (λ (entry : ℤ × (ℕ × ℤ)). (number_key entry.0, entry.1)) entries
+
+-- what they have by key
+abbrev pub by_number : List (ℤ × (ℕ × ℤ)) → Totals
+by_number entries = totals_of (numbered entries)
+
+-- a line of an answer
+abbrev pub number_line : ℤ × (ℕ × ℤ) → Option Key × ℕ × ℤ
+number_line entry = (number_key entry.0, entry.1.0, entry.1.1)
+
+-- the lines of an answer, in the order of their numbers
+abbrev pub number_lines : List (ℤ × (ℕ × ℤ)) → List (Option Key × ℕ × ℤ)
+number_lines entries = map number_line entries
