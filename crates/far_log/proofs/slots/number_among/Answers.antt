@@ -5,7 +5,7 @@ use Rattle.far_log.specs.Storage.{slots_of, AreRising}
 use Rattle.far_log.proofs.Chunks.{start-room}
 use Rattle.far_log.proofs.StoredParts.{lined-rising}
 use Rattle.far_log.proofs.Entries.{part-rising, in-part}
-use Rattle.far_log.proofs.slots.number_at.Goals as goal
+use Rattle.far_log.proofs.slots.number_among.Goals as goal
 
 pub slot_among-requires-clause-some : goal.slot_among-requires-clause-some
 slot_among-requires-clause-some c = omega (arith, ap length c.chunk.ensures, length-take (room_at 64 c.chunk_at-chunk.result) (drop (start_at 64 c.chunk_at-chunk.result) c.args.table.now), length-drop (start_at 64 c.chunk_at-chunk.result) c.args.table.now, c.chunk_at-chunk.ensures.there, start-room 64 c.chunk_at-chunk.result)
