@@ -2,7 +2,7 @@
 use Rattle.std.proofs.Common.{◌≡◌, ℕ, ◌+◌, ◌-◌, ◌<◌, ◌≤◌, ◌^◌, List, [], ◌∷◌, ◌++◌, length, get_or, map, take, drop, min, All, Option, sym, ap, ◌∙◌, append_assoc, arith}
 use Rattle.std.specs.Int.{w32, to_le_bytes, from_le_bytes}
 use Rattle.std.specs.List.{flat_map}
-use Rattle.std.proofs.lemmas.List.{length-append, length-map, get_or-map, map-append, take_more, take-map}
+use Rattle.std.proofs.lemmas.List.{length-append, length-map, get_or-map, map-append, append-nil, take_all, drop_all, take_more, take-map}
 use Rattle.std.proofs.lemmas.List.Folds.{flat_map-map}
 use Rattle.std.proofs.lemmas.Grind.{flat_map-append}
 use Rattle.far_types.specs.FormLengths.{text_bytes}
@@ -84,3 +84,30 @@ fields_with mask ends body i after end text parts h is end_is =
     ap (λ l. l ++ (take (get_or (0 ∷ ends) i 0) body ++ (bytes_of text ++ drop (get_or (0 ∷ ends) after 0) body))) (sym (flat_map-append le (take i ends) (end ∷ moved (get_or (0 ∷ ends) after 0) end (drop after ends))) ∙ ap (flat_map le) ends_same)
     ∙ ap (λ l. flat_map le (ends_of changed) ++ l) body_same
     ∙ ap (λ l. flat_map le (ends_of (take i texts ++ text ∷ l)) ++ flat_map bytes_of (take i texts ++ text ∷ l)) back
+
+shape : (e l b t : List ℕ) → (e ++ (l ++ [])) ++ (b ++ (t ++ [])) ≡ e ++ (l ++ (b ++ t))
+shape e l b t = ap (λ x. (e ++ x) ++ (b ++ (t ++ []))) (append-nil l) ∙ ap (λ x. (e ++ l) ++ (b ++ x)) (append-nil t) ∙ append_assoc e l (b ++ t)
+
+-- all words of ends are their bytes
+pub flat_whole : (words : List (List ℕ)) (ends : List ℕ) → words ≡ map (to_le_bytes w32) ends → flat_map (λ word. word) words ≡ flat_map (to_le_bytes w32) ends
+flat_whole words ends is = ap (flat_map (λ word. word)) is ∙ flat_map-map (λ word. word) (to_le_bytes w32) ends
+
+-- the ends and the bytes once a text stands behind the others
+pub fields_next : (mask ends body : List ℕ) (n end : ℕ) (text : Option (List ℕ)) → AreTextParts mask ends body → n ≡ length ends → end ≡ length body + length (bytes_of text) → flat_map (to_le_bytes w32) ends ++ (to_le_bytes w32 end ++ (body ++ bytes_of text)) ≡ flat_map (to_le_bytes w32) (ends_of (with_text (texts_of mask ends body) n text)) ++ flat_map bytes_of (with_text (texts_of mask ends body) n text)
+fields_next mask ends body n end text parts many end_is =
+    let le = to_le_bytes w32 in
+    let a = get_or (0 ∷ ends) n 0 in
+    let whole : a ≡ length body = ap (λ k. get_or (0 ∷ ends) k 0) many ∙ parts.whole in
+    let t = bytes_of text in
+    let l = le end in
+    sym (shape (flat_map le ends) l body t)
+    ∙ ap (λ x. (flat_map le x ++ (l ++ [])) ++ (body ++ (t ++ []))) (sym (take_all n ends (omega (arith, many))))
+    ∙ ap (λ x. (flat_map le (take n ends) ++ (l ++ flat_map le (moved a end x))) ++ (body ++ (t ++ []))) (sym (drop_all n ends (omega (arith, many))))
+    ∙ ap (λ x. (flat_map le (take n ends) ++ (l ++ flat_map le (moved a end (drop n ends)))) ++ (x ++ (t ++ []))) (sym (take_all a body (omega (arith, whole))))
+    ∙ ap (λ x. (flat_map le (take n ends) ++ (l ++ flat_map le (moved a end (drop n ends)))) ++ (take a body ++ (t ++ x))) (sym (drop_all a body (omega (arith, whole))))
+    ∙ fields_with mask ends body n n end text parts (omega (arith, many)) (omega (arith, many)) (omega (arith, end_is, whole))
+
+-- written one after the other behind a front
+pub five_written : (front e l b t : List ℕ) → (((front ++ e) ++ l) ++ b) ++ t ≡ front ++ (e ++ (l ++ (b ++ t)))
+five_written front e l b t =
+    append_assoc ((front ++ e) ++ l) b t ∙ append_assoc (front ++ e) l (b ++ t) ∙ append_assoc front e (l ++ (b ++ t))

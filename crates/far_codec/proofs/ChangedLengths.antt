@@ -19,7 +19,7 @@ or_swap true false c = refl
 or_swap false true c = refl
 or_swap false false c = refl
 
-missing_any : (texts : Texts) → list_any is_none texts ≡ some_missing (map is_none texts)
+pub missing_any : (texts : Texts) → list_any is_none texts ≡ some_missing (map is_none texts)
 missing_any [] = refl
 missing_any (t ∷ texts) = ap (λ b. is_none t || b) (missing_any texts)
 

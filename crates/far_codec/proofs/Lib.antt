@@ -12,6 +12,7 @@ pub mod ChangedTexts
 pub mod Laws
 pub mod Masks
 pub mod Meaning
+pub mod NextLengths
 pub mod PlainWords
 pub mod PresentNumbers
 pub mod TextForms

@@ -1,6 +1,6 @@
 // Far forms of texts made from the form before one of them changed, in one pass.
-ghost use Rattle.std.specs.Prelude.{◌≡◌, ◌++◌, ◌∷◌, ◌+◌, ◌-◌, ◌<◌, ◌≤◌, ◌^◌, [], List, length, map, slice_set, All, OnOk, IfOk, IfErr, IfSome};
-ghost use Rattle.std.specs.List.{flat_map};
+ghost use Rattle.std.specs.Prelude.{◌≡◌, ◌++◌, ◌∷◌, ◌+◌, ◌-◌, ◌<◌, ◌≤◌, ◌^◌, [], List, length, map, slice_set, is_none, false, All, OnOk, IfOk, IfErr, IfSome};
+ghost use Rattle.std.specs.List.{flat_map, list_any};
 ghost use Rattle.std.specs.Int.{w32, to_le_bytes};
 ghost use Rattle.std.specs.Str.{IsUtf8};
 ghost use Rattle.far_types.specs.FormLengths.{text_bytes, texts_length};
@@ -95,6 +95,36 @@ fn form_around(
     Ok(form)
 }
 
+/// The far form of texts once a text stands behind them, where none is missing. It has so many bytes. Each part is copied
+/// as it lies, and the head alone is another.
+fn form_behind(
+    alloc: Global,
+    parts: TextParts<'_>,
+    text: &Option<Text>,
+    size: usize,
+) -> Result<Vec<u8>, Refusal>
+    requires parts { AreTextParts parts.mask.now (ends_in parts.ends.now) parts.body.now }
+    requires words { parts.ends.now ≡ map (to_le_bytes w32) (ends_in parts.ends.now) }
+    requires texts { AreTexts (texts_of parts.mask.now (ends_in parts.ends.now) parts.body.now) }
+    requires there { list_any is_none (with_text (texts_of parts.mask.now (ends_in parts.ends.now) parts.body.now) (length parts.ends.now) text.now) ≡ false }
+    requires room { texts_length (with_text (texts_of parts.mask.now (ends_in parts.ends.now) parts.body.now) (length parts.ends.now) text.now) < 2 ^ 32 }
+    ensures form { IfOk result (λ new. IsTextsForm new.items) }
+    ensures texts { let texts = with_text (texts_of parts.entry.mask.now (ends_in parts.entry.ends.now) parts.entry.body.now) (length parts.entry.ends.now) text.now in IfOk result (λ new. texts_meaning new.items ≡ texts) }
+    ensures length { let texts = with_text (texts_of parts.entry.mask.now (ends_in parts.entry.ends.now) parts.entry.body.now) (length parts.entry.ends.now) text.now in IfOk result (λ new. length new.items ≡ texts_length texts) }
+    ensures memory { IfErr result (λ e. e ≡ Refusal.NoMemory) }
+{
+    let count = (parts.ends.len() + 1).to_le_bytes();
+    let bytes = bytes_in(text);
+    let end = parts.body.len() + bytes.len();
+    let mut form = Vec::with_capacity(alloc, size)?;
+    form.extend_from_slice(&[1, 1, count[0], count[1], count[2], count[3]])?;
+    form.extend_from_slice(parts.ends.as_flattened())?;
+    form.extend_from_slice(&(end as u32).to_le_bytes())?;
+    form.extend_from_slice(parts.body)?;
+    form.extend_from_slice(bytes)?;
+    Ok(form)
+}
+
 /// The far form of texts once text `i` is this one: one pass over the old form, one allocation. Refused with
 /// `NoMemory` (1) alone.
 pub fn form_with(
@@ -131,13 +161,11 @@ pub fn form_with_next(alloc: Global, form: &[u8], text: &Option<Text>) -> Result
     ensures memory { IfErr result (λ e. e ≡ Refusal.NoMemory) }
 {
     let parts = known_parts(form);
-    form_around(
-        alloc,
-        parts,
-        parts.ends.len(),
-        text,
-        length_with_next(form, text),
-    )
+    let size = length_with_next(form, text);
+    if form[0] == 1 && text.is_some() {
+        return form_behind(alloc, parts, text, size);
+    }
+    form_around(alloc, parts, parts.ends.len(), text, size)
 }
 
 /// The far form of one text. Refused with `NoMemory` (1) alone.

@@ -53,8 +53,8 @@ pub fn length_with(form: &[u8], i: usize, text: &Option<Text>) -> usize
     )
 }
 
-/// How many bytes the far form has once this text stands behind the others.
-pub fn length_with_next(form: &[u8], text: &Option<Text>) -> usize
+// How many bytes the far form has once this text stands behind the others, told by the form's parts.
+fn parted_length_with_next(form: &[u8], text: &Option<Text>) -> usize
     requires { IsTextsForm form.now }
     ensures { result ≡ texts_length (texts_meaning form.now ++ text.now ∷ []) }
 {
@@ -62,4 +62,16 @@ pub fn length_with_next(form: &[u8], text: &Option<Text>) -> usize
     let count = parts.ends.len();
     let missing = text.is_none() | other_missing(parts.mask, count, count);
     length_of(missing, count + 1, parts.body.len() + bytes_in(text).len())
+}
+
+/// How many bytes the far form has once this text stands behind the others.
+pub fn length_with_next(form: &[u8], text: &Option<Text>) -> usize
+    requires { IsTextsForm form.now }
+    ensures { result ≡ texts_length (texts_meaning form.now ++ text.now ∷ []) }
+{
+    // A form without a mask gets none by a text that is there: it grows by an end and by the text's bytes.
+    if form[0] == 1 && text.is_some() {
+        return form.len() + 4 + bytes_in(text).len();
+    }
+    parted_length_with_next(form, text)
 }

@@ -59,14 +59,29 @@ fn chunk_at(table: &ChunkedVec<Entry>, offset: u32) -> usize
     0
 }
 
-/// The number of the slot that begins at an offset; some number where none does.
-pub fn number_at(table: &ChunkedVec<Entry>, offset: u32) -> usize
+// The number of the slot that begins at an offset, which is searched for; some number where none does.
+fn number_among(table: &ChunkedVec<Entry>, offset: u32) -> usize
     requires some { 0 < length table.now }
     requires lined { AreLined 0 (slots_of table.now) }
     ensures { (k : ℕ) (s : Slot) → slice_get (slots_of table.now) k ≡ Some s → s.offset ≡ offset → result ≡ k }
 {
     let chunk = chunk_at(table, offset);
     start_of(chunk) + slot_among(table.chunk(chunk), offset)
+}
+
+/// The number of the slot that begins at an offset; some number where none does.
+pub fn number_at(table: &ChunkedVec<Entry>, offset: u32) -> usize
+    requires some { 0 < length table.now }
+    requires lined { AreLined 0 (slots_of table.now) }
+    ensures { (k : ℕ) (s : Slot) → slice_get (slots_of table.now) k ≡ Some s → s.offset ≡ offset → result ≡ k }
+{
+    // An object that gets another list loses its part once the new one lies behind it, so the last slot but one is looked
+    // at first.
+    let number = table.len().saturating_sub(2);
+    if table.get(number).slot.offset == offset {
+        return number;
+    }
+    number_among(table, offset)
 }
 
 /// The slot that begins at an offset; some slot where none does, and none where there is no slot.

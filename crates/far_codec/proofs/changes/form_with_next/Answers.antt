@@ -1,9 +1,47 @@
-use Rattle.std.proofs.Common.{length, sym, ap, arith}
+use Rattle.std.proofs.Common.{length, sym, ap, ◌∙◌, arith}
+use Rattle.std.specs.Prelude.{is_none}
+use Rattle.std.specs.List.{list_any}
 use Rattle.far_types.specs.FormLengths.{texts_length}
 use Rattle.far_codec.specs.TextForm.{texts_meaning}
 use Rattle.far_codec.proofs.ChangedLengths.{tells}
 use Rattle.far_codec.proofs.ChangedTexts.{with_is_next}
+use Rattle.far_codec.proofs.NextLengths.{form_head, some_none, none_next}
 use Rattle.far_codec.proofs.changes.form_with_next.Goals as goal
+
+pub bounds-form-0 : goal.bounds-form-0
+bounds-form-0 c = let long = form_head c.args.form.now c.requires.form in omega (arith, long)
+
+pub form_behind-requires-clause-there : goal.form_behind-requires-clause-there
+form_behind-requires-clause-there c =
+    let p = c.known_parts-parts.result in
+    let form = c.args.form.now in
+    let text = c.args.text.now in
+    let texts = texts_meaning form in
+    let known = tells p.mask.now p.ends.now p.body.now texts c.known_parts-parts.ensures.parts c.known_parts-parts.ensures.same in
+    let there = some_none text (sym c.is_some.ensures ∙ c.if-is_some.true) in
+    ap (list_any is_none) (with_is_next _ texts (length p.ends.now) text c.known_parts-parts.ensures.same known.count) ∙ none_next form text c.requires.form c.if-form-eq1.true there
+
+pub form_behind-requires-clause-room : goal.form_behind-requires-clause-room
+form_behind-requires-clause-room c =
+    let p = c.known_parts-parts.result in
+    let texts = texts_meaning c.args.form.now in
+    let known = tells p.mask.now p.ends.now p.body.now texts c.known_parts-parts.ensures.parts c.known_parts-parts.ensures.same in
+    let changed = with_is_next _ texts (length p.ends.now) c.args.text.now c.known_parts-parts.ensures.same known.count in
+    omega (arith, ap texts_length changed, c.requires.room)
+
+pub returns-then-is_some-clause-texts : goal.returns-then-is_some-clause-texts
+returns-then-is_some-clause-texts c =
+    let p = c.known_parts-parts.result in
+    let texts = texts_meaning c.args.form.now in
+    let known = tells p.mask.now p.ends.now p.body.now texts c.known_parts-parts.ensures.parts c.known_parts-parts.ensures.same in
+    rw (sym (with_is_next _ texts (length p.ends.now) c.args.text.now c.known_parts-parts.ensures.same known.count)) c.form_behind.ensures.texts
+
+pub returns-then-is_some-clause-length : goal.returns-then-is_some-clause-length
+returns-then-is_some-clause-length c =
+    let p = c.known_parts-parts.result in
+    let texts = texts_meaning c.args.form.now in
+    let known = tells p.mask.now p.ends.now p.body.now texts c.known_parts-parts.ensures.parts c.known_parts-parts.ensures.same in
+    rw (sym (with_is_next _ texts (length p.ends.now) c.args.text.now c.known_parts-parts.ensures.same known.count)) c.form_behind.ensures.length
 
 pub form_around-requires-clause-room : goal.form_around-requires-clause-room
 form_around-requires-clause-room c =

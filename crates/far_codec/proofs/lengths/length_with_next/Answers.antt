@@ -1,42 +1,17 @@
-use Rattle.std.proofs.Common.{◌≡◌, ◌+◌, ◌++◌, ◌∷◌, [], false, length, map, sym, ap, ◌∙◌, arith}
-use Rattle.std.specs.Prelude.{is_none, ◌||◌}
-use Rattle.std.specs.List.{list_any}
-use Rattle.std.proofs.lemmas.List.{length-append}
-use Rattle.far_types.specs.FormLengths.{text_bytes}
-use Rattle.far_codec.specs.FarForm.{some_missing}
-use Rattle.far_codec.specs.Reading.{flags_of}
-use Rattle.far_codec.specs.TextForm.{texts_meaning}
-use Rattle.far_codec.proofs.ChangedLengths.{tells, missing_next, bytes_next, length_is, none_is, set_past}
-use Rattle.far_codec.proofs.Masks.{length-flags_of}
+use Rattle.std.proofs.Common.{length, ap, sym, ◌∙◌, arith}
+use Rattle.far_codec.proofs.NextLengths.{form_head, form_small, some_none, next_length}
 use Rattle.far_codec.proofs.lengths.length_with_next.Goals as goal
 
-pub length_of-requires-clause-few : goal.length_of-requires-clause-few
-length_of-requires-clause-few c =
-    let p = c.known_parts-parts.result in
-    let texts = texts_meaning c.args.form.now in
-    let known = tells p.mask.now p.ends.now p.body.now texts c.known_parts-parts.ensures.parts c.known_parts-parts.ensures.same in
-    omega (arith, known.count, c.requires.texts.count)
+pub bounds-form-0 : goal.bounds-form-0
+bounds-form-0 c = let long = form_head c.args.form.now c.requires in omega (arith, long)
 
-pub length_of-requires-clause-room : goal.length_of-requires-clause-room
-length_of-requires-clause-room c =
-    let p = c.known_parts-parts.result in
-    let texts = texts_meaning c.args.form.now in
-    let known = tells p.mask.now p.ends.now p.body.now texts c.known_parts-parts.ensures.parts c.known_parts-parts.ensures.same in
-    let size = c.bytes_in.type_inv in
-    omega (arith, known.bytes, c.requires.texts.bytes, size.1)
+pub overflow_add-result : goal.overflow_add-result
+overflow_add-result c = omega (arith, form_small c.args.form.now c.requires)
 
-pub returns : goal.returns
-returns c =
-    let p = c.known_parts-parts.result in
-    let texts = texts_meaning c.args.form.now in
-    let text = c.args.text.now in
-    let count = length p.ends.now in
-    let known = tells p.mask.now p.ends.now p.body.now texts c.known_parts-parts.ensures.parts c.known_parts-parts.ensures.same in
-    let flags = flags_of p.mask.now count in
-    let others : some_missing (map is_none texts) ≡ c.other_missing.result =
-    ap some_missing (known.flags ∙ sym (set_past flags count false (omega (arith, length-flags_of p.mask.now count)))) ∙ sym c.other_missing.ensures in
-    let any : list_any is_none (texts ++ text ∷ []) ≡ (c.is_none.result || c.other_missing.result) =
-    missing_next texts text ∙ ap (λ b. is_none text || b) others ∙ ap (λ b. b || c.other_missing.result) (sym (none_is text c.is_none.result c.is_none.ensures)) in
-    let many : length (texts ++ text ∷ []) ≡ count + 1 = omega (arith, length-append texts (text ∷ []), known.count) in
-    let size : text_bytes (texts ++ text ∷ []) ≡ length p.body.now + length c.bytes_in.result.now = omega (arith, bytes_next texts text, known.bytes, ap length c.bytes_in.ensures.bytes) in
-    c.length_of.ensures ∙ length_is texts (texts ++ text ∷ []) (c.is_none.result || c.other_missing.result) (count + 1) (length p.body.now + length c.bytes_in.result.now) any many size
+pub overflow_add-result-then-is_some : goal.overflow_add-result-then-is_some
+overflow_add-result-then-is_some c = let size = c.bytes_in.type_inv in omega (arith, form_small c.args.form.now c.requires, size.1)
+
+pub returns-then-is_some : goal.returns-then-is_some
+returns-then-is_some c =
+    let there = some_none c.args.text.now (sym c.is_some.ensures ∙ c.if-is_some.true) in
+    omega (arith, next_length c.args.form.now c.args.text.now c.requires c.if-form-eq1.true there, ap length c.bytes_in.ensures.bytes)

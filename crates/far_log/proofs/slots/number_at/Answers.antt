@@ -1,24 +1,17 @@
-use Rattle.std.proofs.Common.{◌≡◌, ◌-◌, Some, length, drop, ap, sym, subst, arith, length-take, length-drop}
-use Rattle.std.specs.Prelude.{slice_get}
-use Rattle.far_log.specs.Chunking.{room_at, start_at}
-use Rattle.far_log.specs.Storage.{slots_of, AreRising}
-use Rattle.far_log.proofs.Chunks.{start-room}
-use Rattle.far_log.proofs.StoredParts.{lined-rising}
-use Rattle.far_log.proofs.Entries.{part-rising, in-part}
+use Rattle.std.proofs.Common.{arith}
+use Rattle.far_log.specs.Storage.{slots_of}
+use Rattle.far_log.proofs.StoredParts.{lined-rising, at-or-behind}
+use Rattle.far_log.proofs.Entries.{slot-is}
 use Rattle.far_log.proofs.slots.number_at.Goals as goal
 
-pub slot_among-requires-clause-some : goal.slot_among-requires-clause-some
-slot_among-requires-clause-some c = omega (arith, ap length c.chunk.ensures, length-take (room_at 64 c.chunk_at-chunk.result) (drop (start_at 64 c.chunk_at-chunk.result) c.args.table.now), length-drop (start_at 64 c.chunk_at-chunk.result) c.args.table.now, c.chunk_at-chunk.ensures.there, start-room 64 c.chunk_at-chunk.result)
-
-pub slot_among-requires-clause-rising : goal.slot_among-requires-clause-rising
-slot_among-requires-clause-rising c = subst (λ es. AreRising (slots_of es)) (sym c.chunk.ensures) (part-rising c.args.table.now (start_at 64 c.chunk_at-chunk.result) (room_at 64 c.chunk_at-chunk.result) (lined-rising 0 (slots_of c.args.table.now) c.requires.lined))
-
-pub returns : goal.returns
-returns c = λ k s e at.
-    let bounds = c.chunk_at-chunk.ensures.found k s e at in
-    let here = in-part c.args.table.now (start_at 64 c.chunk_at-chunk.result) (room_at 64 c.chunk_at-chunk.result) k s e bounds.0 bounds.1 in
-    let found = c.slot_among.ensures.found (k - start_at 64 c.chunk_at-chunk.result) s (subst (λ es. slice_get (slots_of es) (k - start_at 64 c.chunk_at-chunk.result) ≡ Some s) (sym c.chunk.ensures) here) at in
-    omega (arith, found, bounds.0, c.start_of.ensures.start)
-
-pub overflow_add-result : goal.overflow_add-result
-overflow_add-result c = omega (arith, c.slot_among.ensures.within, c.chunk.type_inv.1, c.start_of.ensures.small)
+pub returns-then-get-offset : goal.returns-then-get-offset
+returns-then-get-offset c = λ k s e at.
+    let table = c.args.table.now in
+    let slots = slots_of table in
+    let number = c.saturating_sub-number.result in
+    let slot = c.get.result.slot in
+    let rising = lined-rising 0 slots c.requires.lined in
+    let here = slot-is table number c.get.result c.get.ensures in
+    let under = at-or-behind slots number k c.args.offset s slot rising here (omega (arith, c.if-get-offset.true)) e at in
+    let over = at-or-behind slots k number c.args.offset slot s rising e (omega (arith, at)) here (omega (arith, c.if-get-offset.true)) in
+    omega (arith, under, over)
