@@ -94,7 +94,7 @@ not-one-field (f ∷ []) h = cc h
 not-one-field (f ∷ g ∷ gs) h = refl
 
 -- texts that need no machine
-unplain : (a b : Bool) → (not a && not b) ≡ true → (a ≡ false) × (b ≡ false)
+pub unplain : (a b : Bool) → (not a && not b) ≡ true → (a ≡ false) × (b ≡ false)
 unplain true true h = cc h
 unplain true false h = cc h
 unplain false true h = cc h

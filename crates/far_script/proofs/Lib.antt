@@ -8,3 +8,6 @@ pub mod KindLaws
 pub mod PrintLaws
 pub mod FlowLaws
 pub mod StopLaws
+pub mod DigitLaws
+pub mod PlainDigits
+pub mod PlainLines

@@ -10,11 +10,11 @@ use Rattle.csv.specs.declared.parser.State.TheVariants as st
 use Rattle.csv.proofs.RoundTrip.{record-same, start-same}
 use Rattle.far_script.specs.OneRecord.{one_record, only, is_mark, is_comma}
 
-or-left : (a b : Bool) → (a || b) ≡ false → a ≡ false
+pub or-left : (a b : Bool) → (a || b) ≡ false → a ≡ false
 or-left false b e = refl
 or-left true b e = cc e
 
-or-right : (a b : Bool) → (a || b) ≡ false → b ≡ false
+pub or-right : (a b : Bool) → (a || b) ≡ false → b ≡ false
 or-right false b e = e
 or-right true b e = cc e
 
@@ -25,11 +25,11 @@ no-mark c e =
     (or-left (c == 34) (c == 13) ends, or-right (c == 34) (c == 13) ends, or-right ((c == 34) || (c == 13)) (c == 10) e)
 
 -- the bytes of the field at hand stand before the first part
-abbrev behind : List ℕ → List (List ℕ) → List (List ℕ)
+abbrev pub behind : List ℕ → List (List ℕ) → List (List ℕ)
 behind field [] = field ∷ []
 behind field (part ∷ parts) = (field ++ part) ∷ parts
 
-behind-onto : (field : List ℕ) (c : ℕ) (parts : List (List ℕ)) → behind (field ++ c ∷ []) parts ≡ behind field (onto_first c parts)
+pub behind-onto : (field : List ℕ) (c : ℕ) (parts : List (List ℕ)) → behind (field ++ c ∷ []) parts ≡ behind field (onto_first c parts)
 behind-onto field c [] = refl
 behind-onto field c (part ∷ parts) = ap (λ (whole : List ℕ). whole ∷ parts) (append_assoc field (c ∷ []) part)
 
@@ -37,7 +37,7 @@ onto-nothing : (c : ℕ) (parts : List (List ℕ)) → behind [] (onto_first c p
 onto-nothing c [] = refl
 onto-nothing c (part ∷ parts) = refl
 
-behind-nothing : (xs : List ℕ) → behind [] (slice_split is_comma xs) ≡ slice_split is_comma xs
+pub behind-nothing : (xs : List ℕ) → behind [] (slice_split is_comma xs) ≡ slice_split is_comma xs
 behind-nothing [] = refl
 behind-nothing (c ∷ cs) = elim (is_comma c) as (λ b. behind [] (cond b ([] ∷ slice_split is_comma cs) (onto_first c (slice_split is_comma cs))) ≡ cond b ([] ∷ slice_split is_comma cs) (onto_first c (slice_split is_comma cs))) [
   | true ↦ refl
@@ -45,7 +45,7 @@ behind-nothing (c ∷ cs) = elim (is_comma c) as (λ b. behind [] (cond b ([] �
 ]
 
 -- a byte of a field
-copies : (fields : List (List ℕ)) (field : List ℕ) (c : ℕ) (cs : List ℕ) → (c == 44) ≡ false → is_mark c ≡ false
+pub copies : (fields : List (List ℕ)) (field : List ℕ) (c : ℕ) (cs : List ℕ) → (c == 44) ≡ false → is_mark c ≡ false
     → next_record default_config st.InField fields field (c ∷ cs) ≡ next_record default_config st.InField fields (field ++ c ∷ []) cs
 unfolding next_record
 copies fields field c cs other plain =
@@ -53,7 +53,7 @@ copies fields field c cs other plain =
     rw (other, n.1, n.2) refl
 
 -- a comma ends the field
-ends-field : (fields : List (List ℕ)) (field : List ℕ) (c : ℕ) (cs : List ℕ) → (c == 44) ≡ true
+pub ends-field : (fields : List (List ℕ)) (field : List ℕ) (c : ℕ) (cs : List ℕ) → (c == 44) ≡ true
     → next_record default_config st.InField fields field (c ∷ cs) ≡ next_record default_config st.StartField (fields ++ field ∷ []) [] cs
 unfolding next_record
 ends-field fields field c cs comma = rw comma refl
@@ -67,10 +67,10 @@ one-more : (fields : List (List ℕ)) (field : List ℕ) (parts : List (List ℕ
 one-more fields field parts = ap (λ (all : List (List ℕ)). Some (all, st.StartRecord, [])) (append_assoc fields (field ∷ []) (behind [] parts))
 
 -- the parts of a text, by its first byte
-split-comma : (c : ℕ) (cs : List ℕ) → (c == 44) ≡ true → slice_split is_comma (c ∷ cs) ≡ [] ∷ slice_split is_comma cs
+pub split-comma : (c : ℕ) (cs : List ℕ) → (c == 44) ≡ true → slice_split is_comma (c ∷ cs) ≡ [] ∷ slice_split is_comma cs
 split-comma c cs comma = rw comma refl
 
-split-other : (c : ℕ) (cs : List ℕ) → (c == 44) ≡ false → slice_split is_comma (c ∷ cs) ≡ onto_first c (slice_split is_comma cs)
+pub split-other : (c : ℕ) (cs : List ℕ) → (c == 44) ≡ false → slice_split is_comma (c ∷ cs) ≡ onto_first c (slice_split is_comma cs)
 split-other c cs other = rw other refl
 
 -- at the start of a field, where the text goes on
@@ -117,7 +117,7 @@ runs fields field (c ∷ d ∷ ds) e = elim (cases_Bool (c == 44)) [
 ]
 
 -- a text with no byte of an order mark at its start
-keeps-order-mark : (c : ℕ) (cs : List ℕ) → (c == 239) ≡ false → strip_bom (c ∷ cs) ≡ c ∷ cs
+pub keeps-order-mark : (c : ℕ) (cs : List ℕ) → (c == 239) ≡ false → strip_bom (c ∷ cs) ≡ c ∷ cs
 unfolding strip_bom
 keeps-order-mark c [] h = refl
 keeps-order-mark c (d ∷ []) h = refl

@@ -9,3 +9,4 @@ pub mod Printing
 pub mod Faults
 pub mod Lines
 pub mod Flow
+pub mod PlainLines

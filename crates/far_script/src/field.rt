@@ -5,6 +5,7 @@ ghost use Rattle.csv.specs.Records.{fields_of};
 ghost use Rattle.far_script.specs.OneRecord.{one_record, is_comma};
 ghost use Rattle.far_script.specs.Fields.{cell_of, cells_from, row_of, lone_cell_of, only_field, is_missing_mark};
 
+use super::cut::cut;
 use super::number::signed_number;
 use super::record::{is_plain, read_record};
 use csv::StringRecord;
@@ -42,14 +43,14 @@ pub fn kind_of(kinds: &[Kind], column: usize) -> Option<Kind>
     kinds.get(column).copied()
 }
 
-/// The cells of what stands between the commas of a text.
-fn plain_cells(alloc: Global, kinds: &[Kind], text: &str) -> Result<Vec<Cell>, Refusal>
+/// The cells of what stands between the commas of a text. Refused with `NoMemory` (1) alone.
+pub fn plain_cells(alloc: Global, kinds: &[Kind], text: &str) -> Result<Vec<Cell>, Refusal>
     ensures cells { IfOk result (λ cells. cells.items ≡ cells_from kinds.now 0 (slice_split is_comma text.now)) }
     ensures memory { IfErr result (λ e. e ≡ Refusal.NoMemory) }
 {
     let mut cells = Vec::with_capacity(alloc, kinds.len())?;
     let mut rest = text;
-    while let Some((field, others)) = rest.split_once(',') {
+    while let Some((field, others)) = cut(rest, b',') {
         let column = kind_of(kinds, cells.len());
         cells.push(cell(alloc, column, field)?)?;
         rest = others;

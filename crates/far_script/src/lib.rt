@@ -3,9 +3,11 @@
 //! they name, and answers are printed.
 
 pub mod bounded;
+pub mod cut;
 mod fault;
 pub mod field;
 mod input;
+pub mod lines;
 mod number;
 pub mod opening;
 mod output;

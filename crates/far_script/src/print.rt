@@ -1,10 +1,10 @@
 // Replies as lines.
-ghost use Rattle.std.specs.Prelude.{◌≡◌, ◌++◌, OnOk, IfErr, codes, length, take};
-ghost use Rattle.far_script.specs.Printing.{answer_text, carried_text, extrema_text, gauge_text, key_text, numbered_text, reading_text, refusal_text, texts_of, total_text};
+ghost use Rattle.std.specs.Prelude.{◌≡◌, ◌++◌, ◌∷◌, [], OnOk, IfErr, codes, length, take};
+ghost use Rattle.std.specs.Fmt.{signed_decimal};
+ghost use Rattle.far_script.specs.Printing.{answer_text, carried_text, extrema_text, gauge_text, key_text, numbered_text, reading_text, record_text, refusal_text, space, texts_of, total_text};
 
 use super::page::Page;
 use far_types::{Answer, ExtremaLines, Key, Refusal, TotalLines};
-use itoa::Buffer;
 
 /// A word and a number, on a line.
 #[inline(always)]
@@ -51,6 +51,15 @@ pub fn refused(page: &mut Page, refusal: &Refusal) -> Result<(), Refusal>
     page.text("\n")
 }
 
+/// A key that is a number, and a space. It needs no quotes.
+fn number_key(page: &mut Page, number: i64) -> Result<(), Refusal>
+    ensures ok { OnOk result (page.new ≡ page.old ++ (record_text (signed_decimal number ∷ []) ++ space)) }
+    ensures memory { IfErr result (λ e. e ≡ Refusal.NoMemory) }
+{
+    page.signed(number)?;
+    page.byte(b' ')
+}
+
 /// The key of a line, and a space.
 fn key(page: &mut Page, key: &Option<Key>) -> Result<(), Refusal>
     ensures ok { OnOk result (page.new ≡ page.old ++ key_text key.now) }
@@ -58,14 +67,10 @@ fn key(page: &mut Page, key: &Option<Key>) -> Result<(), Refusal>
 {
     match key {
         None => Ok(()),
-        Some(Key::Int(number)) => {
-            let mut digits = Buffer::new();
-            page.lone_field(digits.format(*number).as_bytes())?;
-            page.text(" ")
-        }
+        Some(Key::Int(number)) => number_key(page, *number),
         Some(Key::Text(text)) => {
             page.lone_field(text.as_bytes())?;
-            page.text(" ")
+            page.byte(b' ')
         }
     }
 }

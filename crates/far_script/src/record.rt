@@ -34,7 +34,7 @@ pub fn read_record(alloc: Global, text: &str) -> Result<Option<StringRecord>, Re
 }
 
 /// Whether a text may begin with a byte order mark.
-fn may_begin_with_order_mark(bytes: &[u8]) -> bool
+pub(crate) fn may_begin_with_order_mark(bytes: &[u8]) -> bool
     ensures { result ≡ (slice_index bytes.now 0 == 239) }
 {
     match bytes {

@@ -2,6 +2,7 @@
 ghost use Rattle.std.specs.Prelude.{◌≡◌, option_map, is_none, IfSome, IfNone, ◌∷◌, [], Some};
 ghost use Rattle.far_script.specs.Words.{after, word_in, number_in, long_number_in, last_number_in, last_long_number_in, is_next, words_in};
 
+use super::cut::cut;
 use super::number::{long_number, number};
 use std::marker::Model;
 
@@ -50,7 +51,7 @@ impl<'a> Words<'a> {
         ensures none { IfNone result (words_in self.old ≡ []) }
     {
         let text = self.left?;
-        match text.split_once(' ') {
+        match cut(text, b' ') {
             Some((word, rest)) => {
                 self.left = Some(rest);
                 Some(word)

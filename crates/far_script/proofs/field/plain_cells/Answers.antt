@@ -1,12 +1,10 @@
-use Rattle.std.proofs.Common.{vec_len, lit<, rules}
-use Rattle.std.proofs.lemmas.Str.Pattern.{split_once_first}
+use Rattle.std.proofs.Common.{vec_len, rules}
 use Rattle.far_script.proofs.FieldLaws.{cells-go-on, cells-end}
 use Rattle.far_script.proofs.field.plain_cells.Goals as goal
 
 pub loop-field-preserved : goal.loop-field-preserved
 loop-field-preserved c =
-    let found = split_once_first 44 c.loop-field.rest.now c.split_once.result c.split_once.ensures.cases (lit< tt) in
-    let parts = rw c.in-Some.is at found in
+    let parts = rw c.in-Some.is at c.cut.ensures in
     record {
       text = search rules;
       cells = cells-go-on _ _ (vec_len c.loop-field.cells) c.loop-field.rest.now _ c.in-Some.field.now c.in-Some.others.now _ _ _ _
@@ -15,6 +13,5 @@ loop-field-preserved c =
 
 pub returns-clause-cells : goal.returns-clause-cells
 returns-clause-cells c =
-    let found = split_once_first 44 c.loop-field.rest.now c.split_once.result c.split_once.ensures.cases (lit< tt) in
-    let none = rw c.in_default.is at found in
+    let none = rw c.in_default.is at c.cut.ensures in
     cells-end _ _ (vec_len c.loop-field.cells) c.loop-field.rest.now _ _ _ _ none c.in_ok-cell-2.ensures.cell (search rules) c.in_ok-push-2.ensures.items c.loop-field.invariant.cells

@@ -1,5 +1,4 @@
-use Rattle.std.proofs.Common.{◌≡◌, ◌∙◌, ap, rules, Some, ◌∷◌, lit<}
-use Rattle.std.proofs.lemmas.Str.Pattern.{split_once_first}
+use Rattle.std.proofs.Common.{◌≡◌, ◌∙◌, ap, rules, Some, ◌∷◌}
 use Rattle.far_script.proofs.PartLaws.{last-part}
 use Rattle.far_script.specs.Words.{word_in, after, words_in, is_space}
 use Rattle.far_script.proofs.WordLaws.{some-word}
@@ -13,7 +12,6 @@ returns-in-Some-clause-first c =
 
 pub returns-in-None-clause-first : goal.returns-in-None-clause-first
 returns-in-None-clause-first c =
-    let found = split_once_first 32 c.in_ok-text.text.now c.split_once.result c.split_once.ensures.cases (lit< tt) in
-    let none = rw c.in-None.is at found in
+    let none = rw c.in-None.is at c.cut.ensures in
     let held : c.args.self.now ≡ Some c.in_ok-text.text.now = search rules in
     ap words_in held ∙ last-part is_space c.in_ok-text.text.now none

@@ -1,0 +1,15 @@
+// A text parted at a byte.
+ghost use Rattle.std.specs.Prelude.{◌≡◌, ◌==◌, ◌<◌, length, MatchOption};
+ghost use Rattle.std.specs.List.{position_or_len, before_first, after_first};
+
+/// What stands before the first such byte of ASCII and what stands behind it, where there is one. It looks at one byte after the
+/// other, which for words and fields is faster than what `split_once` does for long texts.
+pub fn cut(text: &str, wanted: u8) -> Option<(&str, &str)>
+    requires { wanted < 128 }
+    ensures { MatchOption result (position_or_len (λ b. b == wanted) text.now ≡ length text.now) (λ x. (position_or_len (λ b. b == wanted) text.now < length text.now) × (x.0.now ≡ before_first (λ b. b == wanted) text.now) × (x.1.now ≡ after_first (λ b. b == wanted) text.now)) }
+{
+    match text.as_bytes().iter().position(|byte| *byte == wanted) {
+        Some(at) => Some((&text[..at], &text[at + 1..])),
+        None => None,
+    }
+}
