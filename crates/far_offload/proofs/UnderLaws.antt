@@ -1,13 +1,19 @@
 -- The extrema under one key, with one place more.
-use Rattle.std.proofs.Common.{◌≡◌, ℕ, ◌+◌, ◌<◌, Bool, true, false, cond, List, [], ◌∷◌, ◌++◌, length, get_or, take, Option, None, Some, refl, sym, ap, ◌∙◌}
+use Rattle.std.proofs.Common.{◌≡◌, ℕ, ◌+◌, ◌<◌, Bool, true, false, cond, List, [], ◌∷◌, ◌++◌, length, get_or, map, take, Option, None, Some, refl, sym, ap, ◌∙◌}
 use Rattle.std.specs.Prelude.{ℤ, option_map}
 use Rattle.std.specs.FinMap as fin
 use Rattle.std.specs.List.{cons_option}
 use Rattle.std.specs.Option.{option_and_then}
 use Rattle.std.specs.Ordering.{eq_by_cmp}
 use Rattle.std.proofs.lemmas.List.{append-nil}
+use Rattle.far_types.specs.declared.cell.Cell.{Cell}
+use Rattle.far_types.specs.declared.cell.Cell.TheVariants as cell
+use Rattle.far_types.specs.declared.cell.Cell.TheVariants.{Missing}
 use Rattle.far_types.specs.declared.key.Key.{Key}
+use Rattle.far_types.specs.declared.key.Key.TheVariants as keys
 use Rattle.far_types.specs.declared.spec.Spec.{Spec}
+use Rattle.far_types.specs.Cells.{key_in}
+use Rattle.far_types.specs.Lent.{int_cell}
 use Rattle.far_types.specs.Keys.{line_cmp}
 use Rattle.far_types.specs.KeyOrder.{line_total}
 use Rattle.far_types.specs.Pairs.{Pair, key_under}
@@ -16,7 +22,7 @@ use Rattle.far_types.specs.Changes.{widened, with_seen}
 use Rattle.far_types.proofs.Grouping.{same_key}
 use Rattle.far_types.proofs.ByKeyMaps.{get_inserted}
 use Rattle.far_types.proofs.TotalLaws.{extrema-cons, extrema-among}
-use Rattle.far_offload.specs.Columns.{Columns, cells_at}
+use Rattle.far_offload.specs.Columns.{Columns, column_of, cell_of, cells_at, AreKeys}
 use Rattle.far_offload.specs.Partials.{pairs_over, value_at}
 use Rattle.far_offload.proofs.FoldLaws.{pair-is, pairs-next}
 
@@ -59,3 +65,23 @@ module _ (spec : Spec) (columns : Columns) (flags : List Bool) (i : ℕ) (flag :
       ∙ ap (λ (u : Option (Option Key)). fin.get (extrema (pairs ++ cons_option (option_map {U = Pair} (λ k. (k, value)) u) [])) key) under
       ∙ ap (λ m. fin.get m key) (extrema-more pairs (key, value))
       ∙ get_inserted (extrema pairs) key (widened value (fin.get (extrema pairs) key))
+
+-- a cell that gives a number as its key is that number
+number_key : (c : Cell) (n : ℤ) → option_map {U = Option Key} Some (key_in (Some c)) ≡ Some (Some (keys.Int n)) → c ≡ cell.Int n
+number_key (cell.Int m) n h = cc
+number_key (cell.Text t) n h = cc
+number_key Missing n h = cc
+
+under_column : (key : Option ℕ) (columns : Columns) (place : ℕ) (column : ℕ × List Cell) → option_and_then (column_of columns) key ≡ Some column → key_under key (cells_at columns place) ≡ option_map Some (key_in (Some (cell_of place column)))
+under_column None columns place column h = cc
+under_column (Some k) columns place column h = ap (λ (o : Option (ℕ × List Cell)). option_map Some (key_in (option_map (cell_of place) o))) h
+
+-- a place stands under a number where the key column has it there
+pub number_under : (spec : Spec) (columns : Columns) (numbers : List (Option ℤ)) (place : ℕ) (n : ℤ) → AreKeys columns spec.key numbers → (get_or (map int_cell numbers) place Missing ≡ cell.Int n → key_under spec.key (cells_at columns place) ≡ Some (Some (keys.Int n))) × (key_under spec.key (cells_at columns place) ≡ Some (Some (keys.Int n)) → get_or (map int_cell numbers) place Missing ≡ cell.Int n)
+number_under spec columns numbers place n are =
+    let column = are.0 in
+    let under = under_column spec.key columns place column are.1 in
+    let here : cell_of place column ≡ get_or (map int_cell numbers) place Missing = ap (λ (cells : List Cell). get_or cells place Missing) are.2 in (
+      λ is. under ∙ ap (λ (c : Cell). option_map {U = Option Key} Some (key_in (Some c))) (here ∙ is),
+      λ there. sym here ∙ number_key (cell_of place column) n (sym under ∙ there),
+    )

@@ -1,6 +1,7 @@
 -- The columns that a job has at hand: the cells that their far forms mean, and what a place has in them.
-use Rattle.std.specs.Prelude.{ℕ, Bool, ◌==◌, List, map, Option, option_map, slice_index_or}
+use Rattle.std.specs.Prelude.{◌≡◌, ℕ, ℤ, Bool, ◌==◌, List, map, Option, Some, option_map, slice_index_or}
 use Rattle.std.specs.List.{find}
+use Rattle.std.specs.Option.{option_and_then}
 use Rattle.far_types.specs.declared.cell.Cell.{Cell}
 use Rattle.far_types.specs.declared.cell.Cell.TheVariants as cell
 use Rattle.far_types.specs.Cells.{Cells}
@@ -37,3 +38,7 @@ cell_of place column = slice_index_or column.1 place cell.Missing
 -- what a place has, by the number of the column: nothing in a column that is not at hand
 abbrev pub cells_at : Columns → ℕ → Cells
 cells_at columns place number = option_map (cell_of place) (column_of columns number)
+
+-- the numbers are those of the key column, of which the number is given where there is one
+abbrev pub AreKeys : Columns → Option ℕ → List (Option ℤ) → Type 0
+AreKeys columns key numbers = (column : ℕ × List Cell) × (option_and_then (column_of columns) key ≡ Some column) × (column.1 ≡ map int_cell numbers)

@@ -1,5 +1,5 @@
 // Columns whose values are at hand.
-ghost use Rattle.std.specs.Prelude.{◌≡◌, map, slice_index_or, Some};
+ghost use Rattle.std.specs.Prelude.{◌≡◌, map, slice_index_or, Some, IfSome};
 ghost use Rattle.std.specs.Option.{option_copied};
 ghost use Rattle.far_types.specs.declared.cell.Cell.TheVariants.{Missing};
 ghost use Rattle.far_types.specs.Cells.{CellFits};
@@ -96,6 +96,16 @@ impl<'a> Column<'a> {
             &self.values,
             ColumnValues::Numbers(_) | ColumnValues::Ints(_)
         )
+    }
+
+    /// The numbers of a far form, where the values are such.
+    pub(crate) fn ints(&self) -> Option<&LentInts<'a>>
+        ensures { IfSome result (λ ints. self.now.1 ≡ map int_cell ints.now) }
+    {
+        match &self.values {
+            ColumnValues::Ints(numbers) => Some(numbers),
+            _ => None,
+        }
     }
 
     /// The cell of a place. Past the end there is no value.

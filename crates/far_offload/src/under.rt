@@ -1,16 +1,21 @@
 // The least and the greatest value under one key.
-ghost use Rattle.std.specs.Prelude.{◌≡◌, ◌↔◌, Some, IsTrue, option_map};
+ghost use Rattle.std.specs.Prelude.{◌≡◌, ◌↔◌, Some, IsTrue, IfSome, map, option_map, slice_index_or};
 ghost use Rattle.std.specs.FinMap as fin;
 ghost use Rattle.std.specs.Option.{option_copied, option_and_then};
+ghost use Rattle.far_types.specs.declared.cell.Cell.TheVariants as cell;
+ghost use Rattle.far_types.specs.declared.cell.Cell.TheVariants.{Missing};
+ghost use Rattle.far_types.specs.declared.key.Key.TheVariants as keys;
 ghost use Rattle.far_types.specs.Cells.{key_in};
+ghost use Rattle.far_types.specs.Lent.{int_cell};
 ghost use Rattle.far_types.specs.Pairs.{key_under};
 ghost use Rattle.far_types.specs.Answers.{extrema};
-ghost use Rattle.far_offload.specs.Columns.{column_of, cell_of, cells_at};
+ghost use Rattle.far_offload.specs.Columns.{column_of, cell_of, cells_at, AreKeys};
 ghost use Rattle.far_offload.specs.Partials.{pairs_over, SpanFits};
 
 use crate::column::{Column, find};
 use crate::kept::value_at;
 use crate::plain::widened;
+use far_codec::LentInts;
 use far_types::{CellRef, Key, Spec};
 
 /// The column of the keys, where there is one and it is at hand.
@@ -54,9 +59,54 @@ fn stands_under(
     }
 }
 
-/// The least and the greatest value of the live places that stand under a key, where there is one: what the extrema of
-/// `fold` have under it. Takes no memory.
-pub fn span_under(
+/// The numbers of the key column, where it is at hand in a far form of numbers.
+fn number_keys<'a, 'b>(columns: &'a [Column<'b>], key: Option<u32>) -> Option<&'a LentInts<'b>>
+    ensures { IfSome result (λ numbers. AreKeys columns.now key numbers.now) }
+{
+    match key_column(columns, key) {
+        Some(column) => column.ints(),
+        None => None,
+    }
+}
+
+/// Whether the number at a place is this one.
+#[inline(always)]
+fn is_at(numbers: &LentInts<'_>, place: usize, number: &i64) -> bool
+    ensures { IsTrue result ↔ (slice_index_or (map int_cell numbers.now) place Missing ≡ cell.Int number.now) }
+{
+    match numbers.get(place) {
+        Some(found) => found == *number,
+        None => false,
+    }
+}
+
+/// What `span_under` gives of a key that is a number, where the key column is at hand in a far form of numbers: what the
+/// key and the column are is decided once for all places.
+fn span_under_number(
+    spec: &Spec,
+    columns: &[Column<'_>],
+    alive: &[bool],
+    numbers: &LentInts<'_>,
+    number: &i64,
+) -> Option<(i64, i64)>
+    requires { AreKeys columns.now spec.now.key numbers.now }
+    ensures span { result ≡ fin.get (extrema (pairs_over spec.now columns.now alive.now)) (Some (keys.Int number.now)) }
+    ensures fits { SpanFits result }
+{
+    let values = find(columns, spec.value);
+    let mut span = None;
+    for place in 0..alive.len() {
+        if is_at(numbers, place, number) {
+            if let Some(value) = value_at(spec, columns, values, place, alive[place]) {
+                span = Some(widened(span, value));
+            }
+        }
+    }
+    span
+}
+
+/// What `span_under` gives of any key.
+fn span_under_key(
     spec: &Spec,
     columns: &[Column<'_>],
     alive: &[bool],
@@ -76,4 +126,23 @@ pub fn span_under(
         }
     }
     span
+}
+
+/// The least and the greatest value of the live places that stand under a key, where there is one: what the extrema of
+/// `fold` have under it. Takes no memory.
+pub fn span_under(
+    spec: &Spec,
+    columns: &[Column<'_>],
+    alive: &[bool],
+    key: &Option<Key>,
+) -> Option<(i64, i64)>
+    ensures span { result ≡ fin.get (extrema (pairs_over spec.now columns.now alive.now)) key.now }
+    ensures fits { SpanFits result }
+{
+    if let Some(Key::Int(number)) = key {
+        if let Some(numbers) = number_keys(columns, spec.key) {
+            return span_under_number(spec, columns, alive, numbers, number);
+        }
+    }
+    span_under_key(spec, columns, alive, key)
 }

@@ -3,38 +3,41 @@ use Rattle.std.specs.Int.{w64}
 use Rattle.std.specs.FinMap as fin
 use Rattle.std.proofs.lemmas.Int.{to_z-of_z}
 use Rattle.std.proofs.lemmas.Bool.{false≢true}
+use Rattle.far_types.specs.declared.key.Key.{Key}
+use Rattle.far_types.specs.declared.key.Key.TheVariants.{Int}
 use Rattle.far_types.specs.Keys.{line_cmp}
 use Rattle.far_types.specs.Answers.{extrema}
 use Rattle.far_types.specs.Changes.{widened}
 use Rattle.far_offload.specs.Partials.{SpanFits}
 use Rattle.far_offload.proofs.FoldLaws.{pairs-valueless}
-use Rattle.far_offload.proofs.UnderLaws.{span-there, span-elsewhere}
-use Rattle.far_offload.proofs.under.span_under.Goals as goal
-use Rattle.far_offload.proofs.under.span_under.Goals.{then-stands_under+in-Some, then-stands_under+in_default, else-stands_under}
+use Rattle.far_offload.proofs.UnderLaws.{span-there, span-elsewhere, number_under}
+use Rattle.far_offload.proofs.under.span_under_number.Goals as goal
+use Rattle.far_offload.proofs.under.span_under_number.Goals.{then-is_at+in-Some, then-is_at+in_default, else-is_at}
 
 pub loop-place-init : goal.loop-place-init
-loop-place-init c = record { span = sym (fin.get-empty line_cmp c.args.key.now); fits = tt }
+loop-place-init c = record { span = sym (fin.get-empty line_cmp (Some (Int c.args.number.now))); fits = tt }
 
 pub loop-place-preserved : goal.loop-place-preserved
 loop-place-preserved c =
     let spec = c.args.spec.now in
     let columns = c.args.columns.now in
     let alive = c.args.alive.now in
-    let key = c.args.key.now in
+    let key : Option Key = Some (Int c.args.number.now) in
+    let under = number_under spec columns c.args.numbers.now c.loop-place.place c.args.number.now c.requires in
     let place = c.loop-place.place in
     let flag = get_or alive place false in
-    elim c.if-stands_under.branch [
-      | then-stands_under+in-Some w ↦
+    elim c.if-is_at.branch [
+      | then-is_at+in-Some w ↦
           record {
             span =
                 w.span-is
                 ∙ ap Some (w.widened.ensures.value
                 ∙ ap (λ (v : ℤ). widened v c.loop-place.span) (to_z-of_z w64 w.in-Some.value w.in-Some.ensures.fits)
                 ∙ ap (λ (s : Option (ℤ × ℤ)). widened w.in-Some.value s) c.loop-place.invariant.span)
-                ∙ sym (span-there spec columns alive place flag key (omega arith) refl w.in-Some.value (c.stands_under.ensures.0 w.if-stands_under.true) w.in-Some.ensures.value);
+                ∙ sym (span-there spec columns alive place flag key (omega arith) refl w.in-Some.value (under.0 (c.is_at.ensures.0 w.if-is_at.true)) w.in-Some.ensures.value);
             fits = subst SpanFits (sym w.span-is) w.widened.ensures.fits;
           }
-      | then-stands_under+in_default w ↦
+      | then-is_at+in_default w ↦
           record {
             span =
                 w.span-is
@@ -42,12 +45,12 @@ loop-place-preserved c =
                 ∙ ap (λ pairs. fin.get (extrema pairs) key) (sym (pairs-valueless spec columns alive place flag (omega arith) refl w.in_default.ensures.value));
             fits = subst SpanFits (sym w.span-is) c.loop-place.invariant.fits;
           }
-      | else-stands_under w ↦
+      | else-is_at w ↦
           record {
             span =
                 w.span-is
                 ∙ c.loop-place.invariant.span
-                ∙ sym (span-elsewhere spec columns alive place flag key (omega arith) refl (λ under. false≢true (sym w.if-stands_under.false ∙ c.stands_under.ensures.1 under)));
+                ∙ sym (span-elsewhere spec columns alive place flag key (omega arith) refl (λ there. false≢true (sym w.if-is_at.false ∙ c.is_at.ensures.1 (under.1 there))));
             fits = subst SpanFits (sym w.span-is) c.loop-place.invariant.fits;
           }
     ]

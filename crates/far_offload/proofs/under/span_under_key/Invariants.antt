@@ -2,7 +2,7 @@ use Rattle.std.proofs.Common.{◌≡◌, take}
 use Rattle.std.specs.FinMap as fin
 use Rattle.far_types.specs.Answers.{extrema}
 use Rattle.far_offload.specs.Partials.{pairs_over, SpanFits}
-use Rattle.far_offload.proofs.under.span_under.Given as goal
+use Rattle.far_offload.proofs.under.span_under_key.Given as goal
 
 abbrev pub invariant-loop-place : goal.invariant-loop-place
 invariant-loop-place l = record {

@@ -1,0 +1,53 @@
+use Rattle.std.proofs.Common.{ℤ, Option, Some, get_or, false, refl, sym, subst, ap, ◌∙◌, arith}
+use Rattle.std.specs.Int.{w64}
+use Rattle.std.specs.FinMap as fin
+use Rattle.std.proofs.lemmas.Int.{to_z-of_z}
+use Rattle.std.proofs.lemmas.Bool.{false≢true}
+use Rattle.far_types.specs.Keys.{line_cmp}
+use Rattle.far_types.specs.Answers.{extrema}
+use Rattle.far_types.specs.Changes.{widened}
+use Rattle.far_offload.specs.Partials.{SpanFits}
+use Rattle.far_offload.proofs.FoldLaws.{pairs-valueless}
+use Rattle.far_offload.proofs.UnderLaws.{span-there, span-elsewhere}
+use Rattle.far_offload.proofs.under.span_under_key.Goals as goal
+use Rattle.far_offload.proofs.under.span_under_key.Goals.{then-stands_under+in-Some, then-stands_under+in_default, else-stands_under}
+
+pub loop-place-init : goal.loop-place-init
+loop-place-init c = record { span = sym (fin.get-empty line_cmp c.args.key.now); fits = tt }
+
+pub loop-place-preserved : goal.loop-place-preserved
+loop-place-preserved c =
+    let spec = c.args.spec.now in
+    let columns = c.args.columns.now in
+    let alive = c.args.alive.now in
+    let key = c.args.key.now in
+    let place = c.loop-place.place in
+    let flag = get_or alive place false in
+    elim c.if-stands_under.branch [
+      | then-stands_under+in-Some w ↦
+          record {
+            span =
+                w.span-is
+                ∙ ap Some (w.widened.ensures.value
+                ∙ ap (λ (v : ℤ). widened v c.loop-place.span) (to_z-of_z w64 w.in-Some.value w.in-Some.ensures.fits)
+                ∙ ap (λ (s : Option (ℤ × ℤ)). widened w.in-Some.value s) c.loop-place.invariant.span)
+                ∙ sym (span-there spec columns alive place flag key (omega arith) refl w.in-Some.value (c.stands_under.ensures.0 w.if-stands_under.true) w.in-Some.ensures.value);
+            fits = subst SpanFits (sym w.span-is) w.widened.ensures.fits;
+          }
+      | then-stands_under+in_default w ↦
+          record {
+            span =
+                w.span-is
+                ∙ c.loop-place.invariant.span
+                ∙ ap (λ pairs. fin.get (extrema pairs) key) (sym (pairs-valueless spec columns alive place flag (omega arith) refl w.in_default.ensures.value));
+            fits = subst SpanFits (sym w.span-is) c.loop-place.invariant.fits;
+          }
+      | else-stands_under w ↦
+          record {
+            span =
+                w.span-is
+                ∙ c.loop-place.invariant.span
+                ∙ sym (span-elsewhere spec columns alive place flag key (omega arith) refl (λ under. false≢true (sym w.if-stands_under.false ∙ c.stands_under.ensures.1 under)));
+            fits = subst SpanFits (sym w.span-is) c.loop-place.invariant.fits;
+          }
+    ]
