@@ -34,6 +34,15 @@ impl<T> Model for Region<T> {
     ghost invariant = { λ r. IsRegion r.segments.items };
 }
 
+// Takes the memory of one segment, and gives it back. An allocator that maps each large block by itself until one of its size
+// came back, as that of the GNU C library does, then takes those of a region from one stretch, and gives them back as one.
+fn try_block<T: Copy + Drop>(alloc: Global, size: u32) -> Result<(), Refusal>
+    ensures memory { IfErr result (λ e. e ≡ Refusal.NoMemory) }
+{
+    let _block = Segment::<T>::new(alloc, size)?;
+    Ok(())
+}
+
 impl<T: Copy + Drop> Region<T> {
     /// A region of so many segments, each for `size` elements, without parts.
     ///
@@ -45,6 +54,7 @@ impl<T: Copy + Drop> Region<T> {
         ensures sound { IfOk result IsRegion }
         ensures memory { IfErr result (λ e. e ≡ Refusal.NoMemory) }
     {
+        try_block::<T>(alloc, size)?;
         let mut made = Vec::with_capacity(alloc, segments as usize)?;
         for _ in 0..segments {
             made.push(Segment::new(alloc, size)?)?;

@@ -9,17 +9,19 @@ ghost use Rattle.far_texts.specs.RefusingTogether.{first_tests, push_texts_refus
 mod asking;
 mod checking;
 mod forms;
+mod giving;
 mod growing;
 
 use super::TextColumn;
 pub use asking::may_push_texts;
-use checking::{all_begin, may_make_forms};
+use checking::may_make_forms;
 use far_scopes::Objects;
 use far_store::FarTickets;
 use far_types::{Refusal, Text};
-use forms::{known_together, next_forms};
-use growing::{begin_groups, extend_groups};
+use forms::{known_together, next_form, next_forms};
+use giving::give_forms;
 use std::alloc::Global;
+use std::slice::from_ref;
 
 /// Appends a text to each of several columns, to all or to none. Where the next places begin row groups an object is made
 /// for each column; else the last object of each gets another form, and all new forms are placed, in the order of the
@@ -57,10 +59,11 @@ pub fn push_texts<S: FarTickets>(
 {
     may_make_forms(objects, columns, texts)?;
     known_together(objects, columns);
-    let forms = next_forms(alloc, objects, columns, texts)?;
-    if all_begin(columns) {
-        begin_groups(objects, columns, &forms)
-    } else {
-        extend_groups(objects, columns, &forms)
+    if columns.len() == 1 {
+        // The one form needs no list of forms, which would be memory of its own.
+        let form = next_form(alloc, objects, columns, texts)?;
+        return give_forms(objects, columns, texts, from_ref(&form));
     }
+    let forms = next_forms(alloc, objects, columns, texts)?;
+    give_forms(objects, columns, texts, &forms)
 }

@@ -40,6 +40,29 @@ impl TextColumn {
     }
 }
 
+// The form for the next text of the one column, beside its object.
+pub(super) fn next_form<S: FarTickets>(
+    alloc: Global,
+    objects: &Objects<u8, S>,
+    columns: &[TextColumn],
+    texts: &[Option<Text>],
+) -> Result<Replacement<u8>, Refusal>
+    requires each { All (IsTextColumn (lists_of S.content objects.now)) columns.now }
+    requires even { length texts.now ≡ length columns.now }
+    requires one { length columns.now ≡ 1 }
+    requires few { All (λ c. begins_group c ≡ true → length objects.now.entries + length columns.now ≤ 2 ^ 28) columns.now }
+    requires here { All (λ c. next_length_refusal S.content objects.now c ≡ None) columns.now }
+    requires short { first_of (any_full (lists_of S.content objects.now) columns.now texts.now ∷ []) ≡ None }
+    ensures form { IfOk result (λ form. given_forms (form ∷ []) ≡ next_forms (lists_of S.content objects.now) (length objects.now.entries) columns.now texts.now) }
+    ensures valid { IfOk result (λ form. AreNextForms (lists_of S.content objects.now) columns.now texts.now) }
+    ensures memory { IfErr result (λ e. e ≡ Refusal.NoMemory) }
+{
+    let column = &columns[0];
+    let list = column.form_pushed(alloc, objects, &texts[0])?;
+    let object = column.object_for(objects.count(), 0);
+    Ok(Replacement { object, list })
+}
+
 // The form for each column's next text, beside its object.
 pub(super) fn next_forms<S: FarTickets>(
     alloc: Global,

@@ -1,0 +1,54 @@
+// Several columns of texts get the forms of their next texts, all or none.
+ghost use Rattle.std.specs.Prelude.{◌≡◌, if◌then◌else◌, ◌⊎◌, ◌<◌, ◌≤◌, ◌+◌, ◌^◌, ◌∷◌, ℕ, List, [], length, map, true, false, None, Some, All, OnOk, IfErr, OnErr};
+ghost use Rattle.far_types.specs.FirstOf.{first_of};
+ghost use Rattle.far_scopes.specs.Movement.{AreClean, AreHere};
+ghost use Rattle.far_texts.specs.Texts.{Texts, HasGroups, IsTextColumn, AreApart, lists_of, texts_in};
+ghost use Rattle.far_texts.specs.Refusing.{next_length_refusal};
+ghost use Rattle.far_texts.specs.Together.{AreColumns, AreNextForms, all_begin, next_forms, given_forms, all_pushed, all_texts_with, ChangesTo, KeepsColumns, all_created, AreReplaced};
+ghost use Rattle.far_texts.specs.RefusingTogether.{first_tests, push_texts_refusal};
+
+use super::checking::all_begin;
+use super::growing::{begin_groups, extend_groups};
+use crate::text_column::TextColumn;
+use far_scopes::{Objects, Replacement};
+use far_store::FarTickets;
+use far_types::{Refusal, Text};
+
+// Each column gets the form of its next text, which may be made: all of them, or none.
+pub(super) fn give_forms<S: FarTickets>(
+    objects: &mut Objects<u8, S>,
+    columns: &mut [TextColumn],
+    texts: &[Option<Text>],
+    forms: &[Replacement<u8>],
+) -> Result<(), Refusal>
+    requires are { AreColumns (lists_of S.content objects.old) columns.old }
+    requires even { length texts.now ≡ length columns.old }
+    requires few { all_begin columns.old ≡ true → length objects.old.entries + length columns.old ≤ 2 ^ 28 }
+    requires objects { All (λ c. length c.objects ≤ length objects.old.entries) columns.old }
+    requires groups { All HasGroups columns.old }
+    requires fresh { (p : ℕ) → length objects.old.entries ≤ p → lists_of S.content objects.old p ≡ None }
+    requires here { All (λ c. next_length_refusal S.content objects.old c ≡ None) columns.old }
+    requires first { first_of (first_tests S.content objects.old columns.old texts.now) ≡ None }
+    requires forms { given_forms forms.now ≡ next_forms (lists_of S.content objects.old) (length objects.old.entries) columns.old texts.now }
+    requires valid { AreNextForms (lists_of S.content objects.old) columns.old texts.now }
+    ensures pushed { OnOk result (columns.new ≡ all_pushed (length objects.old.entries) columns.old) }
+    ensures begun { OnOk result (all_begin columns.old ≡ true → objects.new ≡ all_created objects.old columns.old (next_forms (lists_of S.content objects.old) (length objects.old.entries) columns.old texts.now)) }
+    ensures replaced { OnOk result (all_begin columns.old ≡ false → AreReplaced objects.old (next_forms (lists_of S.content objects.old) (length objects.old.entries) columns.old texts.now) objects.new) }
+    ensures count { OnOk result (length objects.new.entries ≡ length objects.old.entries + (if all_begin columns.old then length columns.old else 0)) }
+    ensures lists { OnOk result (ChangesTo (lists_of S.content objects.old) (lists_of S.content objects.new) (next_forms (lists_of S.content objects.old) (length objects.old.entries) columns.old texts.now)) }
+    ensures are { AreColumns (lists_of S.content objects.new) columns.new }
+    ensures texts { OnOk result (map (texts_in (lists_of S.content objects.new)) columns.new ≡ all_texts_with (lists_of S.content objects.old) columns.old texts.now) }
+    ensures others { KeepsColumns (lists_of S.content objects.old) (lists_of S.content objects.new) columns.old }
+    ensures apart { (d : Texts) → IsTextColumn (lists_of S.content objects.old) d → All (λ c. AreApart c d) columns.old → All (λ c. AreApart c d) columns.new }
+    ensures clean { AreClean (λ bytes. bytes) S.content objects.old → AreClean (λ bytes. bytes) S.content objects.new }
+    ensures store { (name : List ℕ) → AreHere S.is_of name objects.old → AreHere S.is_of name objects.new }
+    ensures free { OnOk result (push_texts_refusal S.content objects.old columns.old texts.now ≡ None) }
+    ensures refused { IfErr result (λ e. (push_texts_refusal S.content objects.old columns.old texts.now ≡ Some e) ⊎ ((first_of (first_tests S.content objects.old columns.old texts.now) ≡ None) × (e ≡ Refusal.NoMemory))) }
+    ensures err { OnErr result ((columns.new ≡ columns.old) × (objects.new ≡ objects.old)) }
+{
+    if all_begin(columns) {
+        begin_groups(objects, columns, forms)
+    } else {
+        extend_groups(objects, columns, forms)
+    }
+}
