@@ -10,10 +10,13 @@ use Rattle.far_script.specs.declared.fault.ShellFault.TheVariants as fault
 use Rattle.far_script.specs.declared.input.Input.{Input}
 use Rattle.far_script.specs.Flow.{IsSpent, Prints, Reads}
 use Rattle.far_script.specs.Openings.{Threads, start_in}
+use Rattle.far_script.specs.Printing.{answer_text}
 use Rattle.far_script.proofs.FlowLaws.{prints, prints-nothing-then}
 use Rattle.far_script.proofs.StopLaws.{coming, spent-rest, starts}
+use Rattle.far_threads.specs.declared.outcome.Outcome.{Outcome}
+use Rattle.far_threads.specs.Runs.{IsOutcome}
 use Rattle.far_shell.specs.Scripts.{Begins}
-use Rattle.far_shell.specs.Sessions.{CutOutcome, IsAnswered, IsThreads, TellsOutcome, gauges_text, line_of}
+use Rattle.far_shell.specs.Sessions.{CutOutcome, IsAnswered, IsThreads, TellsOutcome, gauges_text, line_of, outcome_text}
 use Rattle.far_shell.proofs.BreakLaws.{Breaking}
 use Rattle.far_commands.proofs.RowLaws.{drop-past}
 use Rattle.far_shell.proofs.ScriptLaws.{begins-then}
@@ -28,6 +31,10 @@ gauges-more readings i told page after whole low grown e =
 -- none is left
 pub gauges-end : (readings : List Reading) (i : ℕ) (page whole : List ℕ) → length readings ≤ i → page ++ gauges_text i (drop i readings) ≡ whole → page ≡ whole
 gauges-end readings i page whole past e = sym (append-nil page) ∙ sym (ap (λ (rest : List Reading). page ++ gauges_text i rest) (drop-past readings i past)) ∙ e
+
+-- what sessions leave is printed as it is told
+pub told-of : (sessions edits : ℕ) (o : Outcome) (page : List ℕ) → IsOutcome sessions edits o → page ≡ outcome_text o → TellsOutcome sessions edits page
+told-of sessions edits o page is said = (o.answer, is.answer, said ∙ ap (λ (readings : List Reading). gauges_text 0 readings ++ answer_text o.answer) is.gauges)
 
 -- sessions that were stopped, and nothing is written
 pub cut-stopped : (why : ShellFault) (sessions edits : ℕ) → (why ≡ fault.Memory) ⊎ (why ≡ fault.Turns) → CutOutcome why sessions edits []

@@ -1,11 +1,13 @@
 -- What a script of sessions on threads is answered.
-use Rattle.std.specs.Prelude.{◌≡◌, ◌⊎◌, ℕ, ◌+◌, List, [], ◌∷◌, ◌++◌, Some}
+use Rattle.std.specs.Prelude.{◌≡◌, ◌⊎◌, ℕ, ◌+◌, List, [], ◌∷◌, ◌++◌, Some, replicate}
+use Rattle.far_types.specs.declared.answer.Answer.{Answer}
 use Rattle.far_history.specs.declared.reading.Reading.{Reading}
 use Rattle.far_store.specs.declared.store.FarTickets.{Ghosts as Tickets}
 use Rattle.far_threads.specs.declared.outcome.Outcome.{Outcome}
 use Rattle.far_threads.specs.declared.outcome.Stop.{Stop}
 use Rattle.far_threads.specs.declared.outcome.Stop.TheVariants as stop
-use Rattle.far_threads.specs.Runs.{IsOutcome}
+use Rattle.far_threads.specs.Runs.{all_of, plan_for}
+use Rattle.far_shared.specs.Asking.{IsAnswer}
 use Rattle.far_script.specs.declared.fault.ShellFault.{ShellFault}
 use Rattle.far_script.specs.declared.fault.ShellFault.TheVariants as fault
 use Rattle.far_script.specs.Openings.{Threads, start_in}
@@ -25,9 +27,13 @@ gauges_text session (reading ∷ readings) = line_of session reading ++ gauges_t
 abbrev pub outcome_text : Outcome → List ℕ
 outcome_text o = gauges_text 0 o.gauges.items ++ answer_text o.answer
 
--- a text tells how so many sessions ended, each with so many edits
+-- the gauge lines of so many sessions, each with so many edits: `session s gauge N N N` for each session s, where N is the number of edits
+abbrev pub gauge_lines : ℕ → ℕ → List ℕ
+gauge_lines sessions edits = gauges_text 0 (replicate sessions (all_of edits))
+
+-- a text tells how so many sessions ended, each with so many edits: their gauge lines, and an answer over what four legal histories leave
 abbrev pub TellsOutcome : ℕ → ℕ → List ℕ → Type 0
-TellsOutcome sessions edits text = (o : Outcome) × IsOutcome sessions edits o × (text ≡ outcome_text o)
+TellsOutcome sessions edits text = (answer : Answer) × IsAnswer (plan_for sessions) 0 answer × (text ≡ gauge_lines sessions edits ++ answer_text answer)
 
 -- what ends a script whose sessions are stopped
 abbrev pub fault_of : Stop → ShellFault

@@ -1,1 +1,5 @@
+mod MakingLaws
 mod ReadingLaws
+mod HistoryLaws
+mod GaugeLaws
+mod RunLaws

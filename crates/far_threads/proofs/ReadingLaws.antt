@@ -1,48 +1,55 @@
 -- What is read of sessions that have made their edits.
-use Rattle.std.proofs.Common.{◌≡◌, ◌⊎◌, inl, inr, ℕ, zero, suc, ◌+◌, ◌<◌, ◌≤◌, ◌%◌, List, [], ◌∷◌, ◌++◌, Result, Some, None, length, slice_get, refl, sym, ap, ◌∙◌, subst, arith, OnOk, IsOk, not-suc-le-zero}
+use Rattle.std.proofs.Common.{◌≡◌, ◌≢◌, inl, inr, ℕ, zero, suc, ◌<◌, ◌%◌, List, [], ◌∷◌, ◌++◌, Result, Some, length, slice_get, refl, sym, ap, ◌∙◌, subst, arith, OnOk, IsOk, not-suc-le-zero}
+use mathlib.Core.Logic.{dite}
+use native.Mathlib.Decide.{ℕ_discrete}
 use Rattle.std.proofs.lemmas.Bool.{cases_lt}
 use Rattle.std.proofs.lemmas.List.{length-append}
-use Rattle.std.proofs.lemmas.Option.{slice_get_within}
+use Rattle.std.proofs.lemmas.Option.{none-some, same_Some, slice_get_within}
 use Rattle.std.specs.declared.result.Result.TheVariants.{Ok, Err}
-use Rattle.far_history.specs.Histories.{Planned, by_session}
+use Rattle.far_history.specs.Histories.{Planned, by_session, gauge_of}
 use Rattle.far_history.specs.Sessions.{Told, newcomer}
 use Rattle.far_history.specs.declared.reading.Reading.{Reading}
 use Rattle.far_sessions.specs.Known.{Known, at, number_of, newcomers, newcomer_at_all}
-use Rattle.far_threads.specs.Runs.{AreReadings, AreWorked, Ended, IsGauged, IsRead, IsReading, IsWorked, Makes, inserts}
+use Rattle.far_threads.specs.Working.{AreGauged, AreWorked, Ended, IsGauged, IsRead, IsWorked, Looked, Makes, inserts}
 
--- each reading is of a session that has ended well, in order
-abbrev pub AreRead : Planned → List Ended → List Reading → Type 0
-AreRead p [] [] = Unit {0}
-AreRead p [] (reading ∷ readings) = ⊥
-AreRead p (ended ∷ worked) [] = ⊥
-AreRead p (ended ∷ worked) (reading ∷ readings) = IsRead p ended reading × AreRead p worked readings
+-- each session that has ended well was read, in order
+abbrev pub AreRead : Planned → List Ended → List Known → List Reading → Type 0
+AreRead p [] [] [] = Unit {0}
+AreRead p [] [] (reading ∷ readings) = ⊥
+AreRead p [] (me ∷ sessions) readings = ⊥
+AreRead p (ended ∷ worked) [] readings = ⊥
+AreRead p (ended ∷ worked) (me ∷ sessions) [] = ⊥
+AreRead p (ended ∷ worked) (me ∷ sessions) (reading ∷ readings) = IsRead p ended me reading × AreRead p worked sessions readings
 
--- one more
-pub read-more : (p : Planned) (worked : List Ended) (readings : List Reading) (ended : Ended) (reading : Reading) → AreRead p worked readings → IsRead p ended reading → AreRead p (worked ++ ended ∷ []) (readings ++ reading ∷ [])
-read-more p [] [] ended reading all one = (one, tt)
-read-more p [] (r ∷ readings) ended reading all one = absurd all
-read-more p (e ∷ worked) [] ended reading all one = absurd all
-read-more p (e ∷ worked) (r ∷ readings) ended reading all one = (all.0, read-more p worked readings ended reading all.1 one)
+module _ (p : Planned) where
+  -- one more
+  pub read-more : (worked : List Ended) (sessions : List Known) (readings : List Reading) (ended : Ended) (me : Known) (reading : Reading) → AreRead p worked sessions readings → IsRead p ended me reading → AreRead p (worked ++ ended ∷ []) (sessions ++ me ∷ []) (readings ++ reading ∷ [])
+  read-more [] [] [] ended me reading all one = (one, tt)
+  read-more [] [] (r ∷ readings) ended me reading all one = absurd all
+  read-more [] (m ∷ sessions) readings ended me reading all one = absurd all
+  read-more (e ∷ worked) [] readings ended me reading all one = absurd all
+  read-more (e ∷ worked) (m ∷ sessions) [] ended me reading all one = absurd all
+  read-more (e ∷ worked) (m ∷ sessions) (r ∷ readings) ended me reading all one = (all.0, read-more worked sessions readings ended me reading all.1 one)
 
-read-count : (p : Planned) (worked : List Ended) (readings : List Reading) → AreRead p worked readings → length readings ≡ length worked
-read-count p [] [] all = refl
-read-count p [] (r ∷ readings) all = absurd all
-read-count p (e ∷ worked) [] all = absurd all
-read-count p (e ∷ worked) (r ∷ readings) all = ap suc (read-count p worked readings all.1)
+  read-count : (worked : List Ended) (sessions : List Known) (readings : List Reading) → AreRead p worked sessions readings → (length sessions ≡ length worked) × (length readings ≡ length worked)
+  read-count [] [] [] all = (refl, refl)
+  read-count [] [] (r ∷ readings) all = absurd all
+  read-count [] (m ∷ sessions) readings all = absurd all
+  read-count (e ∷ worked) [] readings all = absurd all
+  read-count (e ∷ worked) (m ∷ sessions) [] all = absurd all
+  read-count (e ∷ worked) (m ∷ sessions) (r ∷ readings) all = (let count = read-count worked sessions readings all.1 in (ap suc count.0, ap suc count.1))
 
-none-some : {X : Type 0} (x : X) → None ≡ Some x → ⊥
-none-some x is = cc
-
-some-some : {X : Type 0} (x y : X) → Some x ≡ Some y → x ≡ y
-some-some x y is = cc
-
--- the session that a reading is of
-read-of : (p : Planned) (worked : List Ended) (readings : List Reading) (s : ℕ) (reading : Reading) → AreRead p worked readings → slice_get readings s ≡ Some reading → (ended : Ended) × (slice_get worked s ≡ Some ended) × IsRead p ended reading
-read-of p [] [] s reading all is = absurd (none-some reading is)
-read-of p [] (r ∷ readings) s reading all is = absurd all
-read-of p (e ∷ worked) [] s reading all is = absurd all
-read-of p (e ∷ worked) (r ∷ readings) zero reading all is = (e, refl, subst (IsRead p e) (some-some r reading is) all.0)
-read-of p (e ∷ worked) (r ∷ readings) (suc s) reading all is = read-of p worked readings s reading all.1 is
+  -- what became of the session that a reading is of
+  read-of : (worked : List Ended) (sessions : List Known) (readings : List Reading) (s : ℕ) (me : Known) (reading : Reading) → AreRead p worked sessions readings → slice_get sessions s ≡ Some me → slice_get readings s ≡ Some reading
+      → (ended : Ended) × (slice_get worked s ≡ Some ended) × IsRead p ended me reading
+  read-of [] [] [] s me reading all is told = absurd (none-some me is)
+  read-of [] [] (r ∷ readings) s me reading all is told = absurd all
+  read-of [] (m ∷ sessions) readings s me reading all is told = absurd all
+  read-of (e ∷ worked) [] readings s me reading all is told = absurd all
+  read-of (e ∷ worked) (m ∷ sessions) [] s me reading all is told = absurd all
+  read-of (e ∷ worked) (m ∷ sessions) (r ∷ readings) zero me reading all is told =
+      (e, refl, subst (λ (r' : Reading). IsRead p e me r') (same_Some r reading told) (subst (λ (m' : Known). IsRead p e m' r) (same_Some m me is) all.0))
+  read-of (e ∷ worked) (m ∷ sessions) (r ∷ readings) (suc s) me reading all is told = read-of worked sessions readings s me reading all.1 is told
 
 -- ---- the first sessions
 kept-at : {X : Type 0} (xs : List X) (x y : X) (i : ℕ) → slice_get xs i ≡ Some x → slice_get (xs ++ y ∷ []) i ≡ Some x
@@ -75,7 +82,7 @@ new-at n (suc zero) = refl
 new-at n (suc (suc zero)) = refl
 new-at n (suc (suc (suc k))) = refl
 
--- ---- readings
+-- ---- a session
 not-ok : (A : Type 0) {E : Type 0} (e : E) → IsOk {T = A} {E = E} (Err e) → ⊥
 not-ok A e ok = cc
 
@@ -83,27 +90,41 @@ of-ok : (A : Type 0) {E : Type 0} (r : Result A E) (P : Type 0) → IsOk r → O
 of-ok A (Ok x) P ok holds = holds
 of-ok A (Err e) P ok holds = absurd (not-ok A e ok)
 
-reading-of : (p : Planned) (s n : ℕ) (ended : Ended) (reading : Reading) → IsRead p ended reading → IsWorked n (newcomer_at_all s) ended → IsReading p s n reading
-reading-of p s n ended reading read worked =
-    let home = s % 4 in
-    let made : Makes n (newcomer s) (at ended.session home) = subst (λ told. Makes n told (at ended.session home)) (new-at s home) (of-ok _ ended.outcome _ read.done worked) in
-    let number : number_of ended.session ≡ s = sym (read.number home) ∙ made.by in
-    let told : IsGauged p (at ended.session home) reading = subst (λ k. IsGauged p (at ended.session (k % 4)) reading) number read.gauged in
+-- who keeps its number at one stripe, and all at the others, keeps its number
+number-kept : (k : ℕ) (before after : Known) → (at after k).by ≡ (at before k).by → ((i : ℕ) → i < 4 → i ≢ k → at after i ≡ at before i) → number_of after ≡ number_of before
+number-kept k before after by others =
+    dite (ℕ_discrete 0 k) (λ is. subst (λ (i : ℕ). (at after i).by ≡ (at before i).by) (sym is) by) (λ other. ap (λ (told : Told). told.by) (others 0 (omega arith) other))
+
+-- a session that was new made its inserts at stripe k, and looked there
+gauged-at : (p : Planned) (s n k : ℕ) (ended : Ended) (me : Known) (reading : Reading) → k ≡ s % 4 → Makes k n (newcomer_at_all s) ended.session → Looked p k ended me reading → IsGauged p s n me reading
+gauged-at p s n k ended me reading home made looked =
+    let new : at (newcomer_at_all s) k ≡ newcomer s = new-at s k in
+    let by : (at me k).by ≡ s = looked.sees.by ∙ made.by ∙ ap (λ (told : Told). told.by) new in
+    let mine : (at me k).mine ≡ inserts s n = looked.sees.mine ∙ made.mine ∙ ap (λ (told : Told). told.mine ++ inserts told.by n) new in
     record {
-      log = told.log;
-      legal = told.legal;
-      own = subst (λ k. by_session k told.log ≡ inserts s n) made.by (told.own ∙ made.mine);
-      is = told.is;
+      number = number-kept k ended.session me looked.sees.by looked.others ∙ number-kept k (newcomer_at_all s) ended.session made.by made.others;
+      none = λ i low other.
+          let away : i ≢ k = subst (λ (h : ℕ). i ≢ h) (sym home) other in
+          ap (λ (told : Told). told.mine) (looked.others i low away ∙ made.others i low away ∙ new-at s i);
+      own = subst (λ (h : ℕ). by_session s (at me h).seen ≡ inserts s n) home (ap (λ (t : ℕ). by_session t (at me k).seen) (sym by) ∙ looked.sees.own ∙ mine);
+      is = looked.is ∙ ap (λ (h : ℕ). gauge_of p (at me h).seen) home;
     }
 
--- what is read of the first m sessions when each has made its inserts
-module _ (p : Planned) (m n : ℕ) (worked : List Ended) (readings : List Reading) where
-  pub readings-count : AreRead p worked readings → AreWorked n (newcomers m) worked → length readings ≡ m
-  readings-count all done = read-count p worked readings all ∙ done.count ∙ length-newcomers m
+gauged-of : (p : Planned) (s n : ℕ) (ended : Ended) (me : Known) (reading : Reading) → IsRead p ended me reading → IsWorked n (newcomer_at_all s) ended → IsGauged p s n me reading
+gauged-of p s n ended me reading read worked =
+    let made : Makes (s % 4) n (newcomer_at_all s) ended.session = of-ok _ ended.outcome _ read.done worked in
+    let number : number_of ended.session ≡ s = number-kept (s % 4) (newcomer_at_all s) ended.session made.by made.others in
+    gauged-at p s n (s % 4) ended me reading refl made (subst (λ (t : ℕ). Looked p (t % 4) ended me reading) number read)
 
-  pub readings-of : AreRead p worked readings → AreWorked n (newcomers m) worked → AreReadings p n readings
-  readings-of all done s reading is =
-      let of = read-of p worked readings s reading all is in
-      let count : length worked ≡ m = done.count ∙ length-newcomers m in
-      let within : s < m = subst (λ k. s < k) count (slice_get_within worked s of.0 of.1) in
-      reading-of p s n of.0 reading of.2 (done.each s (newcomer_at_all s) of.0 (newcomer-at m s within) of.1)
+-- what is read of all sessions of a plan when each has made its inserts
+pub gauged-all : (p : Planned) (n : ℕ) (worked : List Ended) (sessions : List Known) (readings : List Reading) → AreRead p worked sessions readings → AreWorked n (newcomers p.sessions) worked → AreGauged p n sessions readings
+gauged-all p n worked sessions readings all done =
+    let count = read-count p worked sessions readings all in
+    let worked-count : length worked ≡ p.sessions = done.count ∙ length-newcomers p.sessions in record {
+      count = count.0 ∙ worked-count;
+      told = count.1 ∙ worked-count;
+      each = λ s me reading is told.
+          let of = read-of p worked sessions readings s me reading all is told in
+          let within : s < p.sessions = subst (λ (m : ℕ). s < m) worked-count (slice_get_within worked s of.0 of.1) in
+          gauged-of p s n of.0 me reading of.2 (done.each s (newcomer_at_all s) of.0 (newcomer-at p.sessions s within) of.1);
+    }

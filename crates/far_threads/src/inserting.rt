@@ -1,7 +1,7 @@
 // The edits of a session.
 ghost use Rattle.std.specs.Prelude.{◌≡◌, ℕ, ◌<◌, IfOk, OnOk};
-ghost use Rattle.far_sessions.specs.Known.{at};
-ghost use Rattle.far_threads.specs.Runs.{Makes, row_of_one};
+ghost use Rattle.far_threads.specs.Runs.{row_of_one};
+ghost use Rattle.far_threads.specs.Working.{Makes};
 
 use crate::clearing::clear_way;
 use crate::outcome::Stop;
@@ -25,7 +25,7 @@ fn row_of_one(alloc: Global) -> Result<Row, Stop>
     Ok(Row::new(cells))
 }
 
-/// Inserts a row on a stripe, with as many tries as it may take.
+/// Inserts a row on a stripe, with as many tries as it may take. At the others the session stays as it was.
 fn insert_one<N: Naming, B: Site, S: FarStore, R: Wait>(
     rt: &R,
     alloc: Global,
@@ -36,7 +36,7 @@ fn insert_one<N: Naming, B: Site, S: FarStore, R: Wait>(
 ) -> Result<(), Stop>
     requires store { S.name store.now ≡ B.store }
     requires stripe { stripe < 4 }
-    ensures ok { OnOk result (Makes 1 (at me.old stripe) (at me.new stripe)) }
+    ensures ok { OnOk result (Makes stripe 1 me.old me.new) }
 {
     for turn in 0..MOST_TRIES {
         let edit = Edit::Insert(row_of_one(alloc)?);
@@ -48,7 +48,7 @@ fn insert_one<N: Naming, B: Site, S: FarStore, R: Wait>(
     Err(Stop::Turns)
 }
 
-/// Inserts so many rows on a stripe.
+/// Inserts so many rows on a stripe, and none elsewhere.
 pub(crate) fn insert_all<N: Naming, B: Site, S: FarStore, R: Wait>(
     rt: &R,
     alloc: Global,
@@ -60,7 +60,7 @@ pub(crate) fn insert_all<N: Naming, B: Site, S: FarStore, R: Wait>(
 ) -> Result<(), Stop>
     requires store { S.name store.now ≡ B.store }
     requires stripe { stripe < 4 }
-    ensures ok { OnOk result (Makes edits (at me.old stripe) (at me.new stripe)) }
+    ensures ok { OnOk result (Makes stripe edits me.old me.new) }
 {
     for made in 0..edits {
         insert_one(rt, alloc, shared, store, me, stripe)?;

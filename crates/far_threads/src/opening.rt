@@ -2,6 +2,7 @@
 ghost use Rattle.std.specs.Prelude.{◌≡◌, ◌≤◌, IfOk};
 ghost use Rattle.far_shared.specs.Opening.{AreNamed};
 ghost use Rattle.far_threads.specs.Runs.{IsOutcome, IsRun};
+ghost use Rattle.far_threads.specs.Working.{HasHomes};
 
 use crate::outcome::{Outcome, Stop};
 use crate::planning::plan_for;
@@ -27,12 +28,13 @@ fn opened<N: Naming + Send + Sync, B: Site + Send + Sync, S: FarStore, R: Thread
 ) -> Result<Outcome, Stop>
     requires names { AreNamed made B.cells }
     requires store { S.name store.now ≡ B.store }
+    requires homes { HasHomes N.plan }
     ensures { IfOk result (IsRun N.plan edits) }
 {
     let Ok((shared, sessions)) = made.open::<B>(alloc) else {
         return Err(Stop::Memory);
     };
-    run_shared(rt, alloc, &shared, store, sessions, edits)
+    run_shared(rt, alloc, shared, store, sessions, edits)
 }
 
 /// Gives the cells of a table and its store their names, and runs the sessions.
@@ -43,6 +45,7 @@ fn named<N: Naming + Send + Sync, S: FarStore, R: Threads + Wait + Sync>(
     store: &S,
     edits: u32,
 ) -> Result<Outcome, Stop>
+    requires homes { HasHomes N.plan }
     ensures { IfOk result (IsRun N.plan edits) }
 {
     opened::<N, Brand, S, R>(rt, alloc, made, store, edits)
@@ -56,7 +59,8 @@ fn made_over<N: Naming + Send + Sync, S: FarStore, R: Threads + Wait + Sync>(
     store: &S,
     edits: u32,
 ) -> Result<Outcome, Stop>
-    requires { plan ≡ N.plan }
+    requires name { plan ≡ N.plan }
+    requires homes { HasHomes N.plan }
     ensures { IfOk result (IsRun N.plan edits) }
 {
     let Ok(made) = plan.make::<N, S>(alloc) else {
@@ -72,7 +76,8 @@ fn planned<N: Naming + Send + Sync, R: Threads + Wait + Sync>(
     plan: Plan,
     edits: u32,
 ) -> Result<Outcome, Stop>
-    requires { plan ≡ N.plan }
+    requires name { plan ≡ N.plan }
+    requires homes { HasHomes plan }
     ensures { IfOk result (IsRun plan edits) }
 {
     let Ok(store) = AgentStore::new(rt, alloc, STORE_CAPACITY) else {
@@ -83,7 +88,7 @@ fn planned<N: Naming + Send + Sync, R: Threads + Wait + Sync>(
 
 /// Runs sessions on threads over one shared table: each inserts so many rows of the number 1 on its home stripe, while a worker in the
 /// background tries as many evacuations, one stripe after the other. When all have ended, the gauge of each session's home stripe is
-/// read, and the gauge is asked over all stripes.
+/// read, and the gauge is asked over all stripes. Then the table is closed. Each gauge has read just the rows that its session inserted.
 ///
 /// A session whose edit meets an object that is away fetches it and tries again; where there is no room it sends an object away and
 /// tries again. Ends with `Memory` where a call is refused memory, and with `Turns` where an edit was tried 10,000 times or is refused

@@ -1,41 +1,22 @@
 // Sessions on threads, and a worker beside them.
-ghost use Rattle.std.specs.Prelude.{◌≡◌, ◌%◌, IfOk, OnOk, length};
-ghost use Rattle.far_sessions.specs.Known.{newcomers, number_of};
-ghost use Rattle.far_threads.specs.Runs.{AreReadings, AreWorked, IsRead, IsRun, IsWorked};
+ghost use Rattle.std.specs.Prelude.{◌≡◌, IfOk, OnOk};
+ghost use Rattle.far_sessions.specs.Known.{newcomers};
+ghost use Rattle.far_threads.specs.Runs.{IsRun};
+ghost use Rattle.far_threads.specs.Working.{AreLeft, AreWorked, HasHomes, IsWorked};
 
+use crate::ending::end;
 use crate::evacuating::evacuate_all;
 use crate::inserting::insert_all;
 use crate::outcome::{Outcome, Stop};
-use far_history::{Naming, Reading};
-use far_sessions::{Cells, Session};
+use crate::reading::read_all;
+use crate::worked::{Worked, home_of};
+use far_history::Naming;
+use far_sessions::Session;
 use far_shared::{Shared, Site};
 use far_store::FarStore;
 use std::alloc::Global;
-use std::marker::Model;
 use std::sync::Wait;
 use std::thread::{self, Threads};
-
-/// A session that has made its edits, or was stopped.
-#[derive(Drop)]
-pub(crate) struct Worked<B: Site> {
-    pub(crate) session: Session<B>,
-    pub(crate) outcome: Result<(), Stop>,
-}
-
-impl<B: Site> Model for Worked<B> {
-    ghost use Rattle.far_threads.specs.Runs.{Ended};
-
-    ghost Value = { Ended };
-
-    ghost view = { λ w. record { session = w.session; outcome = w.outcome } };
-}
-
-/// The home stripe of a session.
-fn home_of<B: Site>(me: &Session<B>) -> u32
-    ensures { result ≡ number_of me.now % 4 }
-{
-    (me.number() % 4) as u32
-}
 
 /// Makes the edits of a session on its home stripe.
 fn work<N: Naming, B: Site, S: FarStore, R: Wait>(
@@ -75,60 +56,6 @@ fn work_all<N: Naming + Send + Sync, B: Site + Send + Sync, S: FarStore, R: Thre
     { work(rt, alloc, shared, store, me, edits) };
     let worked = thread::map_vec(rt, sessions, &work_one)?;
     Ok(worked)
-}
-
-/// What the gauge of a session's home stripe reads when its edits are made. Ends as the session did.
-fn read_gauge<N: Naming, B: Site, R: Wait>(
-    rt: &R,
-    cells: &Cells<N, B>,
-    worked: Worked<B>,
-) -> Result<Reading, Stop>
-    ensures { IfOk result (IsRead N.plan worked) }
-{
-    worked.outcome?;
-    let mut me = worked.session;
-    let home = home_of(&me);
-    let Ok(reading) = cells.gauge(rt, &mut me, home) else {
-        unreachable!()
-    };
-    Ok(reading)
-}
-
-/// What the gauges of the sessions' home stripes read, in order.
-fn read_gauges<N: Naming, B: Site, R: Wait>(
-    rt: &R,
-    alloc: Global,
-    cells: &Cells<N, B>,
-    worked: Vec<Worked<B>>,
-    edits: u32,
-) -> Result<Vec<Reading>, Stop>
-    requires { AreWorked edits (newcomers N.plan.sessions) worked.items }
-    ensures count { IfOk result (λ readings. length readings.items ≡ N.plan.sessions) }
-    ensures readings { IfOk result (λ readings. AreReadings N.plan edits readings.items) }
-{
-    let mut readings = Vec::new(alloc);
-    for one in worked {
-        readings.push(read_gauge(rt, cells, one)?)?;
-    }
-    Ok(readings)
-}
-
-/// What sessions leave that have made their edits.
-fn outcome_of<N: Naming, B: Site, S: FarStore, R: Wait>(
-    rt: &R,
-    alloc: Global,
-    shared: &Shared<N, B, S>,
-    worked: Vec<Worked<B>>,
-    edits: u32,
-) -> Result<Outcome, Stop>
-    requires { AreWorked edits (newcomers N.plan.sessions) worked.items }
-    ensures { IfOk result (IsRun N.plan edits) }
-{
-    let gauges = read_gauges(rt, alloc, shared.cells(), worked, edits)?;
-    match shared.ask_all(rt, 0) {
-        Ok(answer) => Ok(Outcome { gauges, answer }),
-        Err(_) => Err(Stop::Memory),
-    }
 }
 
 /// The second, unless the first ended early.
@@ -171,6 +98,24 @@ fn work_beside<
 }
 
 /// Lets sessions make their edits while a worker in the background sends objects away, and reads what they leave when all have ended.
+/// The sessions come back beside it.
+fn leave<N: Naming + Send + Sync, B: Site + Send + Sync, S: FarStore, R: Threads + Wait + Sync>(
+    rt: &R,
+    alloc: Global,
+    shared: &Shared<N, B, S>,
+    store: &S,
+    sessions: Vec<Session<B>>,
+    edits: u32,
+) -> Result<(Vec<Session<B>>, Outcome), Stop>
+    requires store { S.name store.now ≡ B.store }
+    requires sessions { sessions.items ≡ newcomers N.plan.sessions }
+    ensures { IfOk result (λ left. AreLeft N.plan edits left.0.items left.1) }
+{
+    let worked = work_beside(rt, alloc, shared, store, sessions, edits)?;
+    read_all(rt, alloc, shared, worked, edits)
+}
+
+/// Lets sessions make their edits on a table, reads what they leave, and closes the table.
 pub(crate) fn run_shared<
     N: Naming + Send + Sync,
     B: Site + Send + Sync,
@@ -179,15 +124,16 @@ pub(crate) fn run_shared<
 >(
     rt: &R,
     alloc: Global,
-    shared: &Shared<N, B, S>,
+    shared: Shared<N, B, S>,
     store: &S,
     sessions: Vec<Session<B>>,
     edits: u32,
 ) -> Result<Outcome, Stop>
     requires store { S.name store.now ≡ B.store }
+    requires homes { HasHomes N.plan }
     requires sessions { sessions.items ≡ newcomers N.plan.sessions }
     ensures { IfOk result (IsRun N.plan edits) }
 {
-    let worked = work_beside(rt, alloc, shared, store, sessions, edits)?;
-    outcome_of(rt, alloc, shared, worked, edits)
+    let left = leave(rt, alloc, &shared, store, sessions, edits);
+    end(rt, shared, left, edits)
 }

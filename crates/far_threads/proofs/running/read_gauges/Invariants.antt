@@ -1,5 +1,0 @@
-use Rattle.far_threads.proofs.ReadingLaws.{AreRead}
-use Rattle.far_threads.proofs.running.read_gauges.Given as goal
-
-abbrev pub invariant-loop-one : goal.invariant-loop-one
-invariant-loop-one g l = AreRead g.N.Naming.plan l.yielded l.readings.items

@@ -1,0 +1,84 @@
+-- internal: what sessions do on the way to what they leave, and what is known of them when the table is closed.
+use Rattle.std.specs.Prelude.{◌≡◌, ◌≢◌, ℕ, ◌%◌, ◌<◌, ◌≤◌, zero, suc, List, [], ◌∷◌, ◌++◌, Some, OnOk, IsOk, Result, length, slice_get}
+use Rattle.far_types.specs.declared.edit.Edit.TheVariants as edit
+use Rattle.far_history.specs.Histories.{Planned, by_session, gauge_of}
+use Rattle.far_history.specs.Rule.{entry}
+use Rattle.far_history.specs.declared.reading.Reading.{Reading}
+use Rattle.far_history.specs.declared.view.Entry.{Entry}
+use Rattle.far_sessions.specs.Closing.{IsSettled}
+use Rattle.far_sessions.specs.Known.{Known, SeesMore, at, number_of}
+use Rattle.far_shared.specs.Asking.{IsAnswer}
+use Rattle.far_threads.specs.declared.outcome.Outcome.{Outcome}
+use Rattle.far_threads.specs.declared.outcome.Stop.{Stop}
+use Rattle.far_threads.specs.Runs.{row_of_one, sum_of_rows}
+
+-- a plan for so few sessions that each has a home stripe of its own, with the count and the sum of its rows as gauge
+pub record HasHomes (p : Planned) : Type 0 where
+  pub few : p.sessions ≤ 4
+  pub gauge : p.gauge ≡ sum_of_rows
+
+-- so many inserts of one session
+abbrev pub inserts : ℕ → ℕ → List Entry
+inserts s zero = []
+inserts s (suc n) = inserts s n ++ entry s (edit.Insert row_of_one) ∷ []
+
+-- a session has made so many inserts more at stripe k, and is at the others as it was
+pub record Makes (k n : ℕ) (before after : Known) : Type 0 where
+  pub by : (at after k).by ≡ (at before k).by
+  pub mine : (at after k).mine ≡ (at before k).mine ++ inserts (at before k).by n
+  pub others : (i : ℕ) → i < 4 → i ≢ k → at after i ≡ at before i
+
+-- a session that has made its edits, or was stopped
+pub record Ended : Type 0 where
+  pub session : Known
+  pub outcome : Result (Unit {0}) Stop
+
+-- a session made so many inserts on its home stripe and nothing elsewhere, unless it was stopped
+abbrev pub IsWorked : ℕ → Known → Ended → Type 0
+IsWorked n me ended = OnOk ended.outcome (Makes (number_of me % 4) n me ended.session)
+
+-- so did all, in order
+pub record AreWorked (n : ℕ) (sessions : List Known) (worked : List Ended) : Type 0 where
+  pub count : length worked ≡ length sessions
+  pub each : (i : ℕ) (me : Known) (ended : Ended) → slice_get sessions i ≡ Some me → slice_get worked i ≡ Some ended → IsWorked n me ended
+
+-- a session that had ended well looked at stripe k: the reading is of all that it has seen there, and at the others it is as it was
+pub record Looked (p : Planned) (k : ℕ) (ended : Ended) (me : Known) (reading : Reading) : Type 0 where
+  pub done : IsOk ended.outcome
+  pub sees : SeesMore p (at ended.session k) (at me k)
+  pub others : (i : ℕ) → i < 4 → i ≢ k → at me i ≡ at ended.session i
+  pub is : reading ≡ gauge_of p (at me k).seen
+
+-- it looked at its home stripe
+abbrev pub IsRead : Planned → Ended → Known → Reading → Type 0
+IsRead p ended me reading = Looked p (number_of ended.session % 4) ended me reading
+
+-- session s has made so many inserts on its home stripe and nothing elsewhere. A reading is of what it has seen at home, where just these
+-- are its own
+pub record IsGauged (p : Planned) (s n : ℕ) (me : Known) (reading : Reading) : Type 0 where
+  pub number : number_of me ≡ s
+  pub none : (k : ℕ) → k < 4 → k ≢ s % 4 → (at me k).mine ≡ []
+  pub own : by_session s (at me (s % 4)).seen ≡ inserts s n
+  pub is : reading ≡ gauge_of p (at me (s % 4)).seen
+
+-- so it is with all sessions of a plan, in order
+pub record AreGauged (p : Planned) (n : ℕ) (sessions : List Known) (readings : List Reading) : Type 0 where
+  pub count : length sessions ≡ p.sessions
+  pub told : length readings ≡ p.sessions
+  pub each : (s : ℕ) (me : Known) (reading : Reading) → slice_get sessions s ≡ Some me → slice_get readings s ≡ Some reading → IsGauged p s n me reading
+
+-- what is read when all sessions of a plan have ended
+pub record AreLeft (p : Planned) (n : ℕ) (sessions : List Known) (o : Outcome) : Type 0 where
+  pub gauged : AreGauged p n sessions o.gauges.items
+  pub answer : IsAnswer p 0 o.answer
+
+-- the history of stripe k has the entries of these sessions, and no others
+abbrev pub IsHistory : Planned → ℕ → List Known → Type 0
+IsHistory p k sessions = (log : List Entry) × IsSettled p.sessions k log sessions
+
+-- so have the histories of all four stripes
+pub record AreHistories (p : Planned) (sessions : List Known) : Type 0 where
+  pub zero : IsHistory p 0 sessions
+  pub one : IsHistory p 1 sessions
+  pub two : IsHistory p 2 sessions
+  pub three : IsHistory p 3 sessions

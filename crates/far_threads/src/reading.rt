@@ -1,0 +1,69 @@
+// What is read when sessions have made their edits.
+ghost use Rattle.std.specs.Prelude.{IfOk};
+ghost use Rattle.far_sessions.specs.Known.{newcomers};
+ghost use Rattle.far_threads.specs.Working.{AreGauged, AreLeft, AreWorked, IsRead};
+
+use crate::outcome::{Outcome, Stop};
+use crate::worked::{Worked, home_of};
+use far_history::{Naming, Reading};
+use far_sessions::{Cells, Session};
+use far_shared::{Shared, Site};
+use far_store::FarStore;
+use std::alloc::Global;
+use std::sync::Wait;
+
+/// What the gauge of a session's home stripe reads when its edits are made, beside the session. Ends as the session did.
+fn read_gauge<N: Naming, B: Site, R: Wait>(
+    rt: &R,
+    cells: &Cells<N, B>,
+    worked: Worked<B>,
+) -> Result<(Session<B>, Reading), Stop>
+    ensures { IfOk result (λ read. IsRead N.plan worked read.0 read.1) }
+{
+    worked.outcome?;
+    let mut me = worked.session;
+    let home = home_of(&me);
+    let Ok(reading) = cells.gauge(rt, &mut me, home) else {
+        unreachable!()
+    };
+    Ok((me, reading))
+}
+
+/// What the gauges of the sessions' home stripes read, beside the sessions, both in order.
+fn read_gauges<N: Naming, B: Site, R: Wait>(
+    rt: &R,
+    alloc: Global,
+    cells: &Cells<N, B>,
+    worked: Vec<Worked<B>>,
+    edits: u32,
+) -> Result<(Vec<Session<B>>, Vec<Reading>), Stop>
+    requires { AreWorked edits (newcomers N.plan.sessions) worked.items }
+    ensures { IfOk result (λ read. AreGauged N.plan edits read.0.items read.1.items) }
+{
+    let mut sessions = Vec::new(alloc);
+    let mut readings = Vec::new(alloc);
+    for one in worked {
+        let (me, reading) = read_gauge(rt, cells, one)?;
+        sessions.push(me)?;
+        readings.push(reading)?;
+    }
+    Ok((sessions, readings))
+}
+
+/// What sessions leave that have made their edits, beside the sessions.
+pub(crate) fn read_all<N: Naming, B: Site, S: FarStore, R: Wait>(
+    rt: &R,
+    alloc: Global,
+    shared: &Shared<N, B, S>,
+    worked: Vec<Worked<B>>,
+    edits: u32,
+) -> Result<(Vec<Session<B>>, Outcome), Stop>
+    requires { AreWorked edits (newcomers N.plan.sessions) worked.items }
+    ensures { IfOk result (λ left. AreLeft N.plan edits left.0.items left.1) }
+{
+    let (sessions, gauges) = read_gauges(rt, alloc, shared.cells(), worked, edits)?;
+    match shared.ask_all(rt, 0) {
+        Ok(answer) => Ok((sessions, Outcome { gauges, answer })),
+        Err(_) => Err(Stop::Memory),
+    }
+}

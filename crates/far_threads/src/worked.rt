@@ -1,0 +1,30 @@
+// Sessions that have made their edits, and where they make them.
+ghost use Rattle.std.specs.Prelude.{◌≡◌, ◌%◌};
+ghost use Rattle.far_sessions.specs.Known.{number_of};
+
+use crate::outcome::Stop;
+use far_sessions::Session;
+use far_shared::Site;
+use std::marker::Model;
+
+/// A session that has made its edits, or was stopped.
+#[derive(Drop)]
+pub(crate) struct Worked<B: Site> {
+    pub(crate) session: Session<B>,
+    pub(crate) outcome: Result<(), Stop>,
+}
+
+impl<B: Site> Model for Worked<B> {
+    ghost use Rattle.far_threads.specs.Working.{Ended};
+
+    ghost Value = { Ended };
+
+    ghost view = { λ w. record { session = w.session; outcome = w.outcome } };
+}
+
+/// The home stripe of a session.
+pub(crate) fn home_of<B: Site>(me: &Session<B>) -> u32
+    ensures { result ≡ number_of me.now % 4 }
+{
+    (me.number() % 4) as u32
+}
