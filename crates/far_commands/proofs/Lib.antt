@@ -6,3 +6,4 @@ pub mod RowLaws
 pub mod PieceLaws
 pub mod LoadLaws
 pub mod RenewLaws
+pub mod LoadLines

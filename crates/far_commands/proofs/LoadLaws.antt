@@ -106,7 +106,7 @@ remains-first rem reader text source state untrimmed ready config = record {
   config = config;
 }
 
-end-of : (fuel : ℕ) (s : Mode) (rest : List ℕ) → length rest < fuel → next_record default_config s [] [] rest ≡ None → records_from default_config fuel s rest ≡ []
+pub end-of : (fuel : ℕ) (s : Mode) (rest : List ℕ) → length rest < fuel → next_record default_config s [] [] rest ≡ None → records_from default_config fuel s rest ≡ []
 unfolding records_from
 end-of zero s rest low h = absurd (omega (arith, low))
 end-of (suc n) s rest low h = rw h refl
@@ -116,7 +116,7 @@ pub remains-none : {R : Type 0} (rem : R → Option (List ℕ)) (a b : Reader R)
     → Remains rem a rows → ReadRecord rem a b false fields → rows ≡ []
 remains-none rem a b fields rows m r = m.all ∙ end-of m.fuel (reader_state a) m.rest m.enough (rows-end rem a b fields default_config m.rest m.config m.source r)
 
-next-of : (fuel : ℕ) (s : Mode) (rest : List ℕ) (p : Read) → length rest < fuel → ends_at_end s ≡ false → next_record default_config s [] [] rest ≡ Some p
+pub next-of : (fuel : ℕ) (s : Mode) (rest : List ℕ) (p : Read) → length rest < fuel → ends_at_end s ≡ false → next_record default_config s [] [] rest ≡ Some p
     → (less : ℕ) × (records_from default_config fuel s rest ≡ p.0 ∷ records_from default_config less p.1 p.2) × (length p.2 < less)
 unfolding records_from
 next-of zero s rest p low none h = absurd (omega (arith, low))

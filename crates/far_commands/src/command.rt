@@ -1,6 +1,7 @@
 // Lines as commands.
 ghost use Rattle.std.specs.Prelude.{◌≡◌, IfOk, IfErr, option_map, option_and_then, slice_get, Some, None};
-ghost use Rattle.far_commands.specs.Commands.{lend_of, object_in, compact_of, movement_of, offload_of, command_of, insert_of, set_of, scan_of, command_by};
+ghost use Rattle.far_commands.specs.Commands.{lend_of, object_in, compact_of, movement_of, offload_of, command_of, insert_of, set_of, numbered, scan_of, command_by};
+ghost use Rattle.far_script.specs.Watches.{spec_of};
 ghost use Rattle.far_script.specs.Words.{last_number_in};
 
 use far_frame::Step;
@@ -147,6 +148,49 @@ fn movement_step(verb: Movement, words: Words) -> Option<Step>
     }
 }
 
+/// `PLACE`
+fn remove(words: Words) -> Option<Command>
+    ensures { result ≡ numbered (λ place. Command.Step (Step.Edit (Edit.Remove place))) words.entry }
+{
+    let place = words.last_number()?;
+    Some(Command::Step(Step::Edit(Edit::Remove(place))))
+}
+
+/// `AGGREGATE`
+fn unwatch(words: Words) -> Option<Command>
+    ensures { result ≡ numbered (λ a. Command.Step (Step.Unwatch a)) words.entry }
+{
+    let aggregate = words.last_number()?;
+    Some(Command::Step(Step::Unwatch(aggregate)))
+}
+
+/// `AGGREGATE`
+fn ask(words: Words) -> Option<Command>
+    ensures { result ≡ numbered (λ a. Command.Step (Step.Ask a)) words.entry }
+{
+    let aggregate = words.last_number()?;
+    Some(Command::Step(Step::Ask(aggregate)))
+}
+
+/// `FOLD COLUMN [by COLUMN] [if COLUMN OPERATOR CONSTANT]..`
+fn watch(alloc: Global, kinds: &[Kind], words: Words) -> Result<Option<Command>, Refusal>
+    ensures command { IfOk result (λ command. command ≡ option_map (λ spec. Command.Step (Step.Watch spec)) (spec_of kinds.now words.entry)) }
+    ensures memory { IfErr result (λ e. e ≡ Refusal.NoMemory) }
+{
+    match spec(alloc, kinds, words)? {
+        Some(spec) => Ok(Some(Command::Step(Step::Watch(spec)))),
+        None => Ok(None),
+    }
+}
+
+/// A step about objects or jobs, where there is one.
+fn movement(verb: Movement, words: Words) -> Option<Command>
+    ensures { result ≡ option_map Command.Step (movement_of verb words.entry) }
+{
+    let step = movement_step(verb, words)?;
+    Some(Command::Step(step))
+}
+
 /// What a verb says with the rest of its line.
 fn complete(
     alloc: Global,
@@ -160,31 +204,16 @@ fn complete(
     match verb {
         Verb::Insert => insert(alloc, kinds, words),
         Verb::Set => set(alloc, kinds, words),
-        Verb::Remove => match words.last_number() {
-            Some(place) => Ok(Some(Command::Step(Step::Edit(Edit::Remove(place))))),
-            None => Ok(None),
-        },
-        Verb::Watch => match spec(alloc, kinds, words)? {
-            Some(spec) => Ok(Some(Command::Step(Step::Watch(spec)))),
-            None => Ok(None),
-        },
-        Verb::Unwatch => match words.last_number() {
-            Some(aggregate) => Ok(Some(Command::Step(Step::Unwatch(aggregate)))),
-            None => Ok(None),
-        },
+        Verb::Remove => Ok(remove(words)),
+        Verb::Watch => watch(alloc, kinds, words),
+        Verb::Unwatch => Ok(unwatch(words)),
         Verb::Scan => Ok(scan(words)),
-        Verb::Ask => match words.last_number() {
-            Some(aggregate) => Ok(Some(Command::Step(Step::Ask(aggregate)))),
-            None => Ok(None),
-        },
+        Verb::Ask => Ok(ask(words)),
         Verb::Load => match words.last_number() {
             Some(bytes) => Ok(Some(Command::Load(bytes))),
             None => Ok(None),
         },
-        Verb::Move(verb) => match movement_step(verb, words) {
-            Some(step) => Ok(Some(Command::Step(step))),
-            None => Ok(None),
-        },
+        Verb::Move(verb) => Ok(movement(verb, words)),
         Verb::Dump => Ok(if words.is_empty() {
             Some(Command::Dump)
         } else {

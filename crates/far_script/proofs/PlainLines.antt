@@ -20,7 +20,7 @@ one-place n = omega arith
 place-behind : (n : ℕ) → 1 + n + 1 ≡ suc (n + 1)
 place-behind n = omega arith
 
-line-more : (c : ℕ) (cs : List ℕ) → (c == 10) ≡ false → line_of (c ∷ cs) ≡ c ∷ line_of cs
+pub line-more : (c : ℕ) (cs : List ℕ) → (c == 10) ≡ false → line_of (c ∷ cs) ≡ c ∷ line_of cs
 line-more c cs other = rw other (ap (λ (n : ℕ). take n (c ∷ cs)) (one-place (position_or_len is_line_feed cs)))
 
 behind-more : (c : ℕ) (cs : List ℕ) → (c == 10) ≡ false → lines_behind (c ∷ cs) ≡ lines_behind cs

@@ -3,7 +3,7 @@ use Rattle.csv.specs.Reading.{strip_bom}
 use Rattle.csv.specs.Records.{fields_of}
 use Rattle.far_commands.specs.Replies.{records_of}
 use Rattle.far_commands.proofs.LoadLaws.{remains-first, remains-none, remains-some, loads-none, loads-refused, loads-more}
-use Rattle.far_commands.proofs.loading.load.Goals as goal
+use Rattle.far_commands.proofs.loading.load_records.Goals as goal
 
 pub loop-count-init : goal.loop-count-init
 loop-count-init g c =
