@@ -1,4 +1,6 @@
 // How a scene ends: the table is closed, first without one of its sessions.
+ghost use Rattle.std.specs.Prelude.{IfOk, IfErr};
+
 use crate::playing::Played;
 use crate::scenes::{End, Left, NO_ROW};
 use far_frame::Frame;
@@ -18,6 +20,9 @@ pub struct Finale<P> {
     left: [Left; 4],
 }
 
+// What comes back where a session is missing.
+type Refused<N, B, S> = (Refusal, Shared<N, B, S>, Vec<Session<B>>);
+
 // Whether a table has these rows.
 fn has_left<S: FarTickets>(frame: &Frame<S>, left: Left) -> bool {
     frame.places() == left.places && frame.plain(0) == Some((left.count, left.sum))
@@ -31,6 +36,22 @@ fn have_left<S: FarTickets>(frames: &Four<Frame<S>>, left: &[Left; 4]) -> bool {
         && has_left(&frames.three, left[3])
 }
 
+// What is said of a result. It knows nothing of what is in it: to take four tables out of a result costs the proof of a function
+// minutes, and here it costs none.
+fn either<T: Drop, E: Drop, F: FnOnce(T) -> bool + Drop, G: FnOnce(E) -> bool + Drop>(
+    answer: Result<T, E>,
+    of_ok: F,
+    of_err: G,
+) -> bool
+    requires ok { IfOk answer (λ x. F.pre of_ok x) }
+    requires err { IfErr answer (λ e. G.pre of_err e) }
+{
+    match answer {
+        Ok(value) => of_ok(value),
+        Err(error) => of_err(error),
+    }
+}
+
 // Whether a shared table is closed with these sessions, and leaves these rows.
 fn closes<N: Naming, B: Site, S: FarTickets, R: Wait>(
     rt: &R,
@@ -38,10 +59,11 @@ fn closes<N: Naming, B: Site, S: FarTickets, R: Wait>(
     sessions: Vec<Session<B>>,
     left: &[Left; 4],
 ) -> bool {
-    match shared.close(rt, sessions) {
-        Ok(frames) => have_left(&frames, left),
-        Err(_) => false,
-    }
+    either(
+        shared.close(rt, sessions),
+        |frames: Four<Frame<S>>| -> bool { have_left(&frames, left) },
+        |_refused: Refused<N, B, S>| -> bool { false },
+    )
 }
 
 // A list with one more.
@@ -50,17 +72,20 @@ fn with_last<P: Drop>(mut list: Vec<P>, last: P) -> Result<Vec<P>, AllocError> {
     Ok(list)
 }
 
-// Whether a shared table is closed with these sessions, where there was memory for their list.
-fn closes_with<N: Naming, B: Site, S: FarTickets, R: Wait>(
+// Whether a shared table that came back with its sessions is closed when the one that was missing is there again.
+fn closes_again<N: Naming, B: Site, S: FarTickets, R: Wait>(
     rt: &R,
-    shared: Shared<N, B, S>,
-    sessions: Result<Vec<Session<B>>, AllocError>,
+    refused: Refused<N, B, S>,
+    last: Session<B>,
     left: &[Left; 4],
 ) -> bool {
-    match sessions {
-        Ok(sessions) => closes(rt, shared, sessions, left),
-        Err(_) => false,
-    }
+    let (refusal, shared, sessions) = refused;
+    let is_closed = either(
+        with_last(sessions, last),
+        |sessions: Vec<Session<B>>| -> bool { closes(rt, shared, sessions, left) },
+        |_error: AllocError| -> bool { false },
+    );
+    is_closed && refusal == Refusal::OutOfRange
 }
 
 // Whether a shared table comes back with its sessions where one is missing, and is closed when it is there again.
@@ -74,12 +99,11 @@ fn closes_with_all<N: Naming, B: Site, S: FarTickets, R: Wait>(
         last,
         left,
     } = finale;
-    match shared.close(rt, sessions) {
-        Err((Refusal::OutOfRange, shared, sessions)) => {
-            closes_with(rt, shared, with_last(sessions, last), &left)
-        }
-        _ => false,
-    }
+    either(
+        shared.close(rt, sessions),
+        |_frames: Four<Frame<S>>| -> bool { false },
+        |refused: Refused<N, B, S>| -> bool { closes_again(rt, refused, last, &left) },
+    )
 }
 
 // The same, once all roles came out.
