@@ -1,0 +1,13 @@
+// What a refusal is to a program.
+use far_types::Refusal;
+use std::io;
+
+/// An error of input or output for what was refused.
+pub fn io_error(_refusal: Refusal) -> io::Error {
+    io::Error::from(io::ErrorKind::OutOfMemory)
+}
+
+/// What a clock that cannot be read is to the measurements.
+pub fn no_clock(_error: io::Error) -> Refusal {
+    Refusal::FarFault
+}

@@ -1,0 +1,62 @@
+// How a shared table begins: the names of its plan, of its cells and of its store are picked, each by a call.
+ghost use Rattle.std.specs.Prelude.{◌≡◌};
+ghost use Rattle.far_shared.specs.Opening.{AreNamed};
+
+use crate::plan::plan;
+use crate::sessions::{Times, time_all};
+use far_history::Naming;
+use far_shared::{Made, Plan, Site};
+use far_store::{AgentStore, FarTickets};
+use far_types::Refusal;
+use std::alloc::Global;
+use std::marker::Brand;
+use std::sync::Wait;
+use std::thread::Threads;
+use std::time::Clock;
+
+/// Measures on a table whose cells have these names.
+fn opened<
+    N: Naming + Send + Sync,
+    B: Site + Send + Sync,
+    S: FarTickets,
+    R: Threads + Wait + Clock + Sync,
+>(rt: &R, alloc: Global, made: Made<N, S>, edits: u32) -> Result<Times, Refusal>
+    requires { AreNamed made B.cells }
+{
+    let (shared, sessions) = made.open::<B>(alloc)?;
+    time_all(rt, alloc, &shared, sessions, edits)
+}
+
+/// Gives the cells of a table their names.
+fn named<N: Naming + Send + Sync, S: FarTickets, R: Threads + Wait + Clock + Sync>(
+    rt: &R,
+    alloc: Global,
+    made: Made<N, S>,
+    edits: u32,
+) -> Result<Times, Refusal> {
+    opened::<N, Brand, S, R>(rt, alloc, made, edits)
+}
+
+/// Measures on a table of a plan that has this name.
+fn planned<N: Naming + Send + Sync, S: FarTickets, R: Threads + Wait + Clock + Sync>(
+    rt: &R,
+    alloc: Global,
+    plan: Plan,
+    edits: u32,
+) -> Result<Times, Refusal>
+    requires { plan ≡ N.plan }
+{
+    let made = plan.make::<N, S>(alloc);
+    made.and_then(|made: Made<N, S>| -> Result<Times, Refusal> { named(rt, alloc, made, edits) })
+}
+
+/// The times of the slowest of so many sessions.
+pub fn measure(
+    rt: &HostRuntime,
+    alloc: Global,
+    sessions: u64,
+    edits: u32,
+) -> Result<Times, Refusal> {
+    let plan = plan(alloc, sessions)?;
+    planned::<Brand, AgentStore<&HostRuntime>, HostRuntime>(rt, alloc, plan, edits)
+}
