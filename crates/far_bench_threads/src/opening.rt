@@ -51,12 +51,12 @@ fn planned<N: Naming + Send + Sync, S: FarTickets, R: Threads + Wait + Clock + S
 }
 
 /// The times of the slowest of so many sessions.
-pub fn measure(
-    rt: &HostRuntime,
+pub fn measure<R: Threads + Wait + Clock + Sync>(
+    rt: &R,
     alloc: Global,
     sessions: u64,
     edits: u32,
 ) -> Result<Times, Refusal> {
     let plan = plan(alloc, sessions)?;
-    planned::<Brand, AgentStore<&HostRuntime>, HostRuntime>(rt, alloc, plan, edits)
+    planned::<Brand, AgentStore<&R>, R>(rt, alloc, plan, edits)
 }
