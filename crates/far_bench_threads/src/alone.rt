@@ -2,10 +2,9 @@
 use crate::faults::no_clock;
 use crate::plan::{LIMITS, PLACES, row, schema, totals};
 use far_frame::Frame;
-use far_store::{AgentStore, FarTickets};
+use far_store::FarTickets;
 use far_types::{Cell, Refusal};
 use std::alloc::Global;
-use std::sync::Wait;
 use std::time::{Clock, Instant};
 
 /// Inserts a row at each place.
@@ -40,7 +39,11 @@ fn time_edits<S: FarTickets, R: Clock>(
 }
 
 /// The nanoseconds that so many edits take of a table of one's own, without a lock or a history.
-pub fn measure<R: Wait + Clock + Sync>(rt: &R, alloc: Global, edits: u32) -> Result<u128, Refusal> {
-    let mut frame = Frame::<AgentStore<&R>>::open(alloc, schema(alloc)?, LIMITS, 0)?;
+pub fn measure<S: FarTickets, R: Clock>(
+    rt: &R,
+    alloc: Global,
+    edits: u32,
+) -> Result<u128, Refusal> {
+    let mut frame = Frame::<S>::open(alloc, schema(alloc)?, LIMITS, 0)?;
     time_edits(rt, alloc, &mut frame, edits)
 }

@@ -11,6 +11,7 @@ mod opening;
 mod plan;
 mod sessions;
 
+use far_store::AgentStore;
 use std::{env, io};
 
 /// How many edits a session makes where times are wanted.
@@ -19,7 +20,11 @@ const EDITS: u32 = 1_048_576;
 fn main(rt: HostRuntime) -> io::Result<()> {
     let with_times = env::args(&rt)?.count() > 1;
     let edits = if with_times { EDITS } else { 256 };
-    let alone = alone::measure(&rt, rt.alloc(), edits).map_err(faults::io_error)?;
+    let alone = alone::measure::<AgentStore<&HostRuntime>, HostRuntime>(
+        &rt,
+        rt.alloc(),
+        edits,
+    ).map_err(faults::io_error)?;
     let one = opening::measure(&rt, rt.alloc(), 1, edits).map_err(faults::io_error)?;
     let four = opening::measure(&rt, rt.alloc(), 4, edits).map_err(faults::io_error)?;
     println!(rt; "ended")?;
