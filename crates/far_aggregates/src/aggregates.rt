@@ -24,6 +24,7 @@ use super::scans::build_at;
 use far_types::{Answer, CellRef, LendCells, Refusal, Spec};
 use std::alloc::Global;
 use std::marker::Model;
+use std::mem;
 
 /// The aggregates of a table, under their numbers: at most 32. An edit of the rows has three parts: what comes of the new row
 /// is brought in, which may be refused; the rows are changed, which may be refused too; and then what the old row gave goes
@@ -31,6 +32,8 @@ use std::marker::Model;
 #[derive(Drop)]
 pub struct Aggregates {
     slots: Vec<Option<Aggregate>>,
+    /// The lists of an edit that has ended, for the next one, so that it makes none.
+    spare: Pending,
 }
 
 impl Model for Aggregates {
@@ -64,6 +67,7 @@ impl Aggregates {
     {
         Aggregates {
             slots: Vec::new(alloc),
+            spare: Pending::nothing(alloc),
         }
     }
 
@@ -185,7 +189,7 @@ impl Aggregates {
     }
 
     /// Brings in what comes of a row that is to be appended at a place, the first that is not there yet. Once the rows have
-    /// it nothing is left to do; where they refuse it, `back` undoes this. Refused with `NoMemory` (1) alone, and then
+    /// it, `end` ends the edit; where they refuse it, `back` undoes this. Refused with `NoMemory` (1) alone, and then
     /// all answer as before.
     pub fn come_in<R: LendCells>(
         &mut self,
@@ -204,14 +208,12 @@ impl Aggregates {
         ensures memory { IfErr result (λ e. e ≡ Refusal.NoMemory) }
     {
         let group = (place / size as usize) as u32;
+        let Pending { came, mut gone, .. } = mem::replace(&mut self.spare, Pending::nothing(alloc));
         let slots = self.slots.as_mut_slice();
         make_rooms(slots, group);
-        let came = come_in(alloc, slots, row, size, place)?;
-        Ok(Pending {
-            group,
-            came,
-            gone: Vec::new(alloc),
-        })
+        let came = come_in(alloc, came, slots, row, size, place)?;
+        gone.clear();
+        Ok(Pending { group, came, gone })
     }
 
     /// Brings in what comes of a place's row with another cell in a column, which the row has, beside what the row gives as
@@ -237,11 +239,12 @@ impl Aggregates {
         ensures memory { IfErr result (λ e. e ≡ Refusal.NoMemory) }
     {
         let group = (place / size as usize) as u32;
+        let Pending { came, gone, .. } = mem::replace(&mut self.spare, Pending::nothing(alloc));
         let slots = self.slots.as_mut_slice();
         make_rooms(slots, group);
-        let gone = changes(alloc, slots, row, size, place)?;
+        let gone = changes(alloc, gone, slots, row, size, place)?;
         let changed = Changed { row, column, cell };
-        let came = come_in(alloc, slots, &changed, size, place)?;
+        let came = come_in(alloc, came, slots, &changed, size, place)?;
         Ok(Pending { group, came, gone })
     }
 
@@ -262,14 +265,12 @@ impl Aggregates {
         ensures memory { IfErr result (λ e. e ≡ Refusal.NoMemory) }
     {
         let group = (place / size as usize) as u32;
+        let Pending { mut came, gone, .. } = mem::replace(&mut self.spare, Pending::nothing(alloc));
         let slots = self.slots.as_mut_slice();
         make_rooms(slots, group);
-        let gone = changes(alloc, slots, row, size, place)?;
-        Ok(Pending {
-            group,
-            came: Vec::new(alloc),
-            gone,
-        })
+        let gone = changes(alloc, gone, slots, row, size, place)?;
+        came.clear();
+        Ok(Pending { group, came, gone })
     }
 
     /// Takes back what an edit brought in that the rows refused. Takes no memory.
@@ -283,6 +284,14 @@ impl Aggregates {
             pending.group,
             pending.came.as_slice(),
         );
+        self.end(pending);
+    }
+
+    /// Ends an edit that the rows have, where nothing is left to go out: its lists are kept for the next. Takes no memory.
+    pub fn end(&mut self, pending: Pending)
+        ensures same { self.new ≡ self.old }
+    {
+        self.spare = pending;
     }
 
     /// Takes out what the row gave before an edit, which the rows have: the row group lends its columns as they are now. Its
@@ -299,5 +308,6 @@ impl Aggregates {
             pending.group,
             pending.gone.as_slice(),
         );
+        self.end(pending);
     }
 }

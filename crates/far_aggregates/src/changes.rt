@@ -32,9 +32,10 @@ pub fn change<R: LendCells>(
     }
 }
 
-/// What a row that is alive at a place gives to each aggregate.
+/// What a row that is alive at a place gives to each aggregate, in a list that may have been made for an edit before.
 pub fn changes<R: LendCells>(
     alloc: Global,
+    list: Vec<Option<Pair>>,
     slots: &[Option<Aggregate>],
     row: &R,
     size: u32,
@@ -44,7 +45,9 @@ pub fn changes<R: LendCells>(
     ensures ok { IfOk result (λ changes. changes.items ≡ map (change_of size place (row_gives (R.cells row.now))) slots.now) }
     ensures memory { IfErr result (λ e. e ≡ Refusal.NoMemory) }
 {
-    let mut changes = Vec::with_capacity(alloc, slots.len())?;
+    let mut changes = list;
+    changes.clear();
+    changes.reserve(slots.len())?;
     for slot in slots {
         changes.push(change(alloc, slot, row, size, place)?)?;
     }

@@ -56,9 +56,10 @@ fn come<R: LendCells>(
     }
 }
 
-/// What comes of a row that is alive at a place into each aggregate.
+/// What comes of a row that is alive at a place into each aggregate, in a list that may have been made for an edit before.
 fn comings<R: LendCells>(
     alloc: Global,
+    list: Vec<Option<Coming>>,
     slots: &[Option<Aggregate>],
     row: &R,
     size: u32,
@@ -69,7 +70,9 @@ fn comings<R: LendCells>(
     ensures ok { IfOk result (λ comes. comes.items ≡ map (come_of size place (row_gives (R.cells row.now))) slots.now) }
     ensures memory { IfErr result (λ e. e ≡ Refusal.NoMemory) }
 {
-    let mut comes = Vec::with_capacity(alloc, slots.len())?;
+    let mut comes = list;
+    comes.clear();
+    comes.reserve(slots.len())?;
     for slot in slots {
         comes.push(come(alloc, slot, row, size, place)?)?;
     }
@@ -148,9 +151,10 @@ fn add_all(
 }
 
 /// The pairs of a row that is alive at a place come into what is kept for each aggregate, or none where memory is refused. What
-/// came is handed back: `back_all` of it undoes this.
+/// came is handed back, in a list that may have been made for an edit before: `back_all` of it undoes this.
 pub fn come_in<R: LendCells>(
     alloc: Global,
+    list: Vec<Option<Coming>>,
     slots: &mut [Option<Aggregate>],
     row: &R,
     size: u32,
@@ -167,7 +171,7 @@ pub fn come_in<R: LendCells>(
     ensures err { OnErr result (slots.new ≡ slots.old) }
     ensures memory { IfErr result (λ e. e ≡ Refusal.NoMemory) }
 {
-    let comes = comings(alloc, slots, row, size, place)?;
+    let comes = comings(alloc, list, slots, row, size, place)?;
     add_all(slots, (place / size as usize) as u32, comes.as_slice())?;
     Ok(comes)
 }

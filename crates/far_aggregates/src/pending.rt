@@ -1,6 +1,7 @@
 // What an edit has begun in the aggregates.
 use super::changes::Pair;
 use super::coming::Coming;
+use std::alloc::Global;
 
 /// What an edit brought into the aggregates, and what is still to go out of them once the rows are changed. An edit that the
 /// rows refuse after all hands it to `Aggregates::back`, one that changed them to `Aggregates::take`.
@@ -9,4 +10,15 @@ pub struct Pending {
     pub(crate) group: u32,
     pub(crate) came: Vec<Option<Coming>>,
     pub(crate) gone: Vec<Option<Pair>>,
+}
+
+impl Pending {
+    /// Of no edit. Takes no memory.
+    pub(crate) fn nothing(alloc: Global) -> Pending {
+        Pending {
+            group: 0,
+            came: Vec::new(alloc),
+            gone: Vec::new(alloc),
+        }
+    }
 }

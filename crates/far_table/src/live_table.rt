@@ -100,6 +100,7 @@ impl<S: FarTickets> LiveTable<S> {
             self.aggregates.back(pending);
             return Err(refusal);
         }
+        self.aggregates.end(pending);
         Ok(place as u32)
     }
 
