@@ -123,6 +123,7 @@ impl<S: FarTickets> TableRows<S> {
     ///
     /// Refused with `Absent` (16) exactly where an object of the place's row group is away, naming the first in the order of
     /// the columns.
+    #[inline(always)]
     pub fn row(&self, place: usize) -> Result<LentRow<'_>, Refusal>
         requires { place < length self.now.places }
         ensures row { IfOk result (λ row. option_map (λ p. p.cells) (slice_get self.now.places place) ≡ Some row) }
