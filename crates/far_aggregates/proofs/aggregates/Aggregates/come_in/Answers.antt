@@ -37,7 +37,7 @@ returns-clause-back g c =
     let before : KeepsAsBefore c.args.self.now c.make_rooms.new.slots = λ size places h. c.make_rooms.ensures.kept size places (subst (Keeps size places) (sym same) h) in
     let many : length c.come_in.new.slots ≡ c.self.inside.slots.len = omega arith in
     let whole = written c.self.inside.slots.len c.come_in.new.slots c.self.inside.slots.items many in
-    let pending : Pending = record { group = c.args.place / c.args.size; came = c.in_ok-came.came; gone = c.new.result } in
+    let pending : Pending = record { group = c.args.place / c.args.size; came = c.in_ok-came.came; gone = c.clear.new.self } in
     let ensured = c.in_ok-came.ensures in
     subst (λ (slots : List Slot). GoesBack c.args.self.now slots pending) (sym whole)
     (goes-back (c.args.place / c.args.size) c.args.self.now c.make_rooms.new.slots c.come_in.new.slots pending before refl ensured.len ensured.may_back ensured.back)

@@ -28,6 +28,6 @@ returns-clause-goes g c = λ places there kept.
     let before : KeepsAsBefore c.args.self.now c.make_rooms.new.slots = λ size places h. c.make_rooms.ensures.kept size places (subst (Keeps size places) (sym same) h) in
     let many : length c.make_rooms.new.slots ≡ c.self.inside.slots.len = omega arith in
     let whole = written c.self.inside.slots.len c.make_rooms.new.slots c.self.inside.slots.items many in
-    let pending : Pending = record { group = c.args.place / c.args.size; came = c.new.result; gone = c.in_ok-gone.gone } in
+    let pending : Pending = record { group = c.args.place / c.args.size; came = c.clear.new.self; gone = c.in_ok-gone.gone } in
     subst (λ (slots : List Slot). GoesOn c.args.size (c.args.place / c.args.size) (changed_at removed c.args.place places) slots pending) (sym whole)
     (remove-goes c.args.size c.args.place (g.R.LendCells.cells c.args.row.now) c.args.self.now c.make_rooms.new.slots pending c.requires.size c.make_rooms.ensures.room before refl c.in_ok-gone.ensures.ok places there kept)
