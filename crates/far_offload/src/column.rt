@@ -98,6 +98,16 @@ impl<'a> Column<'a> {
         )
     }
 
+    /// The list of the numbers, where the values lie in one.
+    pub(crate) fn numbers(&self) -> Option<&'a [Option<i64>]>
+        ensures { IfSome result (λ numbers. self.now.1 ≡ map int_cell numbers.now) }
+    {
+        match &self.values {
+            ColumnValues::Numbers(numbers) => Some(*numbers),
+            _ => None,
+        }
+    }
+
     /// The numbers of a far form, where the values are such.
     pub(crate) fn ints(&self) -> Option<&LentInts<'a>>
         ensures { IfSome result (λ ints. self.now.1 ≡ map int_cell ints.now) }

@@ -1,10 +1,10 @@
 // The least and the greatest value under one key.
-ghost use Rattle.std.specs.Prelude.{◌≡◌, ◌↔◌, Some, IsTrue, IfSome, map, option_map, slice_index_or};
+ghost use Rattle.std.specs.Prelude.{◌≡◌, ◌↔◌, Some, IsTrue, map, option_map, slice_index_or};
 ghost use Rattle.std.specs.FinMap as fin;
 ghost use Rattle.std.specs.Option.{option_copied, option_and_then};
 ghost use Rattle.far_types.specs.declared.cell.Cell.TheVariants as cell;
 ghost use Rattle.far_types.specs.declared.cell.Cell.TheVariants.{Missing};
-ghost use Rattle.far_types.specs.declared.key.Key.TheVariants as keys;
+ghost use Rattle.far_types.specs.declared.key.Key.TheVariants as key_of;
 ghost use Rattle.far_types.specs.Cells.{key_in};
 ghost use Rattle.far_types.specs.Lent.{int_cell};
 ghost use Rattle.far_types.specs.Pairs.{key_under};
@@ -59,44 +59,59 @@ fn stands_under(
     }
 }
 
-/// The numbers of the key column, where it is at hand in a far form of numbers.
-fn number_keys<'a, 'b>(columns: &'a [Column<'b>], key: Option<u32>) -> Option<&'a LentInts<'b>>
-    ensures { IfSome result (λ numbers. AreKeys columns.now key numbers.now) }
-{
-    match key_column(columns, key) {
-        Some(column) => column.ints(),
-        None => None,
+/// Numbers of a key column, in whatever form they are at hand.
+trait NumberKeys {
+    ghost use Rattle.std.specs.Prelude.{ℤ, List, Option};
+
+    /// The numbers, in the order of the places.
+    ghost numbers: { Self → List (Option ℤ) };
+
+    /// Whether the number at a place is this one.
+    fn is_at(&self, place: usize, number: &i64) -> bool
+        ensures { IsTrue result ↔ (slice_index_or (map int_cell (numbers self.now)) place Missing ≡ cell.Int number.now) };
+}
+
+impl<'a> NumberKeys for LentInts<'a> {
+    ghost numbers = { λ keys. keys };
+
+    #[inline(always)]
+    fn is_at(&self, place: usize, number: &i64) -> bool {
+        match self.get(place) {
+            Some(found) => found == *number,
+            None => false,
+        }
     }
 }
 
-/// Whether the number at a place is this one.
-#[inline(always)]
-fn is_at(numbers: &LentInts<'_>, place: usize, number: &i64) -> bool
-    ensures { IsTrue result ↔ (slice_index_or (map int_cell numbers.now) place Missing ≡ cell.Int number.now) }
-{
-    match numbers.get(place) {
-        Some(found) => found == *number,
-        None => false,
+impl<'a> NumberKeys for &'a [Option<i64>] {
+    ghost numbers = { λ keys. keys.now };
+
+    #[inline(always)]
+    fn is_at(&self, place: usize, number: &i64) -> bool {
+        match self.get(place) {
+            Some(Some(found)) => found == number,
+            _ => false,
+        }
     }
 }
 
-/// What `span_under` gives of a key that is a number, where the key column is at hand in a far form of numbers: what the
-/// key and the column are is decided once for all places.
-fn span_under_number(
+/// What `span_under` gives of a key that is a number, where the key column is of numbers: what the key and the column are is
+/// decided once for all places.
+fn span_under_number<N: NumberKeys>(
     spec: &Spec,
     columns: &[Column<'_>],
     alive: &[bool],
-    numbers: &LentInts<'_>,
+    keys: &N,
     number: &i64,
 ) -> Option<(i64, i64)>
-    requires { AreKeys columns.now spec.now.key numbers.now }
-    ensures span { result ≡ fin.get (extrema (pairs_over spec.now columns.now alive.now)) (Some (keys.Int number.now)) }
+    requires { AreKeys columns.now spec.now.key (N.numbers keys.now) }
+    ensures span { result ≡ fin.get (extrema (pairs_over spec.now columns.now alive.now)) (Some (key_of.Int number.now)) }
     ensures fits { SpanFits result }
 {
     let values = find(columns, spec.value);
     let mut span = None;
     for place in 0..alive.len() {
-        if is_at(numbers, place, number) {
+        if keys.is_at(place, number) {
             if let Some(value) = value_at(spec, columns, values, place, alive[place]) {
                 span = Some(widened(span, value));
             }
@@ -139,9 +154,12 @@ pub fn span_under(
     ensures span { result ≡ fin.get (extrema (pairs_over spec.now columns.now alive.now)) key.now }
     ensures fits { SpanFits result }
 {
-    if let Some(Key::Int(number)) = key {
-        if let Some(numbers) = number_keys(columns, spec.key) {
-            return span_under_number(spec, columns, alive, numbers, number);
+    if let (Some(column), Some(Key::Int(number))) = (key_column(columns, spec.key), key) {
+        if let Some(numbers) = column.numbers() {
+            return span_under_number(spec, columns, alive, &numbers, number);
+        }
+        if let Some(ints) = column.ints() {
+            return span_under_number(spec, columns, alive, ints, number);
         }
     }
     span_under_key(spec, columns, alive, key)

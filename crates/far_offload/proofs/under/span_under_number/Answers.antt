@@ -15,15 +15,15 @@ use Rattle.far_offload.proofs.under.span_under_number.Goals as goal
 use Rattle.far_offload.proofs.under.span_under_number.Goals.{then-is_at+in-Some, then-is_at+in_default, else-is_at}
 
 pub loop-place-init : goal.loop-place-init
-loop-place-init c = record { span = sym (fin.get-empty line_cmp (Some (Int c.args.number.now))); fits = tt }
+loop-place-init g c = record { span = sym (fin.get-empty line_cmp (Some (Int c.args.number.now))); fits = tt }
 
 pub loop-place-preserved : goal.loop-place-preserved
-loop-place-preserved c =
+loop-place-preserved g c =
     let spec = c.args.spec.now in
     let columns = c.args.columns.now in
     let alive = c.args.alive.now in
     let key : Option Key = Some (Int c.args.number.now) in
-    let under = number_under spec columns c.args.numbers.now c.loop-place.place c.args.number.now c.requires in
+    let under = number_under spec columns (g.N.NumberKeys.numbers c.args.keys.now) c.loop-place.place c.args.number.now c.requires in
     let place = c.loop-place.place in
     let flag = get_or alive place false in
     elim c.if-is_at.branch [

@@ -6,7 +6,7 @@ use Rattle.far_offload.specs.Partials.{pairs_over, SpanFits}
 use Rattle.far_offload.proofs.under.span_under_number.Given as goal
 
 abbrev pub invariant-loop-place : goal.invariant-loop-place
-invariant-loop-place l = record {
+invariant-loop-place g l = record {
   span : l.span ≡ fin.get (extrema (pairs_over l.spec l.columns (take l.place l.alive))) (Some (Int l.number));
   fits : SpanFits l.span;
 }

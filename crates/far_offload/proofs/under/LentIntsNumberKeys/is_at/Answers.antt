@@ -4,12 +4,12 @@ use Rattle.far_types.specs.declared.cell.Cell.TheVariants as cell
 use Rattle.far_types.specs.declared.cell.Cell.TheVariants.{Missing}
 use Rattle.far_types.specs.Lent.{int_cell}
 use Rattle.far_offload.proofs.CellLaws.{int_here}
-use Rattle.far_offload.proofs.under.is_at.Goals as goal
+use Rattle.far_offload.proofs.under.LentIntsNumberKeys.is_at.Goals as goal
 
 no_number : (n : ℤ) → Missing ≡ cell.Int n → ⊥
 no_number n h = cc
 
 pub returns-in-None : goal.returns-in-None
 returns-in-None c =
-    let missing = int_here c.args.numbers.now c.args.place ∙ ap int_cell (sym c.in-None.ensures.number) in
+    let missing = int_here c.args.self.now c.args.place ∙ ap int_cell (sym c.in-None.ensures.number) in
     (λ f. absurd (false≢true f), λ is. absurd (no_number c.args.number.now (sym missing ∙ is)))
