@@ -10,6 +10,8 @@ use Rattle.std.proofs.MapsCrossing as maps
 use Rattle.std.proofs.alloc.Global.TheSendSync as global
 use Rattle.std.proofs.option.Option.TheSendSync as option
 use Rattle.std.proofs.sync.RwLock.TheSendSync as locked
+use Rattle.crossbeam_utils.specs.contracts.cache_padded.CachePadded as padded
+use Rattle.crossbeam_utils.proofs.cache_padded.CachePadded.TheSendSync as padding
 use Rattle.far_types.proofs.key.Key.TheSendSync as key
 use Rattle.far_types.proofs.spec.Spec.TheSendSync as spec
 use Rattle.far_store.specs.declared.store.FarTickets.{Ghosts as Tickets}
@@ -114,6 +116,9 @@ module _ (N B S T : RattleType) (b : Cellars B.Denot) (n : Names N.Denot) (at : 
   lock_sync : (I : RattleType) → IsSend T → IsSync T → IsSync (lock.the_field (stripe.the_row N B S I T n at b g)).row
   lock_sync I s t = locked.the_field_sync (stripe.the_row N B S I T n at b g) (stripe_send I s) (stripe_sync I t)
 
+  padded_sync : (I : RattleType) → IsSend T → IsSync T → IsSync (padded.the_field (lock.the_field (stripe.the_row N B S I T n at b g)).row).row
+  padded_sync I s t = padding.the_field_sync (lock.the_field (stripe.the_row N B S I T n at b g)).row (lock_sync I s t)
+
   pub shared_sync : IsSend T → IsSync T → IsSync (shared.the_row N B S T n b at g)
   shared_sync s t = struct_syncs (shared.the_type N B S T n b at g)
-      (global.the_field_sync, (lock_sync (number 0) s t, (lock_sync (number 1) s t, (lock_sync (number 2) s t, (lock_sync (number 3) s t, (cells.the_field_sync N B b n, (count.the_field_sync N n, tt)))))))
+      (global.the_field_sync, (padded_sync (number 0) s t, (padded_sync (number 1) s t, (padded_sync (number 2) s t, (padded_sync (number 3) s t, (cells.the_field_sync N B b n, (count.the_field_sync N n, tt)))))))

@@ -9,6 +9,7 @@ ghost use Rattle.far_shared.specs.Stripes.{IsStripe};
 use crate::opening::Four;
 use crate::shared::Shared;
 use crate::stripe::{Site, Stripe};
+use crossbeam_utils::CachePadded;
 use far_frame::Frame;
 use far_history::Naming;
 use far_sessions::{Cells, Keeper, Keepers, Session, are_whole, settle};
@@ -38,12 +39,12 @@ fn end<N: Naming, B: Site, R: Wait>(
 
 /// A table that is taken from under its lock, and what keeps its history.
 fn parted<N: Naming, B: Site, S: FarTickets, const I: usize>(
-    lock: RwLock<Stripe<N, B, S, I>>,
+    lock: CachePadded<RwLock<Stripe<N, B, S, I>>>,
 ) -> (Frame<S>, Keeper<N, B, I>)
     ensures stripe { IsStripe N.plan result.1 result.0.table }
     ensures here { AreAt S.is_of B.store result.0.rows }
 {
-    let stripe = lock.into_inner();
+    let stripe = lock.into_inner().into_inner();
     (stripe.frame, stripe.keeper)
 }
 

@@ -4,6 +4,7 @@ ghost use Rattle.far_sessions.specs.Known.{at};
 ghost use Rattle.far_shared.specs.Applying.{Extends, IsRefused};
 
 use crate::stripe::{Applied, Site, Stripe};
+use crossbeam_utils::CachePadded;
 use far_history::Naming;
 use far_sessions::{Cells, Counter, Place, Session};
 use far_store::FarTickets;
@@ -24,14 +25,15 @@ pub(crate) struct Count<N: Naming> {
 
 /// Four stripes, each a table under its lock, and the cells beside them. Session s has the home stripe s mod 4, and may use all.
 ///
-/// A session is used with the shared table that made it: its type says which.
+/// A session is used with the shared table that made it: its type says which. No two stripes are on one cache line, so that who writes
+/// in one does not slow the next.
 #[derive(Drop)]
 pub struct Shared<N: Naming, B: Site, S: FarTickets> {
     pub(crate) alloc: Global,
-    pub(crate) zero: RwLock<Stripe<N, B, S, 0>>,
-    pub(crate) one: RwLock<Stripe<N, B, S, 1>>,
-    pub(crate) two: RwLock<Stripe<N, B, S, 2>>,
-    pub(crate) three: RwLock<Stripe<N, B, S, 3>>,
+    pub(crate) zero: CachePadded<RwLock<Stripe<N, B, S, 0>>>,
+    pub(crate) one: CachePadded<RwLock<Stripe<N, B, S, 1>>>,
+    pub(crate) two: CachePadded<RwLock<Stripe<N, B, S, 2>>>,
+    pub(crate) three: CachePadded<RwLock<Stripe<N, B, S, 3>>>,
     pub(crate) cells: Cells<N, B>,
     pub(crate) count: Count<N>,
 }
