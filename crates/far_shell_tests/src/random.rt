@@ -1,4 +1,4 @@
-//! Scripts of random bytes, and scripts of commands of which one byte is changed: each ends as a script can.
+//! Scripts of random bytes, and scripts of commands of every kind of which one byte is changed: each ends as a script can.
 use far_random::Draws;
 use far_shell::{ShellFault, run_script};
 use std::sync::Wait;
@@ -11,7 +11,7 @@ const SCRIPTS: u32 = 20_000;
 const OPENING: &[u8] = b"schema 4 int,text 64 1000 16 4 16 256\n";
 
 /// Lines that its commands are drawn from.
-const LINES: [&[u8]; 19] = [
+const LINES: [&[u8]; 33] = [
     b"insert 5,a\n",
     b"insert -9223372036854775808,\"b\"\"c\"\n",
     b"insert \\N,\\N\n",
@@ -27,6 +27,20 @@ const LINES: [&[u8]; 19] = [
     b"lend 0 0 2\n",
     b"lend 1 0 1\n",
     b"prefetch 0\n",
+    b"pin 0 0\n",
+    b"unpin 0 0\n",
+    b"evac 0 0\n",
+    b"evac 1 0\n",
+    b"fetch 0 0\n",
+    b"carry 0\n",
+    b"carry 1\n",
+    b"commit 0\n",
+    b"install 1\n",
+    b"offload 0 0\n",
+    b"merge 1\n",
+    b"compact int 0\n",
+    b"recount 0\n",
+    b"renew 4\n",
     b"load 8\n1,a\n2,b\n",
     b"load 0\n",
     b"dump\n",
@@ -43,8 +57,8 @@ fn add_bytes(draws: &mut Draws, script: &mut Vec<u8>) -> Result<(), ShellFault> 
 
 fn add_lines(draws: &mut Draws, script: &mut Vec<u8>) -> Result<(), ShellFault> {
     script.extend_from_slice(OPENING)?;
-    for _ in 0..draws.below(12) {
-        if let Some(line) = LINES.get(draws.below(19) as usize) {
+    for _ in 0..draws.below(24) {
+        if let Some(line) = LINES.get(draws.below(33) as usize) {
             script.extend_from_slice(line)?;
         }
     }
