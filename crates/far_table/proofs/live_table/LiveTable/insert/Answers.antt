@@ -59,8 +59,8 @@ invariant_of-self-in-Err g c =
     subst (λ (rows : TableRows g.row.S-Ticket.Denot). IsLive rows n c.back.new.self) (sym c.in-Err.ensures.err)
     (same-live t n slots c.back.new.self (c.back.ensures.registered ∙ e.registered) live kept)
 
-pub invariant_of-self-in_default : goal.invariant_of-self-in_default
-invariant_of-self-in_default g c =
+pub invariant_of-self-2 : goal.invariant_of-self-2
+invariant_of-self-2 g c =
     let t = c.may_insert.new.self in
     let rows = c.self.inside.rows in
     let n = c.self.inside.registrations in
@@ -71,7 +71,8 @@ invariant_of-self-in_default g c =
     let before = subst (λ (l : Limits). Keeps l.group t.places slots) (sym c.limits.ensures.same) live.kept in
     let came = e.came t.places c.args.row (sym c.len-place.ensures.len) (ap cells_of (c.coming_ref.ensures ∙ taken.taken)) before in
     let kept = subst (λ (l : Limits). Keeps l.group (places_after (edit.Insert c.args.row) t.places) c.come_in.new.self) c.limits.ensures.same came in
-    inserted-live g.S.FarTickets.content rows t c.push.new.self c.args.row taken.stays taken.taken c.in_default.ensures.appended n slots c.come_in.new.self e.registered c.self.invariant kept
+    subst (λ (now : List Slot). IsLive c.push.new.self n now) (sym c.end.ensures.same)
+    (inserted-live g.S.FarTickets.content rows t c.push.new.self c.args.row taken.stays taken.taken c.in_default.ensures.appended n slots c.come_in.new.self e.registered c.self.invariant kept)
 
 pub returns-clause-ok : goal.returns-clause-ok
 returns-clause-ok g c =
@@ -79,5 +80,6 @@ returns-clause-ok g c =
     let slots = c.self.inside.aggregates in
     let taken = c.in_ok-may_insert.ensures in
     let content = g.S.FarTickets.content in
-    subst (λ (s : State g.row.S-Ticket.Denot). IsEdited content s (edit.Insert c.args.row) (state_of c.push.new.self n c.come_in.new.self)) c.self.view_is
-    (inserted content c.self.inside.rows c.may_insert.new.self c.push.new.self c.args.row taken.stays taken.taken c.in_default.ensures.appended n slots c.come_in.new.self taken.refused c.in_ok-pending.ensures.registered)
+    subst (λ (now : List Slot). IsEdited content c.args.self.now (edit.Insert c.args.row) (state_of c.push.new.self n now)) (sym c.end.ensures.same)
+    (subst (λ (s : State g.row.S-Ticket.Denot). IsEdited content s (edit.Insert c.args.row) (state_of c.push.new.self n c.come_in.new.self)) c.self.view_is
+    (inserted content c.self.inside.rows c.may_insert.new.self c.push.new.self c.args.row taken.stays taken.taken c.in_default.ensures.appended n slots c.come_in.new.self taken.refused c.in_ok-pending.ensures.registered))
