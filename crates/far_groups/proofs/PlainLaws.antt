@@ -8,7 +8,7 @@ use Rattle.far_types.specs.declared.key.Key.{Key}
 use Rattle.far_types.specs.Keys.{line_cmp}
 use Rattle.far_types.specs.Answers.{Totals}
 use Rattle.far_types.specs.Changes.{add_tallies, count_in, joined_totals}
-use Rattle.far_types.proofs.ByKeyMaps.{Entries, with_more, at, IsSet, get_at, set_inserts, joined-empty, joined-one}
+use Rattle.far_types.proofs.ByKeyMaps.{Entries, with_more, IsSet, get_at, set_inserts, joined-empty, joined-one}
 use Rattle.far_groups.specs.Live.{CanJoin}
 use Rattle.far_groups.specs.Tallies.{totals_of, IsTally, AreTallies, with_tally, LeavesTally, without_tally}
 use Rattle.far_groups.specs.Numbers.{by_number}
