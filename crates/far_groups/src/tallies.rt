@@ -103,6 +103,7 @@ pub fn add_under(tallies: &mut Tallies, key: &Option<Key>, more: Tally) -> Resul
 }
 
 /// A count and a sum less under a key. A key of which nothing is left goes. Takes no memory.
+#[inline(never)]
 pub fn take(tallies: &mut Tallies, key: &Option<Key>, less: Tally)
     requires tallied { AreTallies (totals_of tallies.old.entries) }
     requires there { LeavesTally less (fin.get (totals_of tallies.old.entries) key.now) }
