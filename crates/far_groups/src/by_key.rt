@@ -27,9 +27,9 @@ enum Form {
     Keyed(Tallies),
 }
 
-/// Counts and sums by key. At first nothing stands in a tree of numbers. What comes under no key then takes the place of
-/// that tree, and is changed with no look-up. A key that the form has no place for brings all into a tree of keys, in which
-/// they stay.
+/// Counts and sums by key, which begin as a tree of numbers with nothing in it. What comes under no key then takes its
+/// place, and is changed with no look-up. A key that has no place in a form brings all into a tree of keys, in which they
+/// stay.
 #[derive(Drop)]
 pub struct ByKey {
     alloc: Global,
@@ -148,27 +148,28 @@ pub fn add_under(by_key: &mut ByKey, key: &Option<Key>, more: Tally) -> Result<(
                 *tally = together(*tally, more);
                 Ok(())
             }
-            Some(_) => add_to_tree(by_key, key, more),
+            Some(_) => add_to_tree(by_key, key, more.0, more.1),
         },
-        Form::Numbered(_) => add_to_tree(by_key, key, more),
-        Form::Keyed(_) => add_to_tree(by_key, key, more),
+        Form::Numbered(_) => add_to_tree(by_key, key, more.0, more.1),
+        Form::Keyed(_) => add_to_tree(by_key, key, more.0, more.1),
     }
 }
 
 /// A count and a sum more under a key, where there is a tree or comes to be one. It stands apart from `add_under`, which so
-/// stays short.
+/// stays short, and is handed numbers, which need no memory.
 #[inline(never)]
-fn add_to_tree(by_key: &mut ByKey, key: &Option<Key>, more: Tally) -> Result<(), Refusal>
+fn add_to_tree(by_key: &mut ByKey, key: &Option<Key>, count: u64, sum: i128) -> Result<(), Refusal>
     requires tallied { AreTallies (totals_in by_key.old) }
-    requires more_tallied { IsTally more }
-    requires room { count_in (fin.get (totals_in by_key.old) key.now) + more.0 ≤ 2 ^ 26 }
+    requires more_tallied { IsTally (count, sum) }
+    requires room { count_in (fin.get (totals_in by_key.old) key.now) + count ≤ 2 ^ 26 }
     requires tree { NeedsTree by_key.old.form key.now }
     ensures tallied { AreTallies (totals_in by_key.new) }
-    ensures ok { OnOk result (totals_in by_key.new ≡ with_tally (totals_in by_key.old) key.now more) }
+    ensures ok { OnOk result (totals_in by_key.new ≡ with_tally (totals_in by_key.old) key.now (count, sum)) }
     ensures err { OnErr result (totals_in by_key.new ≡ totals_in by_key.old) }
     ensures only_new { OnErr result (fin.get (totals_in by_key.old) key.now ≡ None) }
     ensures memory { IfErr result (λ e. e ≡ Refusal.NoMemory) }
 {
+    let more = (count, sum);
     match &mut by_key.form {
         Form::Plain(tally) => {
             by_key.form = Form::Keyed(plain_with_key(by_key.alloc, *tally, key, more)?);
