@@ -3,6 +3,7 @@ pub mod JoinLaws
 pub mod NewLines
 pub mod NumberLaws
 pub mod PairLaws
+pub mod PlainLaws
 pub mod RaiseLaws
 pub mod RoomLaws
 pub mod TallyLaws

@@ -1,17 +1,29 @@
--- What stands by key, in a tree of numbers or in a tree of keys.
-use Rattle.std.specs.Prelude.{ℕ, ℤ, List, Option, None, Some}
-use Rattle.std.specs.BTreeMap.{BTreeMap}
+-- What stands by key: all under no key, in a tree of numbers, or in a tree of keys.
+use Rattle.std.specs.Prelude.{ℕ, ℤ, [], ◌∷◌, Option, None, IsSome}
 use Rattle.far_types.specs.declared.key.Key.{Key}
 use Rattle.far_types.specs.Answers.{Totals}
 use Rattle.far_groups.specs.declared.by_key.ByKey.{ByKey}
+use Rattle.far_groups.specs.declared.by_key.Form.{Form}
+use Rattle.far_groups.specs.declared.by_key.Form.TheVariants.{Plain, Numbered, Keyed}
 use Rattle.far_groups.specs.Tallies.{totals_of}
 use Rattle.far_groups.specs.Numbers.{by_number}
 
--- the tree of keys, once there is one, has all
-abbrev pub in_either : List (ℤ × (ℕ × ℤ)) → Option (BTreeMap (Option Key) (ℕ × ℤ)) → Totals
-in_either numbers None = by_number numbers
-in_either numbers (Some keys) = totals_of keys.entries
+-- a count and a sum under no key
+abbrev pub plain_totals : ℕ × ℤ → Totals
+plain_totals tally = totals_of ((None, tally) ∷ [])
+
+-- what a form has by key
+abbrev pub in_form : Form → Totals
+in_form (Plain tally) = plain_totals tally
+in_form (Numbered numbers) = by_number numbers.entries
+in_form (Keyed keys) = totals_of keys.entries
 
 -- what stands by key
 abbrev pub totals_in : ByKey → Totals
-totals_in by_key = in_either by_key.numbers.entries by_key.keys
+totals_in by_key = in_form by_key.form
+
+-- more under a key is put into a tree, unless both it and what is there stand under no key
+abbrev pub NeedsTree : Form → Option Key → Type 0
+NeedsTree (Plain tally) key = IsSome key
+NeedsTree (Numbered numbers) key = Unit {0}
+NeedsTree (Keyed keys) key = Unit {0}

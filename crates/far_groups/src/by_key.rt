@@ -1,5 +1,5 @@
-// What stands by key, where most keys are numbers.
-ghost use Rattle.std.specs.Prelude.{◌≡◌, ◌+◌, ◌^◌, ◌≤◌, pos, None, unwrap_or, IfSome, IfOk, IfErr, OnOk, OnErr};
+// What stands by key, where mostly there is the one key of an aggregate without key column, or all keys are numbers.
+ghost use Rattle.std.specs.Prelude.{◌≡◌, ◌+◌, ◌^◌, ◌≤◌, ◌∷◌, [], pos, None, unwrap_or, IsSome, IfSome, IfOk, IfErr, OnOk, OnErr};
 ghost use Rattle.std.specs.Option.{option_copied};
 ghost use Rattle.std.specs.FinMap as fin;
 ghost use Rattle.far_types.specs.Answers.{total_lines};
@@ -7,22 +7,33 @@ ghost use Rattle.far_types.specs.Changes.{count_in, joined_totals};
 ghost use Rattle.far_groups.specs.Live.{CanJoin};
 ghost use Rattle.far_groups.specs.Tallies.{totals_of, IsTally, AreTallies, with_tally, LeavesTally, without_tally};
 ghost use Rattle.far_groups.specs.Numbers.{number_key, number_of, by_number};
-ghost use Rattle.far_groups.specs.ByKey.{totals_in};
+ghost use Rattle.far_groups.specs.ByKey.{plain_totals, in_form, totals_in, NeedsTree};
 
 use super::joins::join_all;
 use super::numbers::{self, Numbers, keyed};
-use super::tallies::{self, Tallies, Tally};
+use super::tallies::{self, Tallies, Tally, apart, together};
 use far_types::{Key, Refusal};
 use std::alloc::Global;
 use std::collections::BTreeMap;
 
-/// Counts and sums by key. While all keys are numbers they stand in a tree of bare numbers, where a look-up takes a third of
-/// the time. The first key of another kind brings all into a tree of keys, in which they stay.
+/// Where counts and sums by key stand.
+#[derive(Drop)]
+enum Form {
+    /// All under no key, as in an aggregate without key column. The count is not 0.
+    Plain(Tally),
+    /// In a tree of bare numbers, where a look-up takes a third of the time.
+    Numbered(Numbers),
+    /// In a tree of keys.
+    Keyed(Tallies),
+}
+
+/// Counts and sums by key, which begin as a tree of numbers with nothing in it. What comes under no key then takes its
+/// place, and is changed with no look-up. A key that has no place in a form brings all into a tree of keys, in which they
+/// stay.
 #[derive(Drop)]
 pub struct ByKey {
     alloc: Global,
-    numbers: Numbers,
-    keys: Option<Tallies>,
+    form: Form,
 }
 
 /// Nothing stands under any key. Takes no memory.
@@ -31,8 +42,7 @@ pub fn nothing(alloc: Global) -> ByKey
 {
     ByKey {
         alloc,
-        numbers: BTreeMap::new(alloc),
-        keys: None,
+        form: Form::Numbered(BTreeMap::new(alloc)),
     }
 }
 
@@ -47,25 +57,60 @@ fn number_of(key: &Option<Key>) -> Option<&i64>
     }
 }
 
-/// What stands by number, with a count and a sum more under a key that is no number, in a tree of keys.
+/// What stands under no key, in a tree of keys.
+fn keyed_plain(alloc: Global, tally: Tally) -> Result<Tallies, Refusal>
+    ensures ok { IfOk result (λ keys. totals_of keys.entries ≡ plain_totals tally) }
+    ensures memory { IfErr result (λ e. e ≡ Refusal.NoMemory) }
+{
+    let mut keys = BTreeMap::new(alloc);
+    keys.insert(None, tally)?;
+    Ok(keys)
+}
+
+/// What stands under no key, with a count and a sum more under another key, in a tree of keys.
+fn plain_with_key(
+    alloc: Global,
+    tally: Tally,
+    key: &Option<Key>,
+    more: Tally,
+) -> Result<Tallies, Refusal>
+    requires tallied { AreTallies (plain_totals tally) }
+    requires more_tallied { IsTally more }
+    requires room { count_in (fin.get (plain_totals tally) key.now) + more.0 ≤ 2 ^ 26 }
+    requires other { IsSome key.now }
+    ensures ok { IfOk result (λ keys. totals_of keys.entries ≡ with_tally (plain_totals tally) key.now more) }
+    ensures tallied { IfOk result (λ keys. AreTallies (totals_of keys.entries)) }
+    ensures new { fin.get (plain_totals tally) key.now ≡ None }
+    ensures memory { IfErr result (λ e. e ≡ Refusal.NoMemory) }
+{
+    let mut keys = keyed_plain(alloc, tally)?;
+    tallies::add_under(&mut keys, key, more)?;
+    Ok(keys)
+}
+
+/// What stands by number, with a count and a sum more under a key that is no number. Where nothing stood here and there is
+/// no key, it takes no memory.
 fn with_key(
     alloc: Global,
     numbers: &Numbers,
     key: &Option<Key>,
     more: Tally,
-) -> Result<Tallies, Refusal>
+) -> Result<Form, Refusal>
     requires tallied { AreTallies (by_number numbers.now.entries) }
     requires more_tallied { IsTally more }
     requires room { count_in (fin.get (by_number numbers.now.entries) key.now) + more.0 ≤ 2 ^ 26 }
     requires other { number_of key.now ≡ None }
-    ensures ok { IfOk result (λ keys. totals_of keys.entries ≡ with_tally (by_number numbers.now.entries) key.now more) }
-    ensures tallied { IfOk result (λ keys. AreTallies (totals_of keys.entries)) }
+    ensures ok { IfOk result (λ form. in_form form ≡ with_tally (by_number numbers.now.entries) key.now more) }
+    ensures tallied { IfOk result (λ form. AreTallies (in_form form)) }
     ensures new { fin.get (by_number numbers.now.entries) key.now ≡ None }
     ensures memory { IfErr result (λ e. e ≡ Refusal.NoMemory) }
 {
+    if numbers.is_empty() && key.is_none() {
+        return Ok(Form::Plain(more));
+    }
     let mut keys = keyed(alloc, numbers)?;
     tallies::add_under(&mut keys, key, more)?;
-    Ok(keys)
+    Ok(Form::Keyed(keys))
 }
 
 /// A count and a sum more under a key, which is dropped where it is there already.
@@ -79,19 +124,14 @@ pub fn add(by_key: &mut ByKey, key: Option<Key>, more: Tally) -> Result<(), Refu
     ensures only_new { OnErr result (fin.get (totals_in by_key.old) key ≡ None) }
     ensures memory { IfErr result (λ e. e ≡ Refusal.NoMemory) }
 {
-    match &mut by_key.keys {
-        Some(keys) => tallies::add(keys, key, more),
-        None => match number_of(&key) {
-            Some(number) => numbers::add(&mut by_key.numbers, number, more),
-            None => {
-                by_key.keys = Some(with_key(by_key.alloc, &by_key.numbers, &key, more)?);
-                Ok(())
-            }
-        },
+    match &mut by_key.form {
+        Form::Keyed(keys) => tallies::add(keys, key, more),
+        _ => add_under(by_key, &key, more),
     }
 }
 
 /// A count and a sum more under a key, of which a clone is made where it is new.
+#[inline(always)]
 pub fn add_under(by_key: &mut ByKey, key: &Option<Key>, more: Tally) -> Result<(), Refusal>
     requires tallied { AreTallies (totals_in by_key.old) }
     requires more_tallied { IsTally more }
@@ -102,65 +142,133 @@ pub fn add_under(by_key: &mut ByKey, key: &Option<Key>, more: Tally) -> Result<(
     ensures only_new { OnErr result (fin.get (totals_in by_key.old) key.now ≡ None) }
     ensures memory { IfErr result (λ e. e ≡ Refusal.NoMemory) }
 {
-    match &mut by_key.keys {
-        Some(keys) => tallies::add_under(keys, key, more),
-        None => match number_of(key) {
-            Some(number) => numbers::add(&mut by_key.numbers, number, more),
+    match &mut by_key.form {
+        Form::Plain(tally) => match key {
             None => {
-                by_key.keys = Some(with_key(by_key.alloc, &by_key.numbers, key, more)?);
+                *tally = together(*tally, more);
+                Ok(())
+            }
+            Some(_) => add_to_tree(by_key, key, more.0, more.1),
+        },
+        Form::Numbered(_) => add_to_tree(by_key, key, more.0, more.1),
+        Form::Keyed(_) => add_to_tree(by_key, key, more.0, more.1),
+    }
+}
+
+/// A count and a sum more under a key, where there is a tree or comes to be one. It stands apart from `add_under`, which so
+/// stays short, and is handed numbers, which need no memory.
+#[inline(never)]
+fn add_to_tree(by_key: &mut ByKey, key: &Option<Key>, count: u64, sum: i128) -> Result<(), Refusal>
+    requires tallied { AreTallies (totals_in by_key.old) }
+    requires more_tallied { IsTally (count, sum) }
+    requires room { count_in (fin.get (totals_in by_key.old) key.now) + count ≤ 2 ^ 26 }
+    requires tree { NeedsTree by_key.old.form key.now }
+    ensures tallied { AreTallies (totals_in by_key.new) }
+    ensures ok { OnOk result (totals_in by_key.new ≡ with_tally (totals_in by_key.old) key.now (count, sum)) }
+    ensures err { OnErr result (totals_in by_key.new ≡ totals_in by_key.old) }
+    ensures only_new { OnErr result (fin.get (totals_in by_key.old) key.now ≡ None) }
+    ensures memory { IfErr result (λ e. e ≡ Refusal.NoMemory) }
+{
+    let more = (count, sum);
+    match &mut by_key.form {
+        Form::Plain(tally) => {
+            by_key.form = Form::Keyed(plain_with_key(by_key.alloc, *tally, key, more)?);
+            Ok(())
+        }
+        Form::Numbered(numbers) => match number_of(key) {
+            Some(number) => numbers::add(numbers, number, more),
+            None => {
+                by_key.form = with_key(by_key.alloc, numbers, key, more)?;
                 Ok(())
             }
         },
+        Form::Keyed(keys) => tallies::add_under(keys, key, more),
     }
 }
 
 /// A count and a sum less under a key. A key of which nothing is left goes. Takes no memory.
+#[inline(always)]
 pub fn take(by_key: &mut ByKey, key: &Option<Key>, less: Tally)
     requires tallied { AreTallies (totals_in by_key.old) }
     requires there { LeavesTally less (fin.get (totals_in by_key.old) key.now) }
     ensures tallied { AreTallies (totals_in by_key.new) }
     ensures less { totals_in by_key.new ≡ without_tally (totals_in by_key.old) key.now less }
 {
-    match &mut by_key.keys {
-        Some(keys) => tallies::take(keys, key, less),
-        None => match number_of(key) {
-            Some(number) => numbers::take(&mut by_key.numbers, number, less),
+    match &mut by_key.form {
+        Form::Plain(tally) => {
+            let rest = apart(*tally, less);
+            if rest.0 == 0 {
+                by_key.form = Form::Numbered(BTreeMap::new(by_key.alloc));
+            } else {
+                *tally = rest;
+            }
+        }
+        Form::Numbered(numbers) => match number_of(key) {
+            Some(number) => numbers::take(numbers, number, less),
             None => {}
         },
+        Form::Keyed(keys) => tallies::take(keys, key, less),
     }
 }
 
-/// Joins what stands elsewhere to what stands in a tree of keys.
-fn join_to_keys(alloc: Global, keys: &mut Tallies, other: &ByKey) -> Result<(), Refusal>
-    requires tallied { AreTallies (totals_of keys.old.entries) }
-    requires other_tallied { AreTallies (totals_in other.now) }
-    requires can_join { CanJoin (totals_of keys.old.entries) (totals_in other.now) }
-    ensures tallied { AreTallies (totals_of keys.new.entries) }
-    ensures ok { OnOk result (totals_of keys.new.entries ≡ joined_totals (totals_of keys.old.entries) (totals_in other.now)) }
-    ensures err { OnErr result (totals_of keys.new.entries ≡ totals_of keys.old.entries) }
-    ensures memory { IfErr result (λ e. e ≡ Refusal.NoMemory) }
-{
-    match &other.keys {
-        Some(more) => join_all(alloc, keys, more),
-        None => {
-            let more = keyed(alloc, &other.numbers)?;
-            join_all(alloc, keys, &more)
-        }
-    }
-}
-
-/// What stands by number and what stands in a tree of keys, joined in another.
-fn with_keys(alloc: Global, numbers: &Numbers, more: &Tallies) -> Result<Tallies, Refusal>
-    requires tallied { AreTallies (by_number numbers.now.entries) }
+/// A tree of keys to which another is joined.
+fn with_keys(alloc: Global, mut keys: Tallies, more: &Tallies) -> Result<Tallies, Refusal>
+    requires tallied { AreTallies (totals_of keys.entries) }
     requires other_tallied { AreTallies (totals_of more.now.entries) }
-    requires can_join { CanJoin (by_number numbers.now.entries) (totals_of more.now.entries) }
-    ensures ok { IfOk result (λ keys. totals_of keys.entries ≡ joined_totals (by_number numbers.now.entries) (totals_of more.now.entries)) }
-    ensures tallied { IfOk result (λ keys. AreTallies (totals_of keys.entries)) }
+    requires can_join { CanJoin (totals_of keys.entries) (totals_of more.now.entries) }
+    ensures ok { IfOk result (λ all. totals_of all.entries ≡ joined_totals (totals_of keys.entries) (totals_of more.now.entries)) }
+    ensures tallied { IfOk result (λ all. AreTallies (totals_of all.entries)) }
     ensures memory { IfErr result (λ e. e ≡ Refusal.NoMemory) }
 {
-    let mut keys = keyed(alloc, numbers)?;
     join_all(alloc, &mut keys, more)?;
     Ok(keys)
+}
+
+/// Joins what stands in a tree of keys to what stands here.
+fn join_keys(by_key: &mut ByKey, more: &Tallies) -> Result<(), Refusal>
+    requires tallied { AreTallies (totals_in by_key.old) }
+    requires other_tallied { AreTallies (totals_of more.now.entries) }
+    requires can_join { CanJoin (totals_in by_key.old) (totals_of more.now.entries) }
+    ensures tallied { AreTallies (totals_in by_key.new) }
+    ensures ok { OnOk result (totals_in by_key.new ≡ joined_totals (totals_in by_key.old) (totals_of more.now.entries)) }
+    ensures err { OnErr result (totals_in by_key.new ≡ totals_in by_key.old) }
+    ensures memory { IfErr result (λ e. e ≡ Refusal.NoMemory) }
+{
+    match &mut by_key.form {
+        Form::Plain(tally) => {
+            let keys = keyed_plain(by_key.alloc, *tally)?;
+            by_key.form = Form::Keyed(with_keys(by_key.alloc, keys, more)?);
+            Ok(())
+        }
+        Form::Numbered(numbers) => {
+            let keys = keyed(by_key.alloc, numbers)?;
+            by_key.form = Form::Keyed(with_keys(by_key.alloc, keys, more)?);
+            Ok(())
+        }
+        Form::Keyed(keys) => join_all(by_key.alloc, keys, more),
+    }
+}
+
+/// Joins what stands by number to what stands here.
+fn join_numbers(by_key: &mut ByKey, more: &Numbers) -> Result<(), Refusal>
+    requires tallied { AreTallies (totals_in by_key.old) }
+    requires other_tallied { AreTallies (by_number more.now.entries) }
+    requires can_join { CanJoin (totals_in by_key.old) (by_number more.now.entries) }
+    ensures tallied { AreTallies (totals_in by_key.new) }
+    ensures ok { OnOk result (totals_in by_key.new ≡ joined_totals (totals_in by_key.old) (by_number more.now.entries)) }
+    ensures err { OnErr result (totals_in by_key.new ≡ totals_in by_key.old) }
+    ensures memory { IfErr result (λ e. e ≡ Refusal.NoMemory) }
+{
+    if more.is_empty() {
+        return Ok(());
+    }
+    match &mut by_key.form {
+        Form::Numbered(numbers) => numbers::join(numbers, more),
+        _ => {
+            let keys = keyed(by_key.alloc, more)?;
+            join_keys(by_key, &keys)
+        }
+    }
 }
 
 /// Joins what stands elsewhere to what stands here.
@@ -173,16 +281,21 @@ pub fn join(by_key: &mut ByKey, other: &ByKey) -> Result<(), Refusal>
     ensures err { OnErr result (totals_in by_key.new ≡ totals_in by_key.old) }
     ensures memory { IfErr result (λ e. e ≡ Refusal.NoMemory) }
 {
-    match &mut by_key.keys {
-        Some(keys) => join_to_keys(by_key.alloc, keys, other),
-        None => match &other.keys {
-            Some(more) => {
-                by_key.keys = Some(with_keys(by_key.alloc, &by_key.numbers, more)?);
-                Ok(())
-            }
-            None => numbers::join(&mut by_key.numbers, &other.numbers),
-        },
+    match &other.form {
+        Form::Plain(tally) => add_under(by_key, &None, *tally),
+        Form::Numbered(more) => join_numbers(by_key, more),
+        Form::Keyed(more) => join_keys(by_key, more),
     }
+}
+
+/// The one line of what stands under no key.
+fn plain_line(alloc: Global, tally: Tally) -> Result<Vec<(Option<Key>, u64, i128)>, Refusal>
+    ensures ok { IfOk result (λ lines. lines.items ≡ (None, tally.0, tally.1) ∷ []) }
+    ensures memory { IfErr result (λ e. e ≡ Refusal.NoMemory) }
+{
+    let mut lines = Vec::with_capacity(alloc, 1)?;
+    lines.push((None, tally.0, tally.1))?;
+    Ok(lines)
 }
 
 /// The lines by key, ascending.
@@ -190,9 +303,10 @@ pub fn lines(alloc: Global, by_key: &ByKey) -> Result<Vec<(Option<Key>, u64, i12
     ensures ok { IfOk result (λ lines. lines.items ≡ total_lines (totals_in by_key.now)) }
     ensures memory { IfErr result (λ e. e ≡ Refusal.NoMemory) }
 {
-    match &by_key.keys {
-        Some(keys) => tallies::lines(alloc, keys),
-        None => numbers::lines(alloc, &by_key.numbers),
+    match &by_key.form {
+        Form::Plain(tally) => plain_line(alloc, *tally),
+        Form::Numbered(numbers) => numbers::lines(alloc, numbers),
+        Form::Keyed(keys) => tallies::lines(alloc, keys),
     }
 }
 
@@ -200,8 +314,9 @@ pub fn lines(alloc: Global, by_key: &ByKey) -> Result<Vec<(Option<Key>, u64, i12
 pub fn plain(by_key: &ByKey) -> Tally
     ensures { result ≡ unwrap_or (fin.get (totals_in by_key.now) None) (0, pos 0) }
 {
-    match &by_key.keys {
-        Some(keys) => keys.get(&None).copied().unwrap_or((0, 0)),
-        None => (0, 0),
+    match &by_key.form {
+        Form::Plain(tally) => *tally,
+        Form::Numbered(_) => (0, 0),
+        Form::Keyed(keys) => keys.get(&None).copied().unwrap_or((0, 0)),
     }
 }

@@ -73,6 +73,7 @@ impl LiveTotals {
     }
 
     /// One folded row more, as `add`, for a caller that keeps the key: a clone is made where it is new.
+    #[inline(always)]
     pub fn add_under(&mut self, key: &Option<Key>, value: i64) -> Result<(), Refusal>
         requires { count_in (fin.get self.old.totals key.now) < 2 ^ 26 }
         ensures ok { OnOk result (self.new ≡ record self.old { totals = with_pair self.old.totals (key.now, value) }) }
@@ -97,6 +98,7 @@ impl LiveTotals {
     }
 
     /// One folded row less, of those that are in. A key without rows is kept no more. Takes no memory.
+    #[inline(always)]
     pub fn take(&mut self, key: &Option<Key>, value: i64)
         requires { CanTake value (fin.get self.old.totals key.now) }
         ensures { self.new ≡ record self.old { totals = without_pair self.old.totals (key.now, value) } }

@@ -54,6 +54,7 @@ pub fn add(numbers: &mut Numbers, number: &i64, more: Tally) -> Result<(), Refus
 }
 
 /// A count and a sum less under a number. A number of which nothing is left goes. Takes no memory.
+#[inline(never)]
 pub fn take(numbers: &mut Numbers, number: &i64, less: Tally)
     requires tallied { AreTallies (by_number numbers.old.entries) }
     requires there { LeavesTally less (fin.get (by_number numbers.old.entries) (number_key number.now)) }

@@ -19,6 +19,7 @@ pub type Tally = (u64, i128);
 pub type Tallies = BTreeMap<Option<Key>, Tally>;
 
 /// The count and the sum of one value.
+#[inline(always)]
 pub fn tally_of(value: i64) -> Tally
     ensures value { result ≡ (1, value) }
     ensures tallied { IsTally result }
@@ -27,6 +28,7 @@ pub fn tally_of(value: i64) -> Tally
 }
 
 /// Two counts and sums together.
+#[inline(always)]
 pub fn together(tally: Tally, more: Tally) -> Tally
     requires tallied { IsTally tally }
     requires more_tallied { IsTally more }
@@ -38,6 +40,7 @@ pub fn together(tally: Tally, more: Tally) -> Tally
 }
 
 /// What is left of a count and a sum when another goes.
+#[inline(always)]
 pub fn apart(tally: Tally, less: Tally) -> Tally
     requires tallied { IsTally tally }
     requires there { LeavesTally less (Some tally) }
@@ -100,6 +103,7 @@ pub fn add_under(tallies: &mut Tallies, key: &Option<Key>, more: Tally) -> Resul
 }
 
 /// A count and a sum less under a key. A key of which nothing is left goes. Takes no memory.
+#[inline(never)]
 pub fn take(tallies: &mut Tallies, key: &Option<Key>, less: Tally)
     requires tallied { AreTallies (totals_of tallies.old.entries) }
     requires there { LeavesTally less (fin.get (totals_of tallies.old.entries) key.now) }
