@@ -4,6 +4,7 @@ use Rattle.far_types.specs.declared.cell.Cell.{Cell}
 use Rattle.far_types.specs.declared.cell.Cell.TheVariants as cell
 use Rattle.far_types.specs.declared.cell.Kind.TheVariants as kind
 use Rattle.far_types.specs.declared.limits.Limits.{Limits}
+use Rattle.far_types.specs.Bounds.{usual_limits}
 use Rattle.far_types.specs.declared.spec.Fold.TheVariants as fold
 use Rattle.far_types.specs.declared.spec.Spec.{Spec}
 use Rattle.far_history.specs.Histories.{Planned}
@@ -17,7 +18,7 @@ row_of_one = cell.Int (pos 1) ∷ []
 
 -- the limits of each stripe
 abbrev pub stripe_limits : Limits
-stripe_limits = record { group = 4; places = 16777216; edits = 1099511627776; int_segments = 64; int_size = 4096; text_segments = 64; text_size = 65536 }
+stripe_limits = usual_limits 4
 
 -- the count of the rows, and the sum of their numbers
 abbrev pub sum_of_rows : Spec
