@@ -9,7 +9,7 @@ use crate::stripe::{Site, Stripe};
 use crossbeam_utils::CachePadded;
 use far_frame::Frame;
 use far_history::Naming;
-use far_sessions::{Keeper, Opened, Session};
+use far_sessions::{Opened, Session};
 use far_store::FarTickets;
 use far_types::Refusal;
 use std::alloc::{AllocError, Global};
@@ -148,17 +148,6 @@ impl Plan {
     }
 }
 
-/// An empty table of stripe I and what keeps its history, under a lock on cache lines of its own.
-fn under_lock<N: Naming, B: Site, S: FarTickets, const I: usize>(
-    frame: Frame<S>,
-    keeper: Keeper<N, B, I>,
-) -> CachePadded<RwLock<Stripe<N, B, S, I>>>
-    requires empty { IsEmpty S.is_of N.plan I frame }
-    requires new { keeper ≡ [] }
-{
-    CachePadded::new(RwLock::new(Stripe { frame, keeper }))
-}
-
 impl<N: Naming, S: FarTickets> Made<N, S> {
     /// Puts each table under a lock, beside what keeps its history, and makes the sessions. All histories are empty. The caller names
     /// the four cells, and the store to which objects will go.
@@ -194,10 +183,22 @@ impl<N: Naming, S: FarTickets> Made<N, S> {
                 } = opened;
                 let shared = Shared {
                     alloc,
-                    zero: under_lock(frames.zero, keepers.zero),
-                    one: under_lock(frames.one, keepers.one),
-                    two: under_lock(frames.two, keepers.two),
-                    three: under_lock(frames.three, keepers.three),
+                    zero: CachePadded::new(RwLock::new(Stripe {
+                        frame: frames.zero,
+                        keeper: keepers.zero,
+                    })),
+                    one: CachePadded::new(RwLock::new(Stripe {
+                        frame: frames.one,
+                        keeper: keepers.one,
+                    })),
+                    two: CachePadded::new(RwLock::new(Stripe {
+                        frame: frames.two,
+                        keeper: keepers.two,
+                    })),
+                    three: CachePadded::new(RwLock::new(Stripe {
+                        frame: frames.three,
+                        keeper: keepers.three,
+                    })),
                     cells,
                     count: Count {
                         sessions: count,
