@@ -113,11 +113,11 @@ module _ (N B S T : RattleType) (b : Cellars B.Denot) (n : Names N.Denot) (at : 
   pub stripe_sync : (I : RattleType) → IsSync T → IsSync (stripe.the_row N B S I T n at b g)
   stripe_sync I t = view_sync (stripe.TheInside.the_row N B S I T n at b g) _ _ _ _ (struct_syncs (stripe.TheInside.the_type N B S I T n at b g) (frame_sync S T g t, (keeper.the_sync N B I n b, tt)))
 
-  lock_sync : (I : RattleType) → IsSend T → IsSync T → IsSync (lock.the_field (stripe.the_row N B S I T n at b g)).row
-  lock_sync I s t = locked.the_field_sync (stripe.the_row N B S I T n at b g) (stripe_send I s) (stripe_sync I t)
+  lock_sync : (I : RattleType) → IsSend T → IsSync T → IsSync (lock.the_row (stripe.the_row N B S I T n at b g))
+  lock_sync I s t = locked.the_sync (stripe.the_row N B S I T n at b g) (stripe_send I s) (stripe_sync I t)
 
-  padded_sync : (I : RattleType) → IsSend T → IsSync T → IsSync (padded.the_field (lock.the_field (stripe.the_row N B S I T n at b g)).row).row
-  padded_sync I s t = padding.the_field_sync (lock.the_field (stripe.the_row N B S I T n at b g)).row (lock_sync I s t)
+  padded_sync : (I : RattleType) → IsSend T → IsSync T → IsSync (padded.the_field (lock.the_row (stripe.the_row N B S I T n at b g))).row
+  padded_sync I s t = padding.the_field_sync (lock.the_row (stripe.the_row N B S I T n at b g)) (lock_sync I s t)
 
   pub shared_sync : IsSend T → IsSync T → IsSync (shared.the_row N B S T n b at g)
   shared_sync s t = struct_syncs (shared.the_type N B S T n b at g)
