@@ -20,6 +20,8 @@ mod repeating;
 #[cfg(test)]
 mod script;
 #[cfg(test)]
+mod two_tables;
+#[cfg(test)]
 mod values;
 #[cfg(test)]
 mod worlds;
