@@ -16,6 +16,8 @@ mod random_run;
 #[cfg(test)]
 mod random_steps;
 #[cfg(test)]
+mod recounts;
+#[cfg(test)]
 mod repeating;
 #[cfg(test)]
 mod script;
