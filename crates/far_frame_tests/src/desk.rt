@@ -161,8 +161,8 @@ fn object_of<S: FarTickets>(job: &Option<Job<S>>) -> Option<Name> {
     }
 }
 
-// Registers an aggregate.
-fn watch<S: FarTickets>(frame: &mut Frame<S>, spec: Spec) -> Result<u32, Refusal>
+/// Registers an aggregate.
+pub fn watch<S: FarTickets>(frame: &mut Frame<S>, spec: Spec) -> Result<u32, Refusal>
     ensures { (name : List ℕ) → AreAt S.is_of name frame.old.rows → AreAt S.is_of name frame.new.rows }
 {
     frame.watch(spec)
@@ -209,15 +209,16 @@ fn is_refusal_due(given: Refusal, due: Result<&[Line], Refusal>) -> Result<bool,
 
 /// How a job that was carried ends.
 #[derive(Clone, Copy)]
-enum End {
+pub enum End {
     Commit,
     Install,
+    Merge,
     /// An evacuation, once the number of this place is set.
     CommitWritten(u32, Option<i64>),
 }
 
-// Goes on with a job that was begun.
-fn finish<S: FarStore>(
+/// Goes on with a job that was begun.
+pub fn finish<S: FarStore>(
     alloc: Global,
     frame: &mut Frame<S>,
     store: &S,
@@ -246,13 +247,31 @@ fn carry<S: FarStore>(
     requires job_here { IsJobAt S.is_of (S.name store.now) job }
     ensures { AreAt S.is_of (S.name store.now) frame.new.rows }
 {
-    match job.carry(alloc, store, &mut Meter::new()) {
-        Ok(job) => ended(frame, store, &job, end),
-        Err(refused) => Err(refused.0),
+    match carried(alloc, store, job) {
+        Ok(job) => {
+            let reply = ended(frame, store, &job, end);
+            drop(job);
+            reply
+        }
+        Err(refusal) => Err(refusal),
     }
 }
 
-fn ended<S: FarStore>(
+/// Carries a job. One that is refused is gone.
+pub fn carried<S: FarStore>(alloc: Global, store: &S, job: Job<S>) -> Result<Job<S>, Refusal>
+    requires job_here { IsJobAt S.is_of (S.name store.now) job }
+    ensures { IfOk result (IsJobAt S.is_of (S.name store.now)) }
+{
+    job.carry(alloc, store, &mut Meter::new()).map_err(why)
+}
+
+// Why a job was refused.
+fn why<J: Drop>(refused: (Refusal, J)) -> Refusal {
+    refused.0
+}
+
+/// Ends a job that was carried.
+pub fn ended<S: FarStore>(
     frame: &mut Frame<S>,
     store: &S,
     job: &Job<S>,
@@ -265,6 +284,7 @@ fn ended<S: FarStore>(
     match end {
         End::Commit => frame.commit(store, job),
         End::Install => frame.install(store, job),
+        End::Merge => frame.merge(store, job),
         End::CommitWritten(place, number) => commit_written(frame, store, job, place, number),
     }
 }

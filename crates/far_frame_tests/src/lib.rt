@@ -1,6 +1,7 @@
 #![tactic(auto)]
 //! Tests of the table: steps that are repeated after memory was refused, objects that go away and come back, and random runs
-//! against plain lists. What a script shows stands in examples/.
+//! against plain lists. What a script shows stands in examples/. What owns much is dropped by a call of `drop`: the proof of a
+//! function that drops a table itself is long.
 
 #[cfg(test)]
 mod answers;
@@ -15,9 +16,13 @@ mod random_run;
 #[cfg(test)]
 mod random_steps;
 #[cfg(test)]
+mod recounts;
+#[cfg(test)]
 mod repeating;
 #[cfg(test)]
 mod script;
+#[cfg(test)]
+mod two_tables;
 #[cfg(test)]
 mod values;
 #[cfg(test)]

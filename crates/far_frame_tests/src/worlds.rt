@@ -1,5 +1,7 @@
 //! Lendings, jobs and offloaded builds as steps of a world, over stores that fail or are full. Scripts of the shell show how a world goes
 //! on with another store.
+ghost use Rattle.std.specs.Prelude.{◌<◌};
+
 use crate::answers::is_answer;
 use crate::opening::{agent, world};
 use crate::script::answered;
@@ -13,7 +15,7 @@ use std::test::Fail;
 
 /// A step on a table of a column of numbers in row groups of two, with an aggregate of them.
 #[derive(Clone, Copy)]
-enum Call {
+pub enum Call {
     Watch,
     Insert(i64),
     Ask(u32),
@@ -24,6 +26,8 @@ enum Call {
     Evac(u32),
     Fetch(u32),
     Carry(u64),
+    /// Carries a job, and once more if the store failed.
+    CarryAtLast(u64),
     Commit(u64),
     Install(u64),
     Merge(u64),
@@ -31,11 +35,13 @@ enum Call {
     Lend(u32, u32),
     /// What to fetch next of column 0.
     Prefetch,
+    /// Looks whether so many faults were met so far.
+    Faults(u64),
 }
 
 /// The reply that is due.
 #[derive(Clone, Copy)]
-enum Due {
+pub enum Due {
     Done,
     Aggregate(u32),
     Place(u32),
@@ -79,6 +85,39 @@ static FIRST_GET: [(Call, Due); 9] = [
     (Call::Carry(1), Due::Done),
     (Call::Install(1), Due::Done),
     (Call::Insert(8), Due::Place(3)),
+];
+
+/// Each of three row groups goes away and comes back, while one put or get fails.
+static ALL_MOVED: [(Call, Due); 29] = [
+    (Call::Insert(8), Due::Place(3)),
+    (Call::Insert(9), Due::Place(4)),
+    (Call::Insert(10), Due::Place(5)),
+    (Call::Evac(0), Due::Job(0)),
+    (Call::CarryAtLast(0), Due::Done),
+    (Call::Commit(0), Due::Done),
+    (Call::Ask(0), Due::Total(6, 45)),
+    (Call::Evac(1), Due::Job(1)),
+    (Call::CarryAtLast(1), Due::Done),
+    (Call::Commit(1), Due::Done),
+    (Call::Ask(0), Due::Total(6, 45)),
+    (Call::Evac(2), Due::Job(2)),
+    (Call::CarryAtLast(2), Due::Done),
+    (Call::Commit(2), Due::Done),
+    (Call::Ask(0), Due::Total(6, 45)),
+    (Call::Fetch(0), Due::Job(3)),
+    (Call::CarryAtLast(3), Due::Done),
+    (Call::Install(3), Due::Done),
+    (Call::Ask(0), Due::Total(6, 45)),
+    (Call::Fetch(1), Due::Job(4)),
+    (Call::CarryAtLast(4), Due::Done),
+    (Call::Install(4), Due::Done),
+    (Call::Ask(0), Due::Total(6, 45)),
+    (Call::Fetch(2), Due::Job(5)),
+    (Call::CarryAtLast(5), Due::Done),
+    (Call::Install(5), Due::Done),
+    (Call::Ask(0), Due::Total(6, 45)),
+    (Call::Lend(0, 6), Due::Lent(&[5, 6, 7, 8, 9, 10])),
+    (Call::Faults(1), Due::Done),
 ];
 
 /// A store of one content: the second evacuation is refused, and its object stays.
@@ -272,19 +311,45 @@ fn is_reply(reply: &Reply, due: Due) -> bool {
     }
 }
 
-/// Whether a step has the reply that is due. None of these tables meets more faults than a few.
+/// Whether a job is carried with the reply that is due, the second time if the store failed.
+fn is_carried_at_last<S: FarStore>(world: &mut World<S>, job: u64, due: Due) -> bool
+    requires few { world.old.faults < 9 }
+{
+    match world.serve(Step::Carry(job)) {
+        Reply::Refused(Refusal::FarFault) => is_reply(&world.serve(Step::Carry(job)), due),
+        reply => is_reply(&reply, due),
+    }
+}
+
+/// Whether a step has the reply that is due.
+fn is_step_served<S: FarStore>(
+    alloc: Global,
+    world: &mut World<S>,
+    call: Call,
+    due: Due,
+) -> Result<bool, Refusal>
+    requires few { world.old.faults < 9 }
+{
+    match step(alloc, call) {
+        Ok(step) => Ok(is_reply(&world.serve(step), due)),
+        Err(refusal) => Err(refusal),
+    }
+}
+
+/// Whether a call has the reply that is due. None of these tables meets more faults than a few.
 fn is_served<S: FarStore>(
     alloc: Global,
     world: &mut World<S>,
     call: Call,
     due: Due,
 ) -> Result<bool, Refusal> {
-    if world.faults() > 9 {
+    if world.faults() >= 9 {
         return Err(Refusal::FarFault);
     }
-    match step(alloc, call) {
-        Ok(step) => Ok(is_reply(&world.serve(step), due)),
-        Err(refusal) => Err(refusal),
+    match call {
+        Call::CarryAtLast(job) => Ok(is_carried_at_last(world, job, due)),
+        Call::Faults(count) => Ok(world.faults() == count),
+        call => is_step_served(alloc, world, call, due),
     }
 }
 
@@ -305,7 +370,7 @@ fn first_other<S: FarStore>(
 }
 
 /// The same, once the table has its rows.
-fn first_other_then<S: FarStore>(
+pub fn first_other_then<S: FarStore>(
     alloc: Global,
     world: &mut World<S>,
     calls: &[(Call, Due)],
@@ -316,7 +381,8 @@ fn first_other_then<S: FarStore>(
     }
 }
 
-const LIMITS: Limits = Limits {
+/// Room for all objects.
+pub const LIMITS: Limits = Limits {
     group: 2,
     places: 100,
     edits: 100,
@@ -333,7 +399,11 @@ fn first_other_over<S: FarStore>(
     calls: &[(Call, Due)],
 ) -> Result<Option<usize>, Refusal> {
     match world(alloc, &[Kind::Int], LIMITS, store) {
-        Ok(mut world) => first_other_then(alloc, &mut world, calls),
+        Ok(mut world) => {
+            let other = first_other_then(alloc, &mut world, calls);
+            drop(world);
+            other
+        }
         Err(refusal) => Err(refusal),
     }
 }
@@ -358,6 +428,37 @@ fn play<R: Wait + Sync + Drop + Copy>(
         }
         Err(refusal) => Err(refusal),
     }
+}
+
+/// One put of three fails, or one get.
+static FAULTS: [Plan; 6] = [
+    (16, 1, 0),
+    (16, 2, 0),
+    (16, 3, 0),
+    (16, 0, 1),
+    (16, 0, 2),
+    (16, 0, 3),
+];
+
+/// The same over the store of each plan, up to the first that shows another reply.
+fn play_each<R: Wait + Sync + Drop + Copy>(
+    rt: R,
+    alloc: Global,
+    plans: &[Plan],
+    calls: &[(Call, Due)],
+) -> Result<Option<usize>, Refusal> {
+    for plan in plans {
+        match play(rt, alloc, *plan, calls) {
+            Ok(None) => {}
+            wrong => return wrong,
+        }
+    }
+    Ok(None)
+}
+
+#[test]
+fn whichever_put_or_get_fails_the_answers_stay(rt: HostRuntime) -> Result<(), Fail> {
+    answered(play_each(&rt, rt.alloc(), &FAULTS, &ALL_MOVED))
 }
 
 #[test]
