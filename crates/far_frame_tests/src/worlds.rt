@@ -216,7 +216,6 @@ static UNCARRIED: [(Call, Due); 10] = [
     (Call::Offload(2), Due::Refused(Refusal::OutOfRange)),
 ];
 
-/// The object of the first row group is away.
 const ABSENT: Refusal = Refusal::Absent {
     column: 0,
     group: 0,
@@ -321,7 +320,6 @@ fn is_carried_at_last<S: FarStore>(world: &mut World<S>, job: u64, due: Due) -> 
     }
 }
 
-/// Whether a step has the reply that is due.
 fn is_step_served<S: FarStore>(
     alloc: Global,
     world: &mut World<S>,
@@ -381,7 +379,6 @@ pub fn first_other_then<S: FarStore>(
     }
 }
 
-/// Room for all objects.
 pub const LIMITS: Limits = Limits {
     group: 2,
     places: 100,
