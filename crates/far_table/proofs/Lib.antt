@@ -9,7 +9,6 @@ mod Opened
 mod Told
 mod Widths
 mod Groups
-mod LentColumns
 mod Needed
 mod Served
 mod Watched
