@@ -9,6 +9,7 @@ mod Opened
 mod Told
 mod Widths
 mod Groups
+mod LentColumns
 mod Needed
 mod Served
 mod Watched

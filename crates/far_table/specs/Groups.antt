@@ -1,8 +1,10 @@
 -- A row group of rows over objects, as it is lent to aggregates.
-use Rattle.std.specs.Prelude.{ℕ, Bool, List, is_none}
+use Rattle.std.specs.Prelude.{◌≡◌, ℕ, Bool, true, List, length, Option, None, Some, is_none, option_map, slice_get, slice_index_or, IsSome, IfSome}
 use Rattle.far_types.specs.Table.{Place, in_group}
-use Rattle.far_rows.specs.Rows.{Rows}
+use Rattle.far_rows.specs.declared.lent_column.LentColumn.{LentColumn}
+use Rattle.far_rows.specs.Rows.{Rows, cells_of}
 use Rattle.far_rows.specs.Places.{places_in}
+use Rattle.far_rows.specs.Lending.{IsLent, cells_lent}
 use Rattle.far_rows.specs.Jobs.{evac_refusal}
 
 -- rows, and the number of one of their row groups
@@ -18,3 +20,16 @@ module _ {K : Type 0} where
   -- whether the object of one of its columns is there and local
   abbrev pub has_column : GroupRows K → ℕ → Bool
   has_column g column = is_none (evac_refusal g.rows column g.group)
+
+  module _ (content : K → List ℕ) (g : GroupRows K) where
+    -- this is lent of a column: its cells in the row group, wherever its object is there and local
+    pub record IsLentOf (column : ℕ) (found : Option LentColumn) : Type 0 where
+      pub there : has_column g column ≡ true → IsSome found
+      pub form : IfSome found IsLent
+      pub cells : IfSome found (λ lent. option_map (in_group g.rows.size g.group) (slice_get (cells_of content g.rows) column) ≡ Some (cells_lent lent))
+
+    -- what was lent of the columns, and the flags of the places
+    pub record AreLent (columns : List (Option LentColumn)) (flags : List Bool) : Type 0 where
+      pub count : length columns ≡ 16
+      pub lent : (column : ℕ) → IsLentOf column (slice_index_or columns column None)
+      pub alive : flags ≡ in_group g.rows.size g.group g.rows.alive

@@ -1,5 +1,6 @@
 // The columns of a row group, lent to aggregates.
-ghost use Rattle.std.specs.Prelude.{◌≡◌};
+ghost use Rattle.std.specs.Prelude.{◌≡◌, ℕ, None, length, slice_index_or};
+ghost use Rattle.far_table.specs.Groups.{IsLentOf};
 
 use far_aggregates::LendGroup;
 use far_offload::Column;
@@ -7,29 +8,38 @@ use far_rows::{LentColumn, Rows};
 use far_store::FarTickets;
 use std::marker::Model;
 
-/// A row group of a table: a column is looked up when it is asked for and read where it lies, and one whose object is away is
-/// not at hand. So to lend a row group costs nothing: an edit that looks at no other row pays for none of its columns. Contracts
-/// see the rows and the number of the row group.
+/// A row group of a table: its columns are read where they lie, and one whose object is away is not at hand. Contracts see the
+/// rows and the number of the row group. A table has at most 16 columns.
 #[derive(Drop)]
 pub struct RowGroup<'a, S: FarTickets> {
+    // Contracts alone look at the rows and the number: what is lent was looked up when the row group was made.
     rows: &'a Rows<S>,
     group: u32,
+    columns: [Option<LentColumn<'a>>; 16],
+    alive: &'a [bool],
 }
 
 impl<'a, S: FarTickets> Model for RowGroup<'a, S> {
-    ghost use Rattle.far_table.specs.Groups.{GroupRows};
+    ghost use Rattle.far_table.specs.Groups.{GroupRows, AreLent};
 
     ghost Value = { GroupRows S.Ticket };
 
     ghost view = { λ g. record { rows = g.rows.now; group = g.group } };
+
+    ghost invariant = { λ g. AreLent S.content record { rows = g.rows.now; group = g.group } g.columns g.alive.now };
 }
 
 impl<'a, S: FarTickets> RowGroup<'a, S> {
-    /// The row group of a number. Takes no memory.
+    /// The row group of a number. All its columns are looked at once, here. Takes no memory.
     pub(crate) fn new(rows: &'a Rows<S>, group: u32) -> RowGroup<'a, S>
         ensures { result ≡ record { rows = rows.now; group = group } }
     {
-        RowGroup { rows, group }
+        RowGroup {
+            rows,
+            group,
+            columns: columns_of(rows, group),
+            alive: rows.flags(group),
+        }
     }
 }
 
@@ -41,14 +51,28 @@ impl<'a, S: FarTickets> LendGroup for RowGroup<'a, S> {
     ghost has = { has_column };
 
     fn column(&self, number: u32) -> Option<Column<'_>> {
-        match self.rows.group_column(number as usize, self.group) {
-            Ok(LentColumn::Numbers(numbers)) => Some(Column::of_numbers(number, numbers)),
-            Ok(LentColumn::Form(form)) => Some(Column::of_form(number, form)),
-            Err(_) => None,
+        match self.columns.get(number as usize)? {
+            Some(LentColumn::Numbers(numbers)) => Some(Column::of_numbers(number, numbers)),
+            Some(LentColumn::Form(form)) => Some(Column::of_form(number, form)),
+            None => None,
         }
     }
 
     fn alive(&self) -> &[bool] {
-        self.rows.flags(self.group)
+        self.alive
     }
+}
+
+// What is lent of each column of a row group; `None` of one whose object is away, and past the columns.
+fn columns_of<'a, S: FarTickets>(rows: &'a Rows<S>, group: u32) -> [Option<LentColumn<'a>>; 16]
+    ensures count { length result ≡ 16 }
+    ensures lent { (column : ℕ) → IsLentOf S.content record { rows = rows.now; group = group } column (slice_index_or result column None) }
+{
+    // It tells that there are at most 16 columns.
+    let _len = rows.len();
+    let mut columns = [None; 16];
+    for column in 0..rows.slots().len() {
+        columns[column] = rows.group_column(column, group).ok();
+    }
+    columns
 }

@@ -9,6 +9,6 @@ pub returns : goal.returns
 returns g c =
     let content = g.S.FarTickets.content in
     let rows = c.self.inside.rows.now in
-    c.flags.ensures
+    c.self.invariant.alive
     ∙ flags-lent (cells_of content rows) rows.alive rows.size c.self.inside.group
     ∙ ap (λ (lent : GroupRows g.row.S-Ticket.Denot). map (λ (place : Place). place.alive) (places_here content lent)) c.self.view_is
