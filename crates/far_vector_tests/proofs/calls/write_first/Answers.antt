@@ -7,7 +7,7 @@ use Rattle.far_vector.specs.Vector.{Vector, IsShaped, IsVector, elements}
 use Rattle.far_vector.specs.Refusing.{write_part_refusal}
 use Rattle.far_vector.proofs.Checked.{within-written}
 use Rattle.far_vector.proofs.VectorLaws.{length-elements}
-use Rattle.far_vector_tests.proofs.writing.overwrite.Goals as goal
+use Rattle.far_vector_tests.proofs.calls.write_first.Goals as goal
 
 -- a part that may be written is as long as it should be
 part-long : {X K : Type 0} (lists : ℕ → Option (List X)) (v : Vector X) (from to : ℕ) (m : Movement X K) → write_part_refusal m v from to ≡ None → from < to → IsShaped v → IsVector lists v → (part : List X) → part ≡ slice_range (elements lists v) from to → length part ≡ to - from
