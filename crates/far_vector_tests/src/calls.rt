@@ -62,7 +62,7 @@ fn reply<S: FarStore>(
     }
 }
 
-/// Pushes an element; there are few objects.
+/// Pushes an element, once more where the first try finds no memory; there are few objects.
 pub fn push<S: FarTickets>(
     vector: &mut FarVector<i64>,
     objects: &mut Objects<i64, S>,
@@ -76,7 +76,10 @@ pub fn push<S: FarTickets>(
     if objects.count() >= 8 {
         return Err(WRONG);
     }
-    vector.push(objects, x)
+    match vector.push(objects, x) {
+        Err(Refusal::NoMemory) => vector.push(objects, x),
+        reply => reply,
+    }
 }
 
 /// Writes over the first element of a part in place.
