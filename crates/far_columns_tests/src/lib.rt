@@ -9,6 +9,8 @@ mod cell;
 #[cfg(test)]
 mod columns;
 #[cfg(test)]
+mod coming_back;
+#[cfg(test)]
 mod lending;
 #[cfg(test)]
 mod moving;

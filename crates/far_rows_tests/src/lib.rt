@@ -2,9 +2,9 @@
 //! What no clause of far_rows says: that calls are served, and that worked examples come out as they should.
 
 #[cfg(test)]
-mod cases;
-#[cfg(test)]
 mod coldest;
+#[cfg(test)]
+mod filling;
 #[cfg(test)]
 mod fixture;
 #[cfg(test)]

@@ -4,8 +4,9 @@ use crate::moving::{
     TEXTS_AWAY, TEXTS_BACK, WHILE_ALL_AWAY, WHILE_NUMBERS_AWAY, WHILE_TEXTS_AWAY,
 };
 use crate::pushing::{HAS_THREE, THREE_ROWS};
-use crate::script::{CASE, Call, Case, Step};
+use crate::script::{CASE, Call, Case, Step, play};
 use far_types::Refusal;
+use std::test::Fail;
 
 /// What is away is put into the other store, or there is no room for it.
 const PUT: &[Step] = &[Step::Does(Call::PutAgain)];
@@ -42,7 +43,7 @@ const EACH_BACK: &[Step] = &[
     HAS_THREE,
 ];
 
-pub const CASES: &[Case] = &[
+static CASES: [Case; 10] = [
     Case {
         name: "texts that are away move",
         parts: &[THREE_ROWS, TEXTS_AWAY],
@@ -109,3 +110,8 @@ pub const CASES: &[Case] = &[
         ..CASE
     },
 ];
+
+#[test]
+fn tables_go_into_another_store(rt: HostRuntime) -> Result<(), Fail> {
+    play(&rt, rt.alloc(), &CASES)
+}

@@ -1,8 +1,7 @@
 // Two columns of texts at once: worked examples.
-use super::moves::{away, moves};
 use crate::cell::Cell;
 use crate::cell::Cell::{Missing, Text};
-use crate::script::Call::{Away, Back, Clear, Find, FindAll, Len, Lend, Objects, PushAll, Set};
+use crate::script::Call::{Away, Find, Len, MayPushAll, Objects, PushAll, Set};
 use crate::script::{Case, Layout, Script};
 use far_types::Refusal;
 
@@ -101,7 +100,7 @@ const ONE_WRITE: Layout = Layout {
 /// Row groups of three places.
 const THREES: Layout = Layout { group: 3, ..FOURS };
 
-pub const CASES: &[Case] = &[
+pub static CASES: [Case; 16] = [
     // Each text is at its place, in its own column.
     Case {
         name: "each column gets its own text",
@@ -143,10 +142,12 @@ pub const CASES: &[Case] = &[
         layout: PAIRS,
         count: 0,
         script: Script::Lines(&[
+            (MayPushAll(PEAR, RED), Ok(())),
             (Objects(0), Ok(())),
             (Len(0, 0), Ok(())),
             (Len(1, 0), Ok(())),
             (PushAll(PEAR, RED), Ok(())),
+            (MayPushAll(FIG, EMPTY), Ok(())),
             (Len(0, 1), Ok(())),
             (Len(1, 1), Ok(())),
             (Find(0, 0, PEAR), Ok(())),
@@ -161,11 +162,11 @@ pub const CASES: &[Case] = &[
         count: 0,
         script: Script::Lines(&[
             (PushAll(LONG, LONG), Ok(())),
-            (PushAll(Text("a", 0), LONG), CHUNK_FULL),
-            (PushAll(Text("a", 0), Text("a", 0)), REGION_FULL),
+            (MayPushAll(Text("a", 0), LONG), CHUNK_FULL),
+            (MayPushAll(Text("a", 0), Text("a", 0)), REGION_FULL),
             (Away(1, 0), Ok(())),
-            (PushAll(Text("a", 0), Text("a", 4097)), TOO_LONG),
-            (PushAll(Text("a", 0), LONG), SECOND_AWAY),
+            (MayPushAll(Text("a", 0), Text("a", 4097)), TOO_LONG),
+            (MayPushAll(Text("a", 0), LONG), SECOND_AWAY),
         ]),
     },
     Case {
@@ -174,7 +175,7 @@ pub const CASES: &[Case] = &[
         count: 0,
         script: Script::Lines(&[
             (PushAll(LONG, LONG), Ok(())),
-            (PushAll(Text("a", 0), Text("a", 0)), USED_UP),
+            (MayPushAll(Text("a", 0), Text("a", 0)), USED_UP),
         ]),
     },
     Case {
@@ -183,7 +184,7 @@ pub const CASES: &[Case] = &[
         count: 0,
         script: Script::Lines(&[
             (PushAll(LONG, LONG), Ok(())),
-            (PushAll(Text("a", 0), Text("a", 0)), Ok(())),
+            (MayPushAll(Text("a", 0), Text("a", 0)), Ok(())),
         ]),
     },
     // Row groups that begin, before an object of those before them is away, and while one is.
@@ -193,10 +194,10 @@ pub const CASES: &[Case] = &[
         count: 0,
         script: Script::Lines(&[
             (PushAll(LONG, LONG), Ok(())),
-            (PushAll(LONG, LONG), REGION_FULL),
+            (MayPushAll(LONG, LONG), REGION_FULL),
             (Away(1, 0), Ok(())),
-            (PushAll(Text("a", 0), Text("a", 4097)), TOO_LONG),
-            (PushAll(Text("a", 0), Text("a", 55)), CHUNK_FULL),
+            (MayPushAll(Text("a", 0), Text("a", 4097)), TOO_LONG),
+            (MayPushAll(Text("a", 0), Text("a", 55)), CHUNK_FULL),
         ]),
     },
     Case {
@@ -205,15 +206,10 @@ pub const CASES: &[Case] = &[
         count: 0,
         script: Script::Lines(&[
             (PushAll(LONG, LONG), Ok(())),
+            (MayPushAll(LONG, LONG), Ok(())),
             (Away(1, 0), Ok(())),
-            (PushAll(LONG, LONG), Ok(())),
+            (MayPushAll(LONG, LONG), Ok(())),
         ]),
-    },
-    Case {
-        name: "texts that begin row groups find room behind the others",
-        layout: ONES_WITH_ROOM,
-        count: 0,
-        script: Script::Lines(&[(PushAll(LONG, LONG), Ok(())), (PushAll(LONG, LONG), Ok(()))]),
     },
     Case {
         name: "an object that is away refuses all",
@@ -328,7 +324,7 @@ pub const CASES: &[Case] = &[
         name: "texts that went away and came back read as before",
         layout: THREES,
         count: 0,
-        script: Script::Lines(moves![
+        script: Script::Moves(&[
             [PEAR, Missing],
             [Missing, Missing],
             [EMPTY, Missing],
