@@ -1,5 +1,5 @@
 -- What follows where a call leaves the rows as they are, whatever its outcome.
-use Rattle.std.proofs.Common.{◌≡◌, ℕ, List, Result, OnOk, IfOk, IfErr, sym, subst}
+use Rattle.std.proofs.Common.{◌≡◌, ℕ, List, Result, IfOk, IfErr, sym, subst}
 use Rattle.std.specs.declared.result.Result.TheVariants.{Ok, Err}
 use Rattle.far_rows.specs.Rows.{Rows}
 use Rattle.far_rows.specs.Jobs.{AreAt}
@@ -7,10 +7,6 @@ use Rattle.far_rows.specs.Jobs.{AreAt}
 pub by-value : {A E R : Type 0} {P : A → Type 0} {Q : E → Type 0} (r : Result A E) → IfOk r P → IfErr r Q → ((x : A) → P x → R) → ((e : E) → Q e → R) → R
 by-value (Ok x) p q ok err = ok x p
 by-value (Err e) p q ok err = err e q
-
-pub by-outcome : {A E P R : Type 0} {Q : E → Type 0} (r : Result A E) → OnOk r P → IfErr r Q → (P → R) → ((e : E) → Q e → R) → R
-by-outcome (Ok x) p q ok err = ok p
-by-outcome (Err e) p q ok err = err e q
 
 module _ {K : Type 0} (is_of : K → List ℕ → Type 0) where
   pub kept-at : (old new : Rows K) → new ≡ old → (name : List ℕ) → AreAt is_of name old → AreAt is_of name new

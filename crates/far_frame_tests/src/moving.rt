@@ -1,152 +1,198 @@
 //! Objects of a table that go away and come back: worked examples.
-use crate::script::{Call, Reply, Step, answered, play};
-use far_types::{Fold, Name, Refusal};
+use crate::answers::Due;
+use crate::call::Value::{Int, Missing, Text};
+use crate::call::{Call, EXTREMA, TOTALS, TOTALS_BY_TEXT};
+use crate::opening::{PAIRS, SOUND};
+use crate::script::{Calls, Script, answered, play_all};
+use far_types::{Name, Refusal};
 use std::test::Fail;
 
-const DONE: Reply = Ok(None);
-
 /// The first row, of which each column is one object.
-const FIRST: Step = Step::Call(Call::Insert(Some(4), Some("pear")), Ok(Some(0)));
+const FIRST: (Call, Due<'static>) = (Call::Insert(&[Int(4), Text("pear")]), Due::Place(0));
 
-const NUMBERS_AWAY: Step = Step::Call(Call::Evacuate(0, 0), DONE);
-
-const TEXTS_AWAY: Step = Step::Call(Call::Evacuate(1, 0), DONE);
-
-const NO_NUMBERS: Refusal = Refusal::Absent {
+const NO_NUMBERS: Due<'static> = Due::Refused(Refusal::Absent {
     column: 0,
     group: 0,
-};
+});
 
-const NO_TEXTS: Refusal = Refusal::Absent {
+const NO_TEXTS: Due<'static> = Due::Refused(Refusal::Absent {
     column: 1,
     group: 0,
-};
+});
 
 /// Edits name the lowest column that is away, whichever they are of.
-static REFUSED: [Step; 12] = [
+const REFUSED: Calls = &[
     FIRST,
-    TEXTS_AWAY,
-    Step::Call(Call::SetNumber(0, Some(5)), Err(NO_TEXTS)),
-    Step::Call(Call::SetText(0, Some("plum")), Err(NO_TEXTS)),
-    Step::Call(Call::Remove(0), Err(NO_TEXTS)),
-    Step::Values(0, Err(NO_TEXTS)),
-    NUMBERS_AWAY,
-    Step::Call(Call::SetNumber(0, Some(5)), Err(NO_NUMBERS)),
-    Step::Call(Call::SetText(0, Some("plum")), Err(NO_NUMBERS)),
-    Step::Call(Call::Insert(Some(1), None), Err(NO_NUMBERS)),
-    Step::Call(Call::Evacuate(0, 0), Err(NO_NUMBERS)),
-    Step::Values(0, Err(NO_NUMBERS)),
+    (Call::Evac(1, 0), Due::Job(0)),
+    (Call::Carry(0), Due::Done),
+    (Call::Commit(0), Due::Done),
+    (Call::Set(0, 0, Int(5)), NO_TEXTS),
+    (Call::Set(0, 1, Text("plum")), NO_TEXTS),
+    (Call::Remove(0), NO_TEXTS),
+    (Call::Row(0), NO_TEXTS),
+    (Call::Evac(0, 0), Due::Job(1)),
+    (Call::Carry(1), Due::Done),
+    (Call::Commit(1), Due::Done),
+    (Call::Set(0, 0, Int(5)), NO_NUMBERS),
+    (Call::Set(0, 1, Text("plum")), NO_NUMBERS),
+    (Call::Insert(&[Int(1), Missing]), NO_NUMBERS),
+    (Call::Evac(0, 0), NO_NUMBERS),
+    (Call::Row(0), NO_NUMBERS),
 ];
 
 /// A new row group has objects of its own.
-static NEXT_GROUP: [Step; 6] = [
+const NEXT_GROUP: Calls = &[
     FIRST,
-    Step::Call(Call::Insert(None, None), Ok(Some(1))),
-    Step::Call(Call::Insert(None, None), Ok(Some(2))),
-    NUMBERS_AWAY,
-    Step::Call(Call::Insert(Some(1), None), Ok(Some(3))),
-    Step::Values(3, Ok((Some(1), None))),
+    (Call::Insert(&[Missing, Missing]), Due::Place(1)),
+    (Call::Insert(&[Missing, Missing]), Due::Place(2)),
+    (Call::Evac(0, 0), Due::Job(0)),
+    (Call::Carry(0), Due::Done),
+    (Call::Commit(0), Due::Done),
+    (Call::Insert(&[Int(1), Missing]), Due::Place(3)),
+    (Call::Row(3), Due::Row(&[Int(1), Missing])),
 ];
 
-static ANSWERED: [Step; 7] = [
-    Step::Call(Call::Watch(Fold::Totals, Some(1)), Ok(Some(0))),
-    Step::Call(Call::Watch(Fold::Extrema, None), Ok(Some(1))),
+const ANSWERED: Calls = &[
+    (Call::Watch(TOTALS_BY_TEXT), Due::Aggregate(0)),
+    (Call::Watch(EXTREMA), Due::Aggregate(1)),
     FIRST,
-    NUMBERS_AWAY,
-    TEXTS_AWAY,
-    Step::Answer(0, Ok(&[(Some("pear"), 1, 4)])),
-    Step::Answer(1, Ok(&[(None, 4, 4)])),
+    (Call::Evac(0, 0), Due::Job(0)),
+    (Call::Carry(0), Due::Done),
+    (Call::Commit(0), Due::Done),
+    (Call::Evac(1, 0), Due::Job(1)),
+    (Call::Carry(1), Due::Done),
+    (Call::Commit(1), Due::Done),
+    (Call::Ask(0), Due::Lines(&[(Some(Text("pear")), 1, 4)])),
+    (Call::Ask(1), Due::Lines(&[(None, 4, 4)])),
 ];
 
-static SCANNED: [Step; 9] = [
+const SCANNED: Calls = &[
     FIRST,
-    Step::Call(Call::Watch(Fold::Totals, Some(1)), Ok(Some(0))),
-    Step::Call(Call::Watch(Fold::Totals, None), Ok(Some(1))),
-    TEXTS_AWAY,
-    Step::Call(Call::Scan(0, 0), Err(NO_TEXTS)),
-    Step::Call(Call::Scan(1, 0), DONE),
-    Step::Answer(1, Ok(&[(None, 1, 4)])),
-    NUMBERS_AWAY,
-    Step::Call(Call::Scan(0, 0), Err(NO_NUMBERS)),
+    (Call::Watch(TOTALS_BY_TEXT), Due::Aggregate(0)),
+    (Call::Watch(TOTALS), Due::Aggregate(1)),
+    (Call::Evac(1, 0), Due::Job(0)),
+    (Call::Carry(0), Due::Done),
+    (Call::Commit(0), Due::Done),
+    (Call::Scan(0, 0), NO_TEXTS),
+    (Call::Scan(1, 0), Due::Done),
+    (Call::Ask(1), Due::Lines(&[(None, 1, 4)])),
+    (Call::Evac(0, 0), Due::Job(1)),
+    (Call::Carry(1), Due::Done),
+    (Call::Commit(1), Due::Done),
+    (Call::Scan(0, 0), NO_NUMBERS),
 ];
 
-static BACK: [Step; 8] = [
-    Step::Call(Call::Watch(Fold::Totals, None), Ok(Some(0))),
+const BACK: Calls = &[
+    (Call::Watch(TOTALS), Due::Aggregate(0)),
     FIRST,
-    NUMBERS_AWAY,
-    Step::Call(Call::FetchBack(0, 0), DONE),
-    Step::Values(0, Ok((Some(4), Some("pear")))),
-    Step::Call(Call::SetNumber(0, Some(9)), DONE),
-    Step::Values(0, Ok((Some(9), Some("pear")))),
-    Step::Answer(0, Ok(&[(None, 1, 9)])),
+    (Call::Evac(0, 0), Due::Job(0)),
+    (Call::Carry(0), Due::Done),
+    (Call::Commit(0), Due::Done),
+    (Call::Fetch(0, 0), Due::Job(1)),
+    (Call::Carry(1), Due::Done),
+    (Call::Install(1), Due::Done),
+    (Call::Row(0), Due::Row(&[Int(4), Text("pear")])),
+    (Call::Set(0, 0, Int(9)), Due::Done),
+    (Call::Row(0), Due::Row(&[Int(9), Text("pear")])),
+    (Call::Ask(0), Due::Lines(&[(None, 1, 9)])),
 ];
 
-static PINNED: [Step; 6] = [
+const PINNED: Calls = &[
     FIRST,
-    Step::Call(Call::Pin(0, 0), DONE),
-    Step::Call(Call::Evacuate(0, 0), Err(Refusal::Pinned)),
-    Step::Call(Call::Unpin(0, 0), DONE),
-    Step::Call(Call::Unpin(0, 0), Err(Refusal::NotPinned)),
-    NUMBERS_AWAY,
+    (Call::Pin(0, 0), Due::Done),
+    (Call::Evac(0, 0), Due::Job(0)),
+    (Call::Carry(0), Due::Done),
+    (Call::Commit(0), Due::Refused(Refusal::Pinned)),
+    (Call::Unpin(0, 0), Due::Done),
+    (Call::Unpin(0, 0), Due::Refused(Refusal::NotPinned)),
+    (Call::Evac(0, 0), Due::Job(1)),
+    (Call::Carry(1), Due::Done),
+    (Call::Commit(1), Due::Done),
+    (Call::MayEvac(0, 0), NO_NUMBERS),
 ];
 
-static WRITTEN: [Step; 5] = [
+const WRITTEN: Calls = &[
     FIRST,
-    Step::Call(Call::EvacuateWritten(0, Some(5)), Err(Refusal::StaleJob)),
-    Step::Values(0, Ok((Some(5), Some("pear")))),
-    Step::Call(Call::FetchBack(0, 0), Err(Refusal::StaleJob)),
-    NUMBERS_AWAY,
+    (Call::Evac(0, 0), Due::Job(0)),
+    (Call::Carry(0), Due::Done),
+    (Call::Set(0, 0, Int(5)), Due::Done),
+    (Call::Commit(0), Due::Refused(Refusal::StaleJob)),
+    (Call::Row(0), Due::Row(&[Int(5), Text("pear")])),
+    (Call::Fetch(0, 0), Due::Refused(Refusal::StaleJob)),
+    (Call::Evac(0, 0), Due::Job(1)),
+    (Call::Carry(1), Due::Done),
+    (Call::Commit(1), Due::Done),
+    (Call::MayEvac(0, 0), NO_NUMBERS),
 ];
 
 /// Each kind has one object: the other goes first where one is pinned, and none where both are.
-static COLDEST: [Step; 6] = [
-    Step::Coldest(None),
+const COLDEST: Calls = &[
+    (Call::Coldest, Due::Coldest(None)),
     FIRST,
-    Step::Call(Call::Pin(1, 0), DONE),
-    Step::Coldest(Some(Name {
-        column: 0,
-        group: 0,
-    })),
-    Step::Call(Call::Pin(0, 0), DONE),
-    Step::Coldest(None),
+    (Call::Pin(1, 0), Due::Done),
+    (
+        Call::Coldest,
+        Due::Coldest(Some(Name {
+            column: 0,
+            group: 0,
+        })),
+    ),
+    (Call::Pin(0, 0), Due::Done),
+    (Call::Coldest, Due::Coldest(None)),
+];
+
+static SCRIPTS: [Script; 8] = [
+    Script {
+        name: "a row that is away refuses edits of every column",
+        opening: PAIRS,
+        plan: SOUND,
+        calls: REFUSED,
+    },
+    Script {
+        name: "a new row group is begun while the last is away",
+        opening: PAIRS,
+        plan: SOUND,
+        calls: NEXT_GROUP,
+    },
+    Script {
+        name: "an aggregate answers while all its rows are away",
+        opening: PAIRS,
+        plan: SOUND,
+        calls: ANSWERED,
+    },
+    Script {
+        name: "a scan wants only the columns that it needs",
+        opening: PAIRS,
+        plan: SOUND,
+        calls: SCANNED,
+    },
+    Script {
+        name: "an object that came back is set again",
+        opening: PAIRS,
+        plan: SOUND,
+        calls: BACK,
+    },
+    Script {
+        name: "a pinned object does not go away",
+        opening: PAIRS,
+        plan: SOUND,
+        calls: PINNED,
+    },
+    Script {
+        name: "a job is stale once its object was written",
+        opening: PAIRS,
+        plan: SOUND,
+        calls: WRITTEN,
+    },
+    Script {
+        name: "the coldest object has no pin",
+        opening: PAIRS,
+        plan: SOUND,
+        calls: COLDEST,
+    },
 ];
 
 #[test]
-fn a_row_that_is_away_refuses_edits_of_every_column(rt: HostRuntime) -> Result<(), Fail> {
-    answered(play(&rt, rt.alloc(), &REFUSED))
-}
-
-#[test]
-fn a_new_row_group_is_begun_while_the_last_is_away(rt: HostRuntime) -> Result<(), Fail> {
-    answered(play(&rt, rt.alloc(), &NEXT_GROUP))
-}
-
-#[test]
-fn an_aggregate_answers_while_all_its_rows_are_away(rt: HostRuntime) -> Result<(), Fail> {
-    answered(play(&rt, rt.alloc(), &ANSWERED))
-}
-
-#[test]
-fn a_scan_wants_only_the_columns_that_it_needs(rt: HostRuntime) -> Result<(), Fail> {
-    answered(play(&rt, rt.alloc(), &SCANNED))
-}
-
-#[test]
-fn an_object_that_came_back_is_set_again(rt: HostRuntime) -> Result<(), Fail> {
-    answered(play(&rt, rt.alloc(), &BACK))
-}
-
-#[test]
-fn a_pinned_object_does_not_go_away(rt: HostRuntime) -> Result<(), Fail> {
-    answered(play(&rt, rt.alloc(), &PINNED))
-}
-
-#[test]
-fn a_job_is_stale_once_its_object_was_written(rt: HostRuntime) -> Result<(), Fail> {
-    answered(play(&rt, rt.alloc(), &WRITTEN))
-}
-
-#[test]
-fn the_coldest_object_has_no_pin(rt: HostRuntime) -> Result<(), Fail> {
-    answered(play(&rt, rt.alloc(), &COLDEST))
+fn objects_go_away_and_come_back(rt: HostRuntime) -> Result<(), Fail> {
+    answered(play_all(&rt, rt.alloc(), &SCRIPTS))
 }

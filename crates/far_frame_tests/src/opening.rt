@@ -1,23 +1,102 @@
-//! Tables without a row, and the stores under them.
+//! Tables by name, and the stores under them.
 ghost use Rattle.std.specs.Prelude.{ℕ, List, IfOk};
 ghost use Rattle.far_rows.specs.Jobs.{AreAt};
 
+use crate::answers::Due;
+use crate::call::{Call, TOTALS, Value};
 use far_frame::{Frame, World};
-use far_store::{AgentStore, FarStore, FarTickets};
+use far_store::{AgentStore, FarStore, FarTickets, FaultyStore};
 use far_types::{Kind, Limits, Refusal, Schema};
 use std::alloc::Global;
 use std::sync::Wait;
 
-/// A store of so many contents, at the second call where the first finds no memory.
-pub fn agent<R: Wait + Sync + Drop + Copy>(
+/// A table: its columns, its limits, and the calls that give it its first rows.
+#[derive(Clone, Copy)]
+pub struct Opening {
+    pub kinds: &'static [Kind],
+    pub limits: Limits,
+    pub rows: &'static [(Call, Due<'static>)],
+}
+
+/// Row groups of two, which lie in four segments of two each.
+pub const FOUR_SEGMENTS: Limits = Limits {
+    group: 2,
+    places: 100,
+    edits: 100,
+    int_segments: 4,
+    int_size: 4,
+    text_segments: 1,
+    text_size: 64,
+};
+
+/// A column of numbers in row groups of two, of which two are begun, with an aggregate of them.
+pub const NUMBERS: Opening = Opening {
+    kinds: &[Kind::Int],
+    limits: FOUR_SEGMENTS,
+    rows: &[
+        (Call::Watch(TOTALS), Due::Aggregate(0)),
+        (Call::Insert(&[Value::Int(5)]), Due::Place(0)),
+        (Call::Insert(&[Value::Int(6)]), Due::Place(1)),
+        (Call::Insert(&[Value::Int(7)]), Due::Place(2)),
+    ],
+};
+
+/// A column of numbers and one of texts in row groups of three, with room for all objects.
+pub const PAIRS: Opening = Opening {
+    kinds: &[Kind::Int, Kind::Text],
+    limits: Limits {
+        group: 3,
+        places: 20,
+        edits: 1_000_000,
+        int_segments: 1_024,
+        int_size: 3,
+        text_segments: 1_024,
+        text_size: 256,
+    },
+    rows: &[],
+};
+
+/// The same in row groups of two, which lie in few large segments.
+pub const SMALL_GROUPS: Opening = Opening {
+    kinds: &[Kind::Int, Kind::Text],
+    limits: Limits {
+        group: 2,
+        places: 1_000,
+        edits: 1_000,
+        int_segments: 64,
+        int_size: 4096,
+        text_segments: 64,
+        text_size: 65_536,
+    },
+    rows: &[],
+};
+
+/// A store: how many contents it takes, and which put and which get of it fail, counted from 1, or 0 for none.
+#[derive(Clone, Copy)]
+pub struct Plan {
+    pub capacity: u64,
+    pub failing_put: u64,
+    pub failing_get: u64,
+}
+
+/// A store that takes 16 contents and never fails.
+pub const SOUND: Plan = Plan {
+    capacity: 16,
+    failing_put: 0,
+    failing_get: 0,
+};
+
+/// The store of a plan, at the second call where the first finds no memory.
+pub fn store<R: Wait + Sync + Drop + Copy>(
     rt: R,
     alloc: Global,
-    capacity: u64,
-) -> Result<AgentStore<R>, Refusal> {
-    match AgentStore::new(rt, alloc, capacity) {
-        Err(Refusal::NoMemory) => AgentStore::new(rt, alloc, capacity),
+    plan: Plan,
+) -> Result<FaultyStore<AgentStore<R>>, Refusal> {
+    let agent = match AgentStore::new(rt, alloc, plan.capacity) {
+        Err(Refusal::NoMemory) => AgentStore::new(rt, alloc, plan.capacity),
         reply => reply,
-    }
+    }?;
+    Ok(FaultyStore::new(agent, plan.failing_put, plan.failing_get))
 }
 
 fn schema(alloc: Global, kinds: &[Kind]) -> Result<Schema, Refusal> {
@@ -27,8 +106,7 @@ fn schema(alloc: Global, kinds: &[Kind]) -> Result<Schema, Refusal> {
     }
 }
 
-/// A table of columns of these kinds.
-pub fn frame<S: FarTickets>(
+fn frame_at_once<S: FarTickets>(
     alloc: Global,
     kinds: &[Kind],
     limits: Limits,
@@ -39,6 +117,21 @@ pub fn frame<S: FarTickets>(
     match schema(alloc, kinds) {
         Ok(schema) => Frame::open(alloc, schema, limits, number),
         Err(refusal) => Err(refusal),
+    }
+}
+
+/// A table without a row, at the second call where the first finds no memory.
+pub fn frame<S: FarTickets>(
+    alloc: Global,
+    kinds: &[Kind],
+    limits: Limits,
+    number: u32,
+) -> Result<Frame<S>, Refusal>
+    ensures { IfOk result (λ frame. (name : List ℕ) → AreAt S.is_of name frame.rows) }
+{
+    match frame_at_once(alloc, kinds, limits, number) {
+        Err(Refusal::NoMemory) => frame_at_once(alloc, kinds, limits, number),
+        opened => opened,
     }
 }
 

@@ -1,198 +1,103 @@
 //! Aggregates that are computed from scratch, by several threads, while the store fails once.
-ghost use Rattle.far_rows.specs.Jobs.{AreAt};
-
-use crate::answers::is_answer;
-use crate::opening::{agent, world};
-use crate::script::answered;
-use crate::worlds::{Call, Due, LIMITS, first_other_then};
-use far_frame::{Frame, World};
-use far_store::{FarStore, FaultyStore, Meter};
-use far_types::{Answer, Kind, Refusal};
-use std::alloc::Global;
-use std::sync::Wait;
+use crate::answers::Due;
+use crate::call::Value::Int;
+use crate::call::{Call, TOTALS};
+use crate::opening::{FOUR_SEGMENTS, Opening, Plan, SOUND};
+use crate::script::{Calls, Script, answered, play_all};
+use far_types::{Kind, Refusal};
 use std::test::Fail;
-use std::thread::Threads;
 
-/// The table has four row groups then: one is local, the others are away.
-static AWAY: [(Call, Due); 13] = [
-    (Call::Insert(8), Due::Place(3)),
-    (Call::Insert(9), Due::Place(4)),
-    (Call::Insert(10), Due::Place(5)),
-    (Call::Insert(11), Due::Place(6)),
-    (Call::Evac(0), Due::Job(0)),
-    (Call::Carry(0), Due::Done),
-    (Call::Commit(0), Due::Done),
-    (Call::Evac(1), Due::Job(1)),
-    (Call::Carry(1), Due::Done),
-    (Call::Commit(1), Due::Done),
-    (Call::Evac(3), Due::Job(2)),
-    (Call::Carry(2), Due::Done),
-    (Call::Commit(2), Due::Done),
-];
+/// Four row groups: one is local, the others are away.
+const MOSTLY_AWAY: Opening = Opening {
+    kinds: &[Kind::Int],
+    limits: FOUR_SEGMENTS,
+    rows: &[
+        (Call::Watch(TOTALS), Due::Aggregate(0)),
+        (Call::Insert(&[Int(5)]), Due::Place(0)),
+        (Call::Insert(&[Int(6)]), Due::Place(1)),
+        (Call::Insert(&[Int(7)]), Due::Place(2)),
+        (Call::Insert(&[Int(8)]), Due::Place(3)),
+        (Call::Insert(&[Int(9)]), Due::Place(4)),
+        (Call::Insert(&[Int(10)]), Due::Place(5)),
+        (Call::Insert(&[Int(11)]), Due::Place(6)),
+        (Call::Evac(0, 0), Due::Job(0)),
+        (Call::Carry(0), Due::Done),
+        (Call::Commit(0), Due::Done),
+        (Call::Evac(0, 1), Due::Job(1)),
+        (Call::Carry(1), Due::Done),
+        (Call::Commit(1), Due::Done),
+        (Call::Evac(0, 3), Due::Job(2)),
+        (Call::Carry(2), Due::Done),
+        (Call::Commit(2), Due::Done),
+    ],
+};
 
-/// What a recount finds.
-#[derive(Clone, Copy)]
-enum Found {
-    /// The count and the sum of the rows, and no fault.
-    Total,
-    /// One fault.
-    Fault,
-    /// Another refusal, and no fault.
-    Refused(Refusal),
-}
+const FIRST_GET_FAILS: Plan = Plan {
+    capacity: 16,
+    failing_put: 0,
+    failing_get: 1,
+};
 
-/// Of which aggregate, by how many workers, and what is due.
-type Recount = (u32, u32, Found);
+/// The count and the sum of the rows.
+const TOTAL: Due<'static> = Due::Lines(&[(None, 7, 56)]);
 
-/// The first get of the store fails.
-static BY_ONE: [Recount; 2] = [(0, 1, Found::Fault), (0, 1, Found::Total)];
+const FAULT: Due<'static> = Due::Refused(Refusal::FarFault);
 
-static BY_THREE: [Recount; 2] = [(0, 3, Found::Fault), (0, 3, Found::Total)];
+const BY_ONE: Calls = &[(Call::Recount(0, 1), FAULT), (Call::Recount(0, 1), TOTAL)];
 
-static BY_64: [Recount; 2] = [(0, 64, Found::Fault), (0, 64, Found::Total)];
+const BY_THREE: Calls = &[(Call::Recount(0, 3), FAULT), (Call::Recount(0, 3), TOTAL)];
 
-static WORKERS: [Recount; 5] = [
-    (0, 0, Found::Refused(Refusal::OutOfRange)),
-    (0, 1, Found::Total),
-    (0, 3, Found::Total),
-    (0, 64, Found::Total),
-    (0, 65, Found::Refused(Refusal::OutOfRange)),
+const BY_64: Calls = &[(Call::Recount(0, 64), FAULT), (Call::Recount(0, 64), TOTAL)];
+
+const WORKERS: Calls = &[
+    (Call::Recount(0, 0), Due::Refused(Refusal::OutOfRange)),
+    (Call::Recount(0, 1), TOTAL),
+    (Call::Recount(0, 3), TOTAL),
+    (Call::Recount(0, 64), TOTAL),
+    (Call::Recount(0, 65), Due::Refused(Refusal::OutOfRange)),
 ];
 
 /// A missing aggregate is told before a wrong number of workers.
-static UNKNOWN: [Recount; 3] = [
-    (1, 3, Found::Refused(Refusal::NoAggregate)),
-    (1, 0, Found::Refused(Refusal::NoAggregate)),
-    (32, 1, Found::Refused(Refusal::NoAggregate)),
+const UNKNOWN: Calls = &[
+    (Call::Recount(1, 3), Due::Refused(Refusal::NoAggregate)),
+    (Call::Recount(1, 0), Due::Refused(Refusal::NoAggregate)),
+    (Call::Recount(32, 1), Due::Refused(Refusal::NoAggregate)),
 ];
 
-/// Whether an answer has the count and the sum of the rows.
-fn is_right(answer: &Answer) -> bool {
-    is_answer(answer, &[(None, 7, 56)])
-}
-
-/// What a recount finds, and how many faults it meets.
-fn recounted<S: FarStore, R: Threads + Sync>(
-    rt: &R,
-    frame: &Frame<S>,
-    store: &S,
-    aggregate: u32,
-    workers: u32,
-) -> (Result<bool, Refusal>, u64)
-    requires here { AreAt S.is_of (S.name store.now) frame.now.rows }
-{
-    let mut meter = Meter::new();
-    let found = frame.recount(rt, store, &mut meter, aggregate, workers);
-    (
-        found.map(|answer: Answer| -> bool { is_right(&answer) }),
-        meter.faults(),
-    )
-}
-
-/// Whether this was due.
-fn is_due(found: Result<bool, Refusal>, faults: u64, due: Found) -> bool {
-    match due {
-        Found::Total => found == Ok(true) && faults == 0,
-        Found::Fault => found == Err(Refusal::FarFault) && faults == 1,
-        Found::Refused(refusal) => found == Err(refusal) && faults == 0,
-    }
-}
-
-/// Whether a recount finds what is due. Nothing can be said where memory is wanting.
-fn is_found<S: FarStore, R: Threads + Sync>(
-    rt: &R,
-    world: &World<S>,
-    (aggregate, workers, due): Recount,
-) -> Result<bool, Refusal> {
-    match recounted(rt, world.frame(), world.store(), aggregate, workers) {
-        (Err(Refusal::NoMemory), _) => Err(Refusal::NoMemory),
-        (found, faults) => Ok(is_due(found, faults, due)),
-    }
-}
-
-/// The first recount that finds something else.
-fn first_wrong<S: FarStore, R: Threads + Sync>(
-    rt: &R,
-    world: &World<S>,
-    recounts: &[Recount],
-) -> Result<Option<usize>, Refusal> {
-    for (at, recount) in recounts.iter().enumerate() {
-        match is_found(rt, world, *recount) {
-            Ok(true) => {}
-            Ok(false) => return Ok(Some(at)),
-            Err(refusal) => return Err(refusal),
-        }
-    }
-    Ok(None)
-}
-
-/// The same once most rows are away, or the first step on the way that has another reply than is due.
-fn first_wrong_then<S: FarStore, R: Threads + Sync>(
-    rt: &R,
-    alloc: Global,
-    world: &mut World<S>,
-    recounts: &[Recount],
-) -> Result<Option<usize>, Refusal> {
-    match first_other_then(alloc, world, &AWAY) {
-        Ok(None) => first_wrong(rt, world, recounts),
-        wrong => wrong,
-    }
-}
-
-/// The same of a new table over a store.
-fn first_wrong_over<S: FarStore, R: Threads + Sync>(
-    rt: &R,
-    alloc: Global,
-    store: S,
-    recounts: &[Recount],
-) -> Result<Option<usize>, Refusal> {
-    match world(alloc, &[Kind::Int], LIMITS, store) {
-        Ok(mut world) => {
-            let wrong = first_wrong_then(rt, alloc, &mut world, recounts);
-            drop(world);
-            wrong
-        }
-        Err(refusal) => Err(refusal),
-    }
-}
-
-/// The same over a store of which one get fails, counted from 1, or none.
-fn play<R: Threads + Wait + Sync>(
-    rt: &R,
-    alloc: Global,
-    failing_get: u64,
-    recounts: &[Recount],
-) -> Result<Option<usize>, Refusal> {
-    match agent(rt, alloc, 16) {
-        Ok(store) => {
-            let store = FaultyStore::new(store, 0, failing_get);
-            first_wrong_over(rt, alloc, store, recounts)
-        }
-        Err(refusal) => Err(refusal),
-    }
-}
+static SCRIPTS: [Script; 5] = [
+    Script {
+        name: "a recount by one that met a fault is repeated",
+        opening: MOSTLY_AWAY,
+        plan: FIRST_GET_FAILS,
+        calls: BY_ONE,
+    },
+    Script {
+        name: "a recount by three that met a fault is repeated",
+        opening: MOSTLY_AWAY,
+        plan: FIRST_GET_FAILS,
+        calls: BY_THREE,
+    },
+    Script {
+        name: "a recount by 64 that met a fault is repeated",
+        opening: MOSTLY_AWAY,
+        plan: FIRST_GET_FAILS,
+        calls: BY_64,
+    },
+    Script {
+        name: "a recount has from 1 to 64 workers",
+        opening: MOSTLY_AWAY,
+        plan: SOUND,
+        calls: WORKERS,
+    },
+    Script {
+        name: "a recount of an aggregate that is not there is refused",
+        opening: MOSTLY_AWAY,
+        plan: SOUND,
+        calls: UNKNOWN,
+    },
+];
 
 #[test]
-fn a_recount_by_one_that_met_a_fault_is_repeated(rt: HostRuntime) -> Result<(), Fail> {
-    answered(play(&rt, rt.alloc(), 1, &BY_ONE))
-}
-
-#[test]
-fn a_recount_by_three_that_met_a_fault_is_repeated(rt: HostRuntime) -> Result<(), Fail> {
-    answered(play(&rt, rt.alloc(), 1, &BY_THREE))
-}
-
-#[test]
-fn a_recount_by_64_that_met_a_fault_is_repeated(rt: HostRuntime) -> Result<(), Fail> {
-    answered(play(&rt, rt.alloc(), 1, &BY_64))
-}
-
-#[test]
-fn a_recount_has_from_1_to_64_workers(rt: HostRuntime) -> Result<(), Fail> {
-    answered(play(&rt, rt.alloc(), 0, &WORKERS))
-}
-
-#[test]
-fn a_recount_of_an_aggregate_that_is_not_there_is_refused(rt: HostRuntime) -> Result<(), Fail> {
-    answered(play(&rt, rt.alloc(), 0, &UNKNOWN))
+fn an_aggregate_is_computed_from_scratch_by_several_workers(rt: HostRuntime) -> Result<(), Fail> {
+    answered(play_all(&rt, rt.alloc(), &SCRIPTS))
 }

@@ -1,147 +1,258 @@
-//! Calls on a table, as data.
-use crate::answers::Line;
-use crate::desk::Desk;
-use crate::opening::agent;
-use crate::values::Values;
-use far_store::FarStore;
-use far_types::{Fold, Name, Refusal};
+//! The player of scripts: calls on a world, each with what it answers. A call that finds no memory is made again.
+ghost use Rattle.std.specs.Prelude.{◌<◌};
+ghost use Rattle.far_rows.specs.Jobs.{AreAt};
+
+use crate::answers::{Due, is_reply, is_row};
+use crate::call::{Call, step};
+use crate::opening::{Opening, Plan, store, world};
+use far_frame::{Frame, Reply, Step, World};
+use far_store::{FarStore, FarTickets, Meter};
+use far_types::Refusal;
 use std::alloc::Global;
 use std::sync::Wait;
 use std::test::Fail;
+use std::thread::Threads;
 
-/// A call on a table of a column of numbers and one of texts.
-#[derive(Clone, Copy)]
-pub enum Call {
-    Insert(Option<i64>, Option<&'static str>),
-    SetNumber(u32, Option<i64>),
-    SetText(u32, Option<&'static str>),
-    Remove(u32),
-    Watch(Fold, Option<u32>),
-    Unwatch(u32),
-    Scan(u32, u32),
-    Pin(u32, u32),
-    Unpin(u32, u32),
-    Evacuate(u32, u32),
-    EvacuateWritten(u32, Option<i64>),
-    FetchBack(u32, u32),
+/// Calls, each with what it answers.
+pub type Calls = &'static [(Call, Due<'static>)];
+
+/// Calls on a new table over a store of a plan.
+pub struct Script {
+    pub name: &'static str,
+    pub opening: Opening,
+    pub plan: Plan,
+    pub calls: Calls,
 }
 
-/// What a call answers: the place of a new row, the number of a new aggregate, or nothing more.
-pub type Reply = Result<Option<u32>, Refusal>;
+/// The script and the index of the first of its calls that did not answer what it should.
+pub type Wrong = (&'static str, usize);
 
-/// A line of a script.
-#[derive(Clone, Copy)]
-pub enum Step {
-    /// A call, and its reply.
-    Call(Call, Reply),
-    /// The row of a place has these values, or is refused so.
-    Values(u32, Result<Values<'static>, Refusal>),
-    /// An aggregate answers these lines, or is refused so.
-    Answer(u32, Result<&'static [Line], Refusal>),
-    /// The object that goes away first.
-    Coldest(Option<Name>),
-}
-
-/// Fails where a step of a script did not come out as it should, and names it.
-pub fn answered(first_wrong: Result<Option<usize>, Refusal>) -> Result<(), Fail> {
+/// Fails where a call of a script did not answer what it should, and names both.
+pub fn answered(first_wrong: Result<Option<Wrong>, Refusal>) -> Result<(), Fail> {
     match first_wrong? {
-        Some(step) => Err(Fail::new(format_args!("step {step}"))),
+        Some((name, at)) => Err(Fail::new(format_args!("{name}: call {at}"))),
         None => Ok(()),
     }
 }
 
-/// Plays a script on a new table: the index of the first step that does not come out as it should.
-pub fn play<R: Wait + Sync + Drop + Copy>(
-    rt: R,
+/// Plays scripts, up to the first that goes wrong.
+pub fn play_all<R: Threads + Wait + Sync>(
+    rt: &R,
     alloc: Global,
-    script: &[Step],
-) -> Result<Option<usize>, Refusal> {
-    match agent(rt, alloc, 64) {
-        Ok(store) => play_over(alloc, &store, script),
-        Err(refusal) => Err(refusal),
-    }
-}
-
-fn play_over<S: FarStore>(
-    alloc: Global,
-    store: &S,
-    script: &[Step],
-) -> Result<Option<usize>, Refusal> {
-    match Desk::new(alloc, store) {
-        Ok(mut desk) => first_wrong(&mut desk, script),
-        Err(refusal) => Err(refusal),
-    }
-}
-
-/// The index of the first step that does not come out as it should.
-pub fn first_wrong<S: FarStore>(
-    desk: &mut Desk<'_, S>,
-    script: &[Step],
-) -> Result<Option<usize>, Refusal> {
-    for (index, step) in script.iter().enumerate() {
-        match comes_out(desk, *step) {
-            Ok(true) => {}
-            Ok(false) => return Ok(Some(index)),
+    scripts: &[Script],
+) -> Result<Option<Wrong>, Refusal> {
+    for script in scripts {
+        match play(rt, alloc, script) {
+            Ok(None) => {}
+            Ok(Some(at)) => return Ok(Some((script.name, at))),
             Err(refusal) => return Err(refusal),
         }
     }
     Ok(None)
 }
 
-// Whether a step comes out as it should. Nothing can be said where memory is wanting.
-fn comes_out<S: FarStore>(desk: &mut Desk<'_, S>, step: Step) -> Result<bool, Refusal> {
-    match step {
-        Step::Call(call, due) => is_due(reply(desk, call), due),
-        Step::Values(place, due) => Ok(desk.has_values(place, due)),
-        Step::Answer(a, due) => desk.has_answer(a, due),
-        Step::Coldest(name) => desk.has_coldest(name),
-    }
-}
-
-/// Whether a reply is the one that is due. Nothing can be said where memory is wanting.
-pub fn is_due(reply: Reply, due: Reply) -> Result<bool, Refusal> {
-    match reply {
-        Err(Refusal::NoMemory) => Err(Refusal::NoMemory),
-        reply => Ok(reply == due),
-    }
-}
-
-/// What a call answers.
-pub fn reply<S: FarStore>(desk: &mut Desk<'_, S>, call: Call) -> Reply {
-    match call {
-        Call::Insert(number, letters) => numbered(desk.insert(number, letters)),
-        Call::Watch(fold, key) => numbered(desk.watch(fold, key)),
-        Call::Pin(column, group) => done(desk.pin(column, group)),
-        Call::Unpin(column, group) => done(desk.unpin(column, group)),
-        Call::Evacuate(column, group) => done(desk.evacuate(column, group)),
-        Call::EvacuateWritten(place, number) => done(desk.evacuate_written(place, number)),
-        Call::FetchBack(column, group) => done(desk.fetch_back(column, group)),
-        call => done(changed(desk, call)),
-    }
-}
-
-// What a call answers that changes cells or aggregates.
-fn changed<S: FarStore>(desk: &mut Desk<'_, S>, call: Call) -> Result<(), Refusal> {
-    match call {
-        Call::SetNumber(place, number) => desk.set_number(place, number),
-        Call::SetText(place, letters) => desk.set_text(place, letters),
-        Call::Remove(place) => desk.remove(place),
-        Call::Unwatch(a) => desk.unwatch(a),
-        Call::Scan(a, group) => desk.scan_group(a, group),
-        _ => Err(Refusal::OutOfRange),
-    }
-}
-
-fn numbered(reply: Result<u32, Refusal>) -> Reply {
-    match reply {
-        Ok(number) => Ok(Some(number)),
+fn play<R: Threads + Wait + Sync>(
+    rt: &R,
+    alloc: Global,
+    script: &Script,
+) -> Result<Option<usize>, Refusal> {
+    match store(rt, alloc, script.plan) {
+        Ok(store) => play_over(rt, alloc, store, script),
         Err(refusal) => Err(refusal),
     }
 }
 
-fn done(reply: Result<(), Refusal>) -> Reply {
-    match reply {
-        Ok(()) => Ok(None),
+fn play_over<S: FarStore, R: Threads + Sync>(
+    rt: &R,
+    alloc: Global,
+    store: S,
+    script: &Script,
+) -> Result<Option<usize>, Refusal> {
+    match world(alloc, script.opening.kinds, script.opening.limits, store) {
+        Ok(mut world) => {
+            let wrong = match first_wrong(rt, alloc, &mut world, script.opening.rows) {
+                Ok(None) => first_wrong(rt, alloc, &mut world, script.calls),
+                wrong => wrong,
+            };
+            drop(world);
+            wrong
+        }
         Err(refusal) => Err(refusal),
+    }
+}
+
+/// The index of the first call that does not answer what it should.
+pub fn first_wrong<S: FarStore, R: Threads + Sync>(
+    rt: &R,
+    alloc: Global,
+    world: &mut World<S>,
+    calls: &[(Call, Due<'_>)],
+) -> Result<Option<usize>, Refusal> {
+    for (at, (call, due)) in calls.iter().enumerate() {
+        match is_answered(rt, alloc, world, *call, *due) {
+            Ok(true) => {}
+            Ok(false) => return Ok(Some(at)),
+            Err(refusal) => return Err(refusal),
+        }
+    }
+    Ok(None)
+}
+
+/// Whether a call answers this, the second time where the first finds no memory.
+pub fn is_answered<S: FarStore, R: Threads + Sync>(
+    rt: &R,
+    alloc: Global,
+    world: &mut World<S>,
+    call: Call,
+    due: Due<'_>,
+) -> Result<bool, Refusal> {
+    match is_answered_once(rt, alloc, world, call, due) {
+        Err(Refusal::NoMemory) => is_answered_once(rt, alloc, world, call, due),
+        answered => answered,
+    }
+}
+
+// Whether a call answers this. Nothing can be said where it finds no memory. No script meets more faults than a few.
+fn is_answered_once<S: FarStore, R: Threads + Sync>(
+    rt: &R,
+    alloc: Global,
+    world: &mut World<S>,
+    call: Call,
+    due: Due<'_>,
+) -> Result<bool, Refusal> {
+    if world.faults() >= 9 {
+        return Err(Refusal::FarFault);
+    }
+    match call {
+        Call::Row(place) => Ok(is_row_due(world.frame(), place, due)),
+        Call::Coldest => is_coldest(world.frame(), world.store(), due),
+        Call::Recount(a, workers) => {
+            is_due(
+                recounted(rt, world.frame(), world.store(), a, workers),
+                due,
+                1,
+            )
+        }
+        call => is_served(alloc, world, call, due),
+    }
+}
+
+// Whether a step, or a look that owns nothing, answers this.
+fn is_served<S: FarStore>(
+    alloc: Global,
+    world: &mut World<S>,
+    call: Call,
+    due: Due<'_>,
+) -> Result<bool, Refusal>
+    requires few { world.old.faults < 9 }
+{
+    let size = world.frame().limits().group;
+    match call {
+        Call::CarryAtLast(n) => is_due(carried_at_last(world, n), due, size),
+        Call::Repin(column, group) => is_due(repinned(world, column, group), due, size),
+        Call::Faults(_)
+        | Call::IsAlive(_)
+        | Call::MayEvac(_, _)
+        | Call::MayScan(_, _)
+        | Call::MayOffload(_, _) => is_due(looked(world, call), due, size),
+        call => match step(alloc, call) {
+            Ok(step) => is_due(world.serve(step), due, size),
+            Err(refusal) => Err(refusal),
+        },
+    }
+}
+
+fn is_due(reply: Reply, due: Due<'_>, size: u32) -> Result<bool, Refusal> {
+    match reply {
+        Reply::Refused(Refusal::NoMemory) => Err(Refusal::NoMemory),
+        reply => Ok(is_reply(&reply, due, size)),
+    }
+}
+
+fn carried_at_last<S: FarStore>(world: &mut World<S>, n: u64) -> Reply
+    requires few { world.old.faults < 9 }
+{
+    match world.serve(Step::Carry(n)) {
+        Reply::Refused(Refusal::FarFault) => world.serve(Step::Carry(n)),
+        reply => reply,
+    }
+}
+
+fn repinned<S: FarStore>(world: &mut World<S>, column: u32, group: u32) -> Reply
+    requires few { world.old.faults < 9 }
+{
+    match world.serve(Step::Unpin { column, group }) {
+        Reply::Done => world.serve(Step::Pin { column, group }),
+        reply => reply,
+    }
+}
+
+// `Done` if a look finds what it asks for, else why not.
+fn looked<S: FarStore>(world: &World<S>, call: Call) -> Reply {
+    let found = match call {
+        Call::IsAlive(place) => alive(world.frame(), place),
+        Call::MayEvac(column, group) => world.frame().may_evac(column, group),
+        Call::MayOffload(a, group) => world.frame().may_offload(a, group),
+        Call::MayScan(a, group) if world.frame().may_scan(a, group) => Ok(()),
+        Call::Faults(count) if world.faults() == count => Ok(()),
+        Call::Faults(_) => Err(Refusal::FarFault),
+        _ => Err(Refusal::StaleJob),
+    };
+    match found {
+        Ok(()) => Reply::Done,
+        Err(refusal) => Reply::Refused(refusal),
+    }
+}
+
+fn alive<S: FarTickets>(frame: &Frame<S>, place: u32) -> Result<(), Refusal> {
+    match frame.scope().is_alive(place) {
+        None => Err(Refusal::NoRow),
+        Some(false) => Err(Refusal::RemovedRow),
+        Some(true) => Ok(()),
+    }
+}
+
+fn is_row_due<S: FarTickets>(frame: &Frame<S>, place: u32, due: Due<'_>) -> bool {
+    match (frame.scope().row(place), due) {
+        (Ok(row), Due::Row(values)) => is_row(&row, values),
+        (Err(given), Due::Refused(refusal)) => given == refusal,
+        _ => false,
+    }
+}
+
+fn is_coldest<S: FarStore>(frame: &Frame<S>, store: &S, due: Due<'_>) -> Result<bool, Refusal>
+    requires here { AreAt S.is_of (S.name store.now) frame.now.rows }
+{
+    let Due::Coldest(name) = due else {
+        return Ok(false);
+    };
+    match frame.begin_coldest(store) {
+        Ok(Some(job)) => {
+            let is_due = job.object() == name;
+            drop(job);
+            Ok(is_due)
+        }
+        Ok(None) => Ok(name.is_none()),
+        Err(refusal) => Err(refusal),
+    }
+}
+
+// What a recount answers. It meets one fault exactly where it is refused for one.
+fn recounted<S: FarStore, R: Threads + Sync>(
+    rt: &R,
+    frame: &Frame<S>,
+    store: &S,
+    a: u32,
+    workers: u32,
+) -> Reply
+    requires here { AreAt S.is_of (S.name store.now) frame.now.rows }
+{
+    let mut meter = Meter::new();
+    let found = frame.recount(rt, store, &mut meter, a, workers);
+    match (found, meter.faults()) {
+        (Ok(answer), 0) => Reply::Answer(answer),
+        (Err(Refusal::FarFault), 1) => Reply::Refused(Refusal::FarFault),
+        (Err(refusal), 0) if refusal != Refusal::FarFault => Reply::Refused(refusal),
+        _ => Reply::Done,
     }
 }

@@ -1,67 +1,64 @@
 //! The aggregates of a plain table: each is folded anew whenever it answers.
-use super::call::{COLUMNS, KINDS, Value, Values};
-use super::plain::{Due, Plain};
+use super::drawing::{COLUMNS, kind_of, values_of};
+use super::plain::Plain;
+use crate::answers::{Due, Line};
+use crate::call::{EXTREMA, TOTALS, TOTALS_BY_TEXT, Value, Values, Watched};
 use far_types::{Fold, Kind, Op, Refusal};
 
 /// How many aggregates are registered at most.
-pub const SLOTS: u32 = 32;
+const SLOTS: u32 = 32;
 
 /// How many row groups there are at most.
 const GROUPS: usize = 6;
 
-/// A test of a number: its column, how it stands to a constant, and the constant.
-pub type Compare = (u32, Op, i64);
-
-/// An aggregate that is drawn. Its tests are of numbers.
-#[derive(Clone, Copy)]
-pub struct Watched {
-    pub fold: Fold,
-    pub value: u32,
-    pub key: Option<u32>,
-    pub tests: &'static [Compare],
-}
-
-fn of(fold: Fold, value: u32, key: Option<u32>, tests: &'static [Compare]) -> Watched {
+/// The aggregates that are drawn. The last four cannot be had.
+pub static DRAWN: [Watched; 12] = [
+    TOTALS,
+    TOTALS_BY_TEXT,
     Watched {
-        fold,
-        value,
-        key,
-        tests,
-    }
-}
-
-static AT_LEAST: [Compare; 1] = [(2, Op::Ge, -1)];
-
-static BETWEEN: [Compare; 2] = [(2, Op::Ne, 2), (0, Op::Lt, 4)];
-
-static AT_MOST: [Compare; 1] = [(0, Op::Le, 2)];
-
-static ABOVE: [Compare; 1] = [(0, Op::Gt, 0)];
-
-static OF_TEXTS: [Compare; 1] = [(1, Op::Eq, 0)];
-
-static FIVE: [Compare; 5] = [(0, Op::Ge, 0); 5];
-
-/// How many aggregates are drawn. The last four cannot be had.
-pub const DRAWN: u32 = 12;
-
-/// The aggregate that is drawn under a number.
-pub fn drawn_by(n: u32) -> Watched {
-    match n {
-        0 => of(Fold::Totals, 0, None, &[]),
-        1 => of(Fold::Totals, 0, Some(1), &[]),
-        2 => of(Fold::Extrema, 2, None, &[]),
-        3 => of(Fold::Extrema, 0, Some(3), &AT_LEAST),
-        4 => of(Fold::Totals, 2, Some(0), &BETWEEN),
-        5 => of(Fold::Extrema, 2, Some(0), &[]),
-        6 => of(Fold::Totals, 2, Some(3), &AT_MOST),
-        7 => of(Fold::Totals, 0, None, &ABOVE),
-        8 => of(Fold::Totals, 1, None, &[]),
-        9 => of(Fold::Totals, 0, Some(4), &[]),
-        10 => of(Fold::Extrema, 0, None, &OF_TEXTS),
-        _ => of(Fold::Extrema, 0, None, &FIVE),
-    }
-}
+        value: 2,
+        ..EXTREMA
+    },
+    Watched {
+        key: Some(3),
+        tests: &[(2, Op::Ge, -1)],
+        ..EXTREMA
+    },
+    Watched {
+        value: 2,
+        key: Some(0),
+        tests: &[(2, Op::Ne, 2), (0, Op::Lt, 4)],
+        ..TOTALS
+    },
+    Watched {
+        value: 2,
+        key: Some(0),
+        ..EXTREMA
+    },
+    Watched {
+        value: 2,
+        key: Some(3),
+        tests: &[(0, Op::Le, 2)],
+        ..TOTALS
+    },
+    Watched {
+        tests: &[(0, Op::Gt, 0)],
+        ..TOTALS
+    },
+    Watched { value: 1, ..TOTALS },
+    Watched {
+        key: Some(4),
+        ..TOTALS
+    },
+    Watched {
+        tests: &[(1, Op::Eq, 0)],
+        ..EXTREMA
+    },
+    Watched {
+        tests: &[(0, Op::Ge, 0); 5],
+        ..EXTREMA
+    },
+];
 
 impl Watched {
     /// Whether the aggregate needs a column.
@@ -77,11 +74,11 @@ impl Watched {
     // Whether a column that it needs is not of numbers, the key's aside.
     fn is_of_texts(&self) -> bool {
         for test in self.tests {
-            if !is_of_numbers(test.0) {
+            if kind_of(test.0) == Kind::Text {
                 return true;
             }
         }
-        !is_of_numbers(self.value)
+        kind_of(self.value) == Kind::Text
     }
 
     // Why a table has it not.
@@ -127,10 +124,6 @@ impl Watched {
     }
 }
 
-fn is_of_numbers(column: u32) -> bool {
-    KINDS.get(column as usize).copied() == Some(Kind::Int)
-}
-
 fn holds(number: i64, op: Op, constant: i64) -> bool {
     match op {
         Op::Eq => number == constant,
@@ -155,24 +148,14 @@ pub struct Aggregate {
 /// No aggregate.
 pub const FREE: Aggregate = Aggregate {
     registered: false,
-    watched: Watched {
-        fold: Fold::Totals,
-        value: 0,
-        key: None,
-        tests: &[],
-    },
+    watched: TOTALS,
     registration: 0,
     unbuilt: [false; GROUPS],
 };
 
 impl Aggregate {
-    /// Whether a row group is still to be built in.
-    pub fn is_unbuilt(&self, group: u32) -> bool {
-        self.unbuilt.get(group as usize).copied() == Some(true)
-    }
-
-    /// How many are.
-    pub fn left(&self) -> u32 {
+    /// How many row groups are still to be built in.
+    fn left(&self) -> u32 {
         let mut left: u32 = 0;
         for flag in self.unbuilt {
             left = left.saturating_add(u32::from(flag));
@@ -181,30 +164,30 @@ impl Aggregate {
     }
 }
 
-/// What stands under a key: how many values, their sum, the least and the greatest.
+// What stands under a key: how many values, their sum, the least and the greatest.
 #[derive(Clone, Copy)]
-pub struct Sums {
-    pub count: i128,
-    pub sum: i128,
-    pub least: i128,
-    pub greatest: i128,
+struct Sums {
+    count: i128,
+    sum: i128,
+    least: i128,
+    greatest: i128,
 }
 
 impl Sums {
     fn with(self, value: i128) -> Sums {
-        if self.count == 0 {
-            return Sums {
-                count: 1,
-                sum: value,
-                least: value,
-                greatest: value,
-            };
-        }
         Sums {
             count: self.count.wrapping_add(1),
             sum: self.sum.wrapping_add(value),
             least: self.least.min(value),
             greatest: self.greatest.max(value),
+        }
+    }
+
+    // The line of a key.
+    fn line(self, fold: Fold, key: Option<Value>) -> Line {
+        match fold {
+            Fold::Totals => (key, self.count, self.sum),
+            Fold::Extrema => (key, self.least, self.greatest),
         }
     }
 }
@@ -245,8 +228,7 @@ impl Plain {
     }
 
     /// An aggregate is registered under the lowest free number, with all row groups still to be built in.
-    pub fn watch(&mut self, n: u32) -> Due {
-        let watched = drawn_by(n);
+    pub fn watch(&mut self, watched: Watched) -> Due<'static> {
         if let Some(refusal) = watched.refusal() {
             return Due::Refused(refusal);
         }
@@ -289,7 +271,7 @@ impl Plain {
             Some(Refusal::NoAggregate)
         } else if group >= self.groups() {
             Some(Refusal::OutOfRange)
-        } else if !aggregate.is_unbuilt(group) {
+        } else if aggregate.unbuilt.get(group as usize).copied() != Some(true) {
             Some(Refusal::StaleJob)
         } else {
             None
@@ -322,24 +304,50 @@ impl Plain {
     }
 
     /// An aggregate is asked.
-    pub fn ask(&self, a: u32) -> Due {
+    pub fn ask(&mut self, a: u32) -> Due<'_> {
         let aggregate = self.aggregate(a);
         if !aggregate.registered {
             return Due::Refused(Refusal::NoAggregate);
         }
-        match aggregate.left() {
-            0 => Due::Answer(a),
-            left => Due::Refused(Refusal::Building(left)),
+        let left = aggregate.left();
+        if left > 0 {
+            return Due::Refused(Refusal::Building(left));
         }
+        let count = self.fold(&aggregate.watched);
+        Due::Lines(self.lines.get(..count).unwrap_or(&[]))
     }
 
-    /// What stands under a key, over the places that are alive.
-    pub fn sums(&self, watched: &Watched, key: Option<Value>) -> Sums {
+    // Writes the lines of an aggregate down: how many they are.
+    fn fold(&mut self, watched: &Watched) -> usize {
+        let Some(column) = watched.key else {
+            return self.fold_under(0, watched, None);
+        };
+        let mut count = 0;
+        for key in values_of(kind_of(column)) {
+            count = self.fold_under(count, watched, Some(*key));
+        }
+        count
+    }
+
+    // Writes the line of a key down behind so many others, if it has one. The totals of all rows have one always.
+    fn fold_under(&mut self, count: usize, watched: &Watched, key: Option<Value>) -> usize {
+        let sums = self.sums(watched, key);
+        if sums.count == 0 && (key.is_some() || watched.fold == Fold::Extrema) {
+            return count;
+        }
+        if let Some(line) = self.lines.get_mut(count) {
+            *line = sums.line(watched.fold, key);
+        }
+        count.saturating_add(1)
+    }
+
+    // What stands under a key, over the places that are alive.
+    fn sums(&self, watched: &Watched, key: Option<Value>) -> Sums {
         let mut sums = Sums {
             count: 0,
             sum: 0,
-            least: 0,
-            greatest: 0,
+            least: i128::MAX,
+            greatest: i128::MIN,
         };
         for row in self.rows.iter() {
             if row.alive {

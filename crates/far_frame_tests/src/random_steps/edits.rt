@@ -1,7 +1,9 @@
 //! Edits of a plain table.
-use super::call::{COLUMNS, KINDS, PLACES, SIZE, Value, Values, word};
+use super::drawing::{COLUMNS, KINDS, PLACES, SIZE, kind_of};
 use super::objects::index;
-use super::plain::{Due, Place, Plain};
+use super::plain::{Place, Plain};
+use crate::answers::Due;
+use crate::call::{Value, Values};
 use far_types::{Kind, Refusal};
 
 // Whether a value may stand in a column of this kind.
@@ -45,7 +47,7 @@ struct Measure {
 impl Measure {
     fn with(self, value: Value) -> Measure {
         let bytes = match value {
-            Value::Text(n) => u32::try_from(word(n).len()).unwrap_or(PLACES),
+            Value::Text(letters) => u32::try_from(letters.len()).unwrap_or(PLACES),
             _ => 0,
         };
         Measure {
@@ -68,9 +70,9 @@ impl Measure {
 }
 
 impl Plain {
-    // How long the object of a row group of a column is, once a place of it has this value.
-    fn list_len(&self, column: u32, group: u32, place: u32, value: Value) -> u32 {
-        if KINDS.get(column as usize).copied() != Some(Kind::Text) {
+    /// How long the object of a row group of a column is, once a place of it has this value; as it is, where the place is another's.
+    pub fn list_len(&self, column: u32, group: u32, place: u32, value: Value) -> u32 {
+        if kind_of(column) == Kind::Int {
             return SIZE;
         }
         let mut measure = Measure {
@@ -87,11 +89,6 @@ impl Plain {
             }
         }
         measure.len()
-    }
-
-    /// How long the object of a row group of a column is.
-    pub fn len_now(&self, column: u32, group: u32) -> u32 {
-        self.list_len(column, group, PLACES, Value::Missing)
     }
 
     // Why some text object is too long for a segment, once a place has these values.
@@ -146,14 +143,6 @@ impl Plain {
         }
     }
 
-    /// A row more.
-    pub fn insert(&mut self, values: &Values, width: u32) -> Due {
-        match self.insert_refusal(values, width) {
-            Some(refusal) => Due::Refused(refusal),
-            None => self.insert_at(self.len, values),
-        }
-    }
-
     // Why a row is not inserted, whatever room there is.
     fn insert_refusal(&self, values: &Values, width: u32) -> Option<Refusal> {
         let refusal = row_refusal(values, width);
@@ -170,9 +159,13 @@ impl Plain {
         self.long_refusal(self.len, values)
     }
 
-    // A row finds room, where it begins a row group for objects that have no list yet, and is appended.
-    fn insert_at(&mut self, place: u32, values: &Values) -> Due {
-        let (begins, made) = (place % SIZE == 0, self.made);
+    /// A row more. It finds room, where it begins a row group for objects that have no list yet, and is appended.
+    pub fn insert(&mut self, values: &Values, width: u32) -> Due<'static> {
+        if let Some(refusal) = self.insert_refusal(values, width) {
+            return Due::Refused(refusal);
+        }
+        let (place, made) = (self.len, self.made);
+        let begins = place % SIZE == 0;
         if begins {
             self.made = made.saturating_add(COLUMNS as usize);
         }
@@ -194,12 +187,20 @@ impl Plain {
         }
     }
 
-    // Why a place is not edited.
-    fn edit_refusal(&self, place: u32) -> Option<Refusal> {
+    /// Why a place is not alive.
+    pub fn dead(&self, place: u32) -> Option<Refusal> {
         match self.place(place) {
             None => Some(Refusal::NoRow),
             Some(row) if !row.alive => Some(Refusal::RemovedRow),
-            Some(_) => self.here(place / SIZE),
+            Some(_) => None,
+        }
+    }
+
+    // Why a place is not edited.
+    fn edit_refusal(&self, place: u32) -> Option<Refusal> {
+        match self.dead(place) {
+            None => self.here(place / SIZE),
+            refusal => refusal,
         }
     }
 

@@ -1,9 +1,11 @@
 //! The jobs of a plain world.
-use super::call::{COLUMNS, Call, SIZE};
+use super::drawing::{COLUMNS, PLACES, SIZE, kind_of};
 use super::objects::{Object, index};
-use super::plain::{Due, Plain};
+use super::plain::Plain;
+use crate::answers::Due;
+use crate::call::{Call, Value};
 use far_frame::JobKind;
-use far_types::{Kind, Refusal};
+use far_types::Refusal;
 
 /// What a job rests on, and whether it is spent or was carried. An offloaded build is of an aggregate and a row group, the others of
 /// an object.
@@ -93,7 +95,7 @@ impl Plain {
     }
 
     // One job more.
-    fn add(&mut self, job: Job) -> Due {
+    fn add(&mut self, job: Job) -> Due<'static> {
         let n = self.begun;
         if n >= self.limits.edits {
             return Due::Refused(Refusal::EditsUsedUp);
@@ -104,7 +106,7 @@ impl Plain {
     }
 
     /// An evacuation begins.
-    pub fn evac(&mut self, column: u32, group: u32) -> Due {
+    pub fn evac(&mut self, column: u32, group: u32) -> Due<'static> {
         if let Some(refusal) = self.away(column, group) {
             return Due::Refused(refusal);
         }
@@ -117,7 +119,7 @@ impl Plain {
     }
 
     /// A fetch begins.
-    pub fn fetch(&mut self, column: u32, group: u32) -> Due {
+    pub fn fetch(&mut self, column: u32, group: u32) -> Due<'static> {
         if let Some(refusal) = self.missing(column, group) {
             return Due::Refused(refusal);
         }
@@ -128,22 +130,16 @@ impl Plain {
         self.add(on(&object, JobKind::Fetch, column, group))
     }
 
-    // Whether a place is alive; none where there is no such place.
-    fn flag(&self, place: u32) -> Option<bool> {
-        match self.place(place) {
-            Some(row) => Some(row.alive),
-            None => None,
-        }
-    }
-
-    // Whether each place of a row group is alive.
+    // Whether each place of a row group is alive; none where there is no such place.
     fn flags(&self, group: u32) -> [Option<bool>; 3] {
+        let mut flags = [None; 3];
         let first = group.saturating_mul(SIZE);
-        [
-            self.flag(first),
-            self.flag(first.saturating_add(1)),
-            self.flag(first.saturating_add(2)),
-        ]
+        for (flag, place) in flags.iter_mut().zip(first..first.saturating_add(SIZE)) {
+            if let Some(row) = self.place(place) {
+                *flag = Some(row.alive);
+            }
+        }
+        flags
     }
 
     // The number under which the store has a row group of a column as it is now.
@@ -186,7 +182,7 @@ impl Plain {
     }
 
     /// An offloaded build begins.
-    pub fn offload(&mut self, a: u32, group: u32) -> Due {
+    pub fn offload(&mut self, a: u32, group: u32) -> Due<'static> {
         match self.offload_refusal(a, group) {
             Some(refusal) => Due::Refused(refusal),
             None => self.add(self.offload_job(a, group)),
@@ -299,7 +295,8 @@ impl Plain {
         if !self.is_ready(n, JobKind::Fetch) || !same {
             return Some(Refusal::StaleJob);
         }
-        let Some(part) = self.spot(kind_of(job.column), self.len_now(job.column, job.group)) else {
+        let len = self.list_len(job.column, job.group, PLACES, Value::Missing);
+        let Some(part) = self.spot(kind_of(job.column), len) else {
             return Some(Refusal::RegionFull);
         };
         object.part = Some(part);
@@ -339,12 +336,5 @@ impl Plain {
         } else {
             None
         }
-    }
-}
-
-fn kind_of(column: u32) -> Kind {
-    match column {
-        0 | 2 => Kind::Int,
-        _ => Kind::Text,
     }
 }

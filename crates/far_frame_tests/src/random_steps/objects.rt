@@ -1,5 +1,5 @@
 //! Objects of a plain table: where each lies, and what is known of it.
-use super::call::{COLUMNS, KINDS, SIZE};
+use super::drawing::{COLUMNS, KINDS};
 use super::plain::Plain;
 use far_types::{Kind, Limits, Refusal};
 
@@ -192,19 +192,23 @@ impl Plain {
         away
     }
 
+    /// Why a pin is not taken off.
+    pub fn unpin_refusal(&self, column: u32, group: u32) -> Option<Refusal> {
+        match self.missing(column, group) {
+            None if self.object(column, group).pins == 0 => Some(Refusal::NotPinned),
+            refusal => refusal,
+        }
+    }
+
     /// One pin less.
     pub fn unpin(&mut self, column: u32, group: u32) -> Option<Refusal> {
-        let missing = self.missing(column, group);
-        if missing.is_some() {
-            return missing;
+        let refusal = self.unpin_refusal(column, group);
+        if refusal.is_none() {
+            let mut object = self.object(column, group);
+            object.pins = object.pins.wrapping_sub(1);
+            self.keep(index(column, group), object);
         }
-        let mut object = self.object(column, group);
-        if object.pins == 0 {
-            return Some(Refusal::NotPinned);
-        }
-        object.pins = object.pins.wrapping_sub(1);
-        self.keep(index(column, group), object);
-        None
+        refusal
     }
 
     // The lowest segment without parts but this one.
@@ -223,9 +227,16 @@ impl Plain {
         let mut found = None;
         let mut least = u32::MAX;
         for (o, object) in self.objects.iter().enumerate() {
-            if is_of(o, kind) && object.hot == hot && is_below(object.part, segment, least) {
-                found = Some(o);
-                least = offset_of(object.part);
+            match object.part {
+                Some(part)
+                    if is_of(o, kind)
+                        && object.hot == hot
+                        && part.segment == segment
+                        && part.offset < least => {
+                    found = Some(o);
+                    least = part.offset;
+                }
+                _ => {}
             }
         }
         found
@@ -265,20 +276,5 @@ impl Plain {
             };
             self.move_to(kind, o, to);
         }
-    }
-}
-
-fn offset_of(part: Option<Part>) -> u32 {
-    match part {
-        Some(part) => part.offset,
-        None => 0,
-    }
-}
-
-// Whether a part is of this segment and below an offset.
-fn is_below(part: Option<Part>, segment: u32, offset: u32) -> bool {
-    match part {
-        Some(part) => part.segment == segment && part.offset < offset,
-        None => false,
     }
 }

@@ -1,26 +1,12 @@
 //! A world as plain values, and what its steps reply. It has no memory of its own.
 use super::aggregates::{Aggregate, FREE};
-use super::call::{COLUMNS, Call, SIZE, Value, Values};
+use super::drawing::{COLUMNS, SIZE};
 use super::jobs::{Job, SPENT};
 use super::objects::{NEW, Object, index};
 use super::store::Store;
+use crate::answers::{Due, Lent, Line};
+use crate::call::{Call, Value, Values};
 use far_types::{Limits, Refusal};
-
-/// The reply that is due.
-#[derive(Clone, Copy)]
-pub enum Due {
-    Done,
-    Place(u32),
-    Aggregate(u32),
-    /// What the aggregate of a number answers.
-    Answer(u32),
-    /// The places of a column from the first number up to the second.
-    Lent(u32, u32, u32),
-    Job(u64),
-    /// The next row groups of a column.
-    Next(u32),
-    Refused(Refusal),
-}
 
 /// A row: its values, and whether its place is alive.
 #[derive(Clone, Copy)]
@@ -38,7 +24,7 @@ pub struct Seen {
 
 /// All that a step can see or change: how many places there are and the rows, how many objects there are and each, by row group and
 /// there by column, what was lent of each column, the aggregates by number, how many jobs were begun and the last of them, and the
-/// store.
+/// store. The last three lists are what the last call answered.
 #[derive(Drop)]
 pub struct Plain {
     pub limits: Limits,
@@ -53,6 +39,9 @@ pub struct Plain {
     pub begun: u64,
     pub jobs: [Job; 8],
     pub store: Store,
+    pub lines: [Line; 10],
+    pub lent: [Lent; 18],
+    pub next: [u32; 2],
 }
 
 const NO_PLACE: Place = Place {
@@ -81,6 +70,9 @@ impl Plain {
             begun: 0,
             jobs: [SPENT; 8],
             store,
+            lines: [(None, 0, 0); 10],
+            lent: [(Value::Missing, false); 18],
+            next: [0; 2],
         }
     }
 
@@ -118,7 +110,7 @@ impl Plain {
     }
 
     /// A part of a column is lent.
-    fn lend(&mut self, column: u32, from: u32, to: u32) -> Due {
+    fn lend(&mut self, column: u32, from: u32, to: u32) -> Due<'_> {
         if let Some(refusal) = self.lend_refusal(column, from, to) {
             return Due::Refused(refusal);
         }
@@ -127,7 +119,22 @@ impl Plain {
                 self.see(column, group);
             }
         }
-        Due::Lent(column, from, to)
+        self.copy_out(column, from, to);
+        let len = to.saturating_sub(from) as usize;
+        Due::Lent(from, self.lent.get(..len).unwrap_or(&[]))
+    }
+
+    // Writes down what is lent of some places.
+    fn copy_out(&mut self, column: u32, from: u32, to: u32) {
+        for (n, place) in (from..to).enumerate() {
+            let Some(row) = self.place(place) else {
+                return;
+            };
+            let value = row.values.get(column as usize);
+            if let (Some(value), Some(lent)) = (value, self.lent.get_mut(n)) {
+                *lent = (*value, row.alive);
+            }
+        }
     }
 
     // A row group of a column is lent.
@@ -142,8 +149,8 @@ impl Plain {
         }
     }
 
-    /// The row groups of a column to fetch next: the n-th of them, from 1 on, if there is one.
-    pub fn next(&self, column: u32, n: i64) -> Option<u32> {
+    // The row groups of a column to fetch next: the n-th of them, from 1 on, if there is one.
+    fn next(&self, column: u32, n: i64) -> Option<u32> {
         let Some(seen) = self.seen.get(column as usize) else {
             return None;
         };
@@ -162,50 +169,79 @@ impl Plain {
         }
     }
 
-    /// What a step replies.
-    pub fn serve(&mut self, call: Call) -> Due {
-        match call {
-            Call::Insert(values, width) => self.insert(&values, width),
-            Call::Set(place, column, value) => done(self.set(place, column, value)),
-            Call::Remove(place) => done(self.remove(place)),
-            Call::Watch(n) => self.watch(n),
-            Call::Unwatch(a) => done(self.unwatch(a)),
-            Call::Scan(a, group) => done(self.scan(a, group)),
-            Call::Ask(a) => self.ask(a),
-            Call::Lend(column, from, to) => self.lend(column, from, to),
-            Call::Pin(column, group) => done(self.pin(column, group)),
-            Call::Unpin(column, group) => done(self.unpin(column, group)),
-            Call::Compact(kind, segment) => done(self.compact(kind, segment)),
-            Call::Prefetch(column) => prefetch(column),
-            call => self.worked(call),
+    /// What to fetch next of a column.
+    fn prefetch(&mut self, column: u32) -> Due<'_> {
+        if column >= COLUMNS {
+            return Due::Refused(Refusal::NoColumn);
+        }
+        let mut count: usize = 0;
+        for n in 1..3 {
+            if let (Some(group), Some(next)) = (self.next(column, n), self.next.get_mut(count)) {
+                *next = group;
+                count = count.saturating_add(1);
+            }
+        }
+        Due::Next(self.next.get(..count).unwrap_or(&[]))
+    }
+
+    // What a place shows.
+    fn row(&self, place: u32) -> Due<'_> {
+        match (self.rows.get(place as usize), self.here(place / SIZE)) {
+            (Some(row), None) if place < self.len => Due::Row(&row.values),
+            (Some(_), Some(refusal)) if place < self.len => Due::Refused(refusal),
+            _ => Due::Refused(Refusal::NoRow),
         }
     }
 
-    // What a step of jobs replies.
-    fn worked(&mut self, call: Call) -> Due {
+    /// What a call answers.
+    pub fn serve(&mut self, call: Call) -> Due<'_> {
         match call {
+            Call::InsertDrawn(row) => self.insert(&row.values(), row.width),
+            Call::Watch(watched) => self.watch(watched),
+            Call::Ask(a) => self.ask(a),
+            Call::Lend(column, from, to) => self.lend(column, from, to),
+            Call::Prefetch(column) => self.prefetch(column),
             Call::Evac(column, group) => self.evac(column, group),
             Call::Fetch(column, group) => self.fetch(column, group),
             Call::Offload(a, group) => self.offload(a, group),
-            Call::Carry(n) => done(self.carry(n)),
-            Call::Commit(n) => done(self.commit(n)),
-            Call::Install(n) => done(self.install(n)),
-            Call::Merge(n) => done(self.merge(n)),
-            _ => Due::Refused(Refusal::OutOfRange),
+            Call::Row(place) => self.row(place),
+            call => done(self.change(call)),
         }
     }
-}
 
-fn prefetch(column: u32) -> Due {
-    if column >= COLUMNS {
-        Due::Refused(Refusal::NoColumn)
-    } else {
-        Due::Next(column)
+    // Why a call is refused that says nothing where it is done.
+    fn change(&mut self, call: Call) -> Option<Refusal> {
+        match call {
+            Call::Set(place, column, value) => self.set(place, column, value),
+            Call::Remove(place) => self.remove(place),
+            Call::Unwatch(a) => self.unwatch(a),
+            Call::Scan(a, group) => self.scan(a, group),
+            Call::Pin(column, group) => self.pin(column, group),
+            Call::Unpin(column, group) => self.unpin(column, group),
+            Call::Compact(kind, segment) => self.compact(kind, segment),
+            Call::Carry(n) => self.carry(n),
+            Call::Commit(n) => self.commit(n),
+            Call::Install(n) => self.install(n),
+            Call::Merge(n) => self.merge(n),
+            call => self.look(call),
+        }
+    }
+
+    // Why a look does not find what it asks for.
+    fn look(&self, call: Call) -> Option<Refusal> {
+        match call {
+            Call::IsAlive(place) => self.dead(place),
+            Call::MayEvac(column, group) => self.away(column, group),
+            Call::MayScan(a, group) if self.scan_refusal(a, group).is_none() => None,
+            Call::MayOffload(a, group) => self.offload_refusal(a, group),
+            Call::Repin(column, group) => self.unpin_refusal(column, group),
+            _ => Some(Refusal::StaleJob),
+        }
     }
 }
 
 // The reply of a step that says nothing where it is done.
-fn done(refusal: Option<Refusal>) -> Due {
+fn done(refusal: Option<Refusal>) -> Due<'static> {
     match refusal {
         None => Due::Done,
         Some(refusal) => Due::Refused(refusal),

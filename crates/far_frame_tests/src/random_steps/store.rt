@@ -1,25 +1,21 @@
 //! A store as counts: it numbers what is put, fails one put and one get, and is full in the end.
+use crate::opening::Plan;
 use far_types::Refusal;
 
 #[derive(Clone, Copy)]
 pub struct Store {
-    pub capacity: u64,
-    /// The number of the put that fails, and of the get.
-    pub failing_put: u64,
-    pub failing_get: u64,
-    pub used: u64,
-    pub puts: u64,
-    pub gets: u64,
+    plan: Plan,
+    used: u64,
+    puts: u64,
+    gets: u64,
     pub faults: u64,
 }
 
 impl Store {
     /// Nothing is put yet.
-    pub fn new(capacity: u64, failing_put: u64, failing_get: u64) -> Store {
+    pub fn new(plan: Plan) -> Store {
         Store {
-            capacity,
-            failing_put,
-            failing_get,
+            plan,
             used: 0,
             puts: 0,
             gets: 0,
@@ -30,11 +26,11 @@ impl Store {
     /// The number of a new content.
     pub fn put(&mut self) -> Result<u64, Refusal> {
         self.puts = self.puts.wrapping_add(1);
-        if self.puts == self.failing_put {
+        if self.puts == self.plan.failing_put {
             self.faults = self.faults.wrapping_add(1);
             return Err(Refusal::FarFault);
         }
-        if self.used >= self.capacity {
+        if self.used >= self.plan.capacity {
             return Err(Refusal::FarFull);
         }
         let number = self.used;
@@ -45,7 +41,7 @@ impl Store {
     /// A content is read, or why it is not.
     pub fn get(&mut self) -> Option<Refusal> {
         self.gets = self.gets.wrapping_add(1);
-        if self.gets == self.failing_get {
+        if self.gets == self.plan.failing_get {
             self.faults = self.faults.wrapping_add(1);
             return Some(Refusal::FarFault);
         }

@@ -2,7 +2,7 @@ use Rattle.std.proofs.Common.{ap}
 use Rattle.far_table.specs.State.{State as LiveState}
 use Rattle.far_frame.specs.State.{State}
 use Rattle.far_frame_tests.proofs.Kept.{by-value, kept-at}
-use Rattle.far_frame_tests.proofs.desk.watch.Goals as goal
+use Rattle.far_frame_tests.proofs.two_tables.watch.Goals as goal
 
 pub returns : goal.returns
 returns g c =

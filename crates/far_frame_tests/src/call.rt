@@ -1,0 +1,199 @@
+//! Calls on a world, as data: every step of the table, and looks at what no step tells.
+use far_frame::Step;
+use far_types::{Cell, Edit, Filter, Fold, Kind, Op, Refusal, Row, Spec, Test, Text};
+use std::alloc::Global;
+
+/// What a cell has.
+#[derive(Clone, Copy, PartialEq, Eq)]
+pub enum Value {
+    Missing,
+    Int(i64),
+    Text(&'static str),
+}
+
+/// The values of a row of four columns.
+pub type Values = [Value; 4];
+
+/// A row of the first so many of these values.
+#[derive(Clone, Copy)]
+pub struct DrawnRow {
+    pub first: Value,
+    pub second: Value,
+    pub third: Value,
+    pub fourth: Value,
+    pub width: u32,
+}
+
+impl DrawnRow {
+    /// All its values, also those behind its width.
+    pub fn values(&self) -> Values {
+        [self.first, self.second, self.third, self.fourth]
+    }
+}
+
+/// A test of a number: its column, how it stands to a constant, and the constant.
+pub type Compare = (u32, Op, i64);
+
+/// An aggregate. Its tests are of numbers.
+#[derive(Clone, Copy)]
+pub struct Watched {
+    pub fold: Fold,
+    pub value: u32,
+    pub key: Option<u32>,
+    pub tests: &'static [Compare],
+}
+
+/// Count and sum of column 0.
+pub const TOTALS: Watched = Watched {
+    fold: Fold::Totals,
+    value: 0,
+    key: None,
+    tests: &[],
+};
+
+/// The same under each text of column 1.
+pub const TOTALS_BY_TEXT: Watched = Watched {
+    fold: Fold::Totals,
+    value: 0,
+    key: Some(1),
+    tests: &[],
+};
+
+/// The least and the greatest of column 0.
+pub const EXTREMA: Watched = Watched {
+    fold: Fold::Extrema,
+    value: 0,
+    key: None,
+    tests: &[],
+};
+
+/// The same under each text of column 1.
+pub const EXTREMA_BY_TEXT: Watched = Watched {
+    fold: Fold::Extrema,
+    value: 0,
+    key: Some(1),
+    tests: &[],
+};
+
+/// A call on a world. Columns stand before places and row groups, aggregates before row groups.
+#[derive(Clone, Copy)]
+pub enum Call {
+    Insert(&'static [Value]),
+    /// A row that is drawn.
+    InsertDrawn(DrawnRow),
+    /// The place, the column and the value.
+    Set(u32, u32, Value),
+    Remove(u32),
+    Watch(Watched),
+    Unwatch(u32),
+    Scan(u32, u32),
+    Ask(u32),
+    /// The column, and the places from the first number up to the second.
+    Lend(u32, u32, u32),
+    Pin(u32, u32),
+    Unpin(u32, u32),
+    Evac(u32, u32),
+    Fetch(u32, u32),
+    Offload(u32, u32),
+    Carry(u64),
+    Commit(u64),
+    Install(u64),
+    Merge(u64),
+    Compact(Kind, u32),
+    Prefetch(u32),
+    /// Carries a job, and once more if the store failed.
+    CarryAtLast(u64),
+    /// Takes one pin off an object, and puts it on again.
+    Repin(u32, u32),
+    /// Looks at the row of a place.
+    Row(u32),
+    /// Looks whether a place is alive: `RemovedRow` says no.
+    IsAlive(u32),
+    /// Looks whether an object can go away.
+    MayEvac(u32, u32),
+    /// Looks whether a row group can be scanned into an aggregate: `StaleJob` says no.
+    MayScan(u32, u32),
+    /// Looks whether it can be built in from the store.
+    MayOffload(u32, u32),
+    /// Looks which object goes away first.
+    Coldest,
+    /// Computes an aggregate from scratch, by so many workers.
+    Recount(u32, u32),
+    /// Looks whether so many faults were met so far: `FarFault` says no.
+    Faults(u64),
+}
+
+fn cell(alloc: Global, value: Value) -> Result<Cell, Refusal> {
+    match value {
+        Value::Missing => Ok(Cell::Missing),
+        Value::Int(number) => Ok(Cell::Int(number)),
+        Value::Text(letters) => Ok(Cell::Text(Text::new(String::from_str(alloc, letters)?))),
+    }
+}
+
+fn insert(alloc: Global, values: &[Value]) -> Result<Step, Refusal> {
+    let mut cells = Vec::new(alloc);
+    for value in values {
+        cells.push(cell(alloc, *value)?)?;
+    }
+    Ok(Step::Edit(Edit::Insert(Row::new(cells))))
+}
+
+/// The specification of an aggregate.
+pub fn spec(alloc: Global, watched: Watched) -> Result<Spec, Refusal> {
+    let mut tests = Vec::new(alloc);
+    for (column, op, value) in watched.tests {
+        tests.push(Test::Int {
+            column: *column,
+            op: *op,
+            value: *value,
+        })?;
+    }
+    Ok(Spec {
+        fold: watched.fold,
+        value: watched.value,
+        key: watched.key,
+        filter: Filter::new(tests),
+    })
+}
+
+/// The step of a call that is one.
+pub fn step(alloc: Global, call: Call) -> Result<Step, Refusal> {
+    match call {
+        Call::Insert(values) => insert(alloc, values),
+        Call::InsertDrawn(row) => {
+            let values = row.values();
+            insert(alloc, values.get(..row.width as usize).unwrap_or(&[]))
+        }
+        Call::Set(place, column, value) => Ok(Step::Edit(Edit::Set {
+            place,
+            column,
+            cell: cell(alloc, value)?,
+        })),
+        Call::Watch(watched) => Ok(Step::Watch(spec(alloc, watched)?)),
+        call => Ok(plain_step(call)),
+    }
+}
+
+// A step that owns nothing.
+fn plain_step(call: Call) -> Step {
+    match call {
+        Call::Remove(place) => Step::Edit(Edit::Remove(place)),
+        Call::Unwatch(a) => Step::Unwatch(a),
+        Call::Scan(a, group) => Step::ScanGroup(a, group),
+        Call::Ask(a) => Step::Ask(a),
+        Call::Lend(column, from, to) => Step::Lend { column, from, to },
+        Call::Pin(column, group) => Step::Pin { column, group },
+        Call::Unpin(column, group) => Step::Unpin { column, group },
+        Call::Evac(column, group) => Step::BeginEvac { column, group },
+        Call::Fetch(column, group) => Step::BeginFetch { column, group },
+        Call::Offload(aggregate, group) => Step::BeginOffload { aggregate, group },
+        Call::Carry(n) => Step::Carry(n),
+        Call::Commit(n) => Step::Commit(n),
+        Call::Install(n) => Step::Install(n),
+        Call::Merge(n) => Step::Merge(n),
+        Call::Compact(kind, segment) => Step::Compact(kind, segment),
+        Call::Prefetch(column) => Step::Prefetch(column),
+        _ => Step::Ask(99),
+    }
+}

@@ -1,0 +1,272 @@
+//! A world that goes on with another store: all rows and answers are the same, and aggregates go on. One that is refused is as it was.
+use crate::answers::Due;
+use crate::call::Value::{Int, Text};
+use crate::call::{Call, EXTREMA, TOTALS_BY_TEXT};
+use crate::opening::{PAIRS, Plan, SOUND, store, world};
+use crate::script::{Calls, Wrong, answered, first_wrong};
+use far_frame::World;
+use far_store::{AgentStore, FarStore, FaultyStore};
+use far_types::Refusal;
+use std::alloc::Global;
+use std::sync::Wait;
+use std::test::Fail;
+use std::thread::Threads;
+
+/// A world over the store of one plan that goes on, or is refused to go on, with the store of another, and what calls answer then.
+struct Migration {
+    name: &'static str,
+    from: Plan,
+    to: Plan,
+    refused: Option<Refusal>,
+    then: Calls,
+}
+
+const AWAY: Due<'static> = Due::Refused(Refusal::Absent {
+    column: 0,
+    group: 0,
+});
+
+const BY_TEXT: Due<'static> = Due::Lines(&[
+    (Some(Text("fig")), 1, 5),
+    (Some(Text("pear")), 2, 10),
+    (Some(Text("plum")), 1, 7),
+]);
+
+/// The first row group is away, and still to be built into the second aggregate. A job waits for its end.
+const BEFORE: Calls = &[
+    (Call::Watch(TOTALS_BY_TEXT), Due::Aggregate(0)),
+    (Call::Insert(&[Int(4), Text("pear")]), Due::Place(0)),
+    (Call::Insert(&[Int(5), Text("fig")]), Due::Place(1)),
+    (Call::Insert(&[Int(6), Text("pear")]), Due::Place(2)),
+    (Call::Insert(&[Int(7), Text("plum")]), Due::Place(3)),
+    (Call::Watch(EXTREMA), Due::Aggregate(1)),
+    (Call::Scan(1, 1), Due::Done),
+    (Call::Pin(1, 1), Due::Done),
+    (Call::Evac(0, 0), Due::Job(0)),
+    (Call::Carry(0), Due::Done),
+    (Call::Commit(0), Due::Done),
+    (Call::Evac(1, 0), Due::Job(1)),
+    (Call::Carry(1), Due::Done),
+    (Call::Commit(1), Due::Done),
+    (Call::Evac(0, 1), Due::Job(2)),
+    (Call::Carry(2), Due::Done),
+    (Call::Row(0), AWAY),
+    (Call::Ask(0), BY_TEXT),
+];
+
+/// Objects are where they were, with their pins, and are read from the new store; jobs of before are spent.
+const MIGRATED: Calls = &[
+    (Call::Faults(0), Due::Done),
+    (Call::Row(0), AWAY),
+    (Call::Row(3), Due::Row(&[Int(7), Text("plum")])),
+    (Call::Ask(0), BY_TEXT),
+    (Call::Ask(1), Due::Refused(Refusal::Building(1))),
+    (Call::Carry(2), Due::Refused(Refusal::StaleJob)),
+    (Call::Commit(2), Due::Refused(Refusal::StaleJob)),
+    (Call::Recount(1, 2), Due::Lines(&[(None, 4, 7)])),
+    (Call::Offload(1, 0), Due::Job(3)),
+    (Call::Carry(3), Due::Done),
+    (Call::Merge(3), Due::Done),
+    (Call::Ask(1), Due::Lines(&[(None, 4, 7)])),
+    (Call::Fetch(0, 0), Due::Job(4)),
+    (Call::Carry(4), Due::Done),
+    (Call::Install(4), Due::Done),
+    (Call::Fetch(1, 0), Due::Job(5)),
+    (Call::Carry(5), Due::Done),
+    (Call::Install(5), Due::Done),
+    (Call::Row(0), Due::Row(&[Int(4), Text("pear")])),
+    (Call::Row(1), Due::Row(&[Int(5), Text("fig")])),
+    (Call::Row(2), Due::Row(&[Int(6), Text("pear")])),
+    (Call::Set(1, 0, Int(9)), Due::Done),
+    (Call::Insert(&[Int(1), Text("plum")]), Due::Place(4)),
+    (
+        Call::Ask(0),
+        Due::Lines(&[
+            (Some(Text("fig")), 1, 9),
+            (Some(Text("pear")), 2, 10),
+            (Some(Text("plum")), 2, 8),
+        ]),
+    ),
+    (Call::Ask(1), Due::Lines(&[(None, 1, 9)])),
+    (Call::Unpin(1, 1), Due::Done),
+    (Call::Unpin(1, 1), Due::Refused(Refusal::NotPinned)),
+];
+
+/// All is as before: the job that waits ends, and objects come back from the old store.
+const FAULTED: Calls = &[
+    (Call::Faults(1), Due::Done),
+    (Call::Row(0), AWAY),
+    (Call::Row(3), Due::Row(&[Int(7), Text("plum")])),
+    (Call::Ask(0), BY_TEXT),
+    (Call::Ask(1), Due::Refused(Refusal::Building(1))),
+    (Call::Commit(2), Due::Done),
+    (Call::Fetch(0, 0), Due::Job(3)),
+    (Call::Carry(3), Due::Done),
+    (Call::Install(3), Due::Done),
+    (Call::Fetch(1, 0), Due::Job(4)),
+    (Call::Carry(4), Due::Done),
+    (Call::Install(4), Due::Done),
+    (Call::Row(0), Due::Row(&[Int(4), Text("pear")])),
+    (Call::Set(1, 0, Int(9)), Due::Done),
+    (Call::Unpin(1, 1), Due::Done),
+    (Call::Unpin(1, 1), Due::Refused(Refusal::NotPinned)),
+];
+
+/// Likewise, and no store failed.
+const FULL: Calls = &[
+    (Call::Faults(0), Due::Done),
+    (Call::Row(0), AWAY),
+    (Call::Ask(0), BY_TEXT),
+    (Call::Commit(2), Due::Done),
+    (Call::Fetch(1, 0), Due::Job(3)),
+    (Call::Carry(3), Due::Done),
+    (Call::Install(3), Due::Done),
+    (Call::Fetch(0, 0), Due::Job(4)),
+    (Call::Carry(4), Due::Done),
+    (Call::Install(4), Due::Done),
+    (Call::Row(0), Due::Row(&[Int(4), Text("pear")])),
+];
+
+static MIGRATIONS: [Migration; 4] = [
+    Migration {
+        name: "all is the same in another store",
+        from: SOUND,
+        to: SOUND,
+        refused: None,
+        then: MIGRATED,
+    },
+    Migration {
+        name: "the new store fails at the second object",
+        from: SOUND,
+        to: Plan {
+            failing_put: 2,
+            ..SOUND
+        },
+        refused: Some(Refusal::FarFault),
+        then: FAULTED,
+    },
+    Migration {
+        name: "the old store fails",
+        from: Plan {
+            failing_get: 1,
+            ..SOUND
+        },
+        to: SOUND,
+        refused: Some(Refusal::FarFault),
+        then: FAULTED,
+    },
+    Migration {
+        name: "the new store is full at the second object",
+        from: SOUND,
+        to: Plan {
+            capacity: 1,
+            ..SOUND
+        },
+        refused: Some(Refusal::FarFull),
+        then: FULL,
+    },
+];
+
+/// The world over the store of a plan, or why it is not, and the world as it was. It meets few faults.
+fn migrated<'a, S: FarStore, R: Threads + Wait + Sync>(
+    rt: &'a R,
+    alloc: Global,
+    world: World<S>,
+    plan: Plan,
+) -> Result<World<FaultyStore<AgentStore<&'a R>>>, (Refusal, World<S>)> {
+    if world.faults() >= 9 {
+        return Err((Refusal::FarFault, world));
+    }
+    match store(rt, alloc, plan) {
+        Ok(to) => world.migrate(to),
+        Err(refusal) => Err((refusal, world)),
+    }
+}
+
+/// The first call that does not answer what it should after a migration with this outcome.
+fn first_wrong_then<S: FarStore, R: Threads + Sync>(
+    rt: &R,
+    alloc: Global,
+    world: &mut World<S>,
+    refused: Option<Refusal>,
+    migration: &Migration,
+) -> Result<Option<usize>, Refusal> {
+    if refused == migration.refused {
+        first_wrong(rt, alloc, world, migration.then)
+    } else {
+        Ok(Some(BEFORE.len()))
+    }
+}
+
+/// The same once the world went on, the second time where the first finds no memory.
+fn play_on<S: FarStore, R: Threads + Wait + Sync>(
+    rt: &R,
+    alloc: Global,
+    world: World<S>,
+    migration: &Migration,
+) -> Result<Option<usize>, Refusal> {
+    let moved = match migrated(rt, alloc, world, migration.to) {
+        Err((Refusal::NoMemory, world)) => migrated(rt, alloc, world, migration.to),
+        moved => moved,
+    };
+    match moved {
+        Ok(mut world) => {
+            let wrong = first_wrong_then(rt, alloc, &mut world, None, migration);
+            drop(world);
+            wrong
+        }
+        Err((refusal, mut world)) => {
+            let wrong = first_wrong_then(rt, alloc, &mut world, Some(refusal), migration);
+            drop(world);
+            wrong
+        }
+    }
+}
+
+/// The same of a new world over a store.
+fn play_over<S: FarStore, R: Threads + Wait + Sync>(
+    rt: &R,
+    alloc: Global,
+    store: S,
+    migration: &Migration,
+) -> Result<Option<usize>, Refusal> {
+    match world(alloc, PAIRS.kinds, PAIRS.limits, store) {
+        Ok(mut world) => match first_wrong(rt, alloc, &mut world, BEFORE) {
+            Ok(None) => play_on(rt, alloc, world, migration),
+            wrong => {
+                drop(world);
+                wrong
+            }
+        },
+        Err(refusal) => Err(refusal),
+    }
+}
+
+/// The same over a new store.
+fn play<R: Threads + Wait + Sync>(
+    rt: &R,
+    alloc: Global,
+    migration: &Migration,
+) -> Result<Option<usize>, Refusal> {
+    match store(rt, alloc, migration.from) {
+        Ok(store) => play_over(rt, alloc, store, migration),
+        Err(refusal) => Err(refusal),
+    }
+}
+
+/// The first that goes wrong.
+fn play_all<R: Threads + Wait + Sync>(rt: &R, alloc: Global) -> Result<Option<Wrong>, Refusal> {
+    for migration in &MIGRATIONS {
+        match play(rt, alloc, migration) {
+            Ok(None) => {}
+            Ok(Some(at)) => return Ok(Some((migration.name, at))),
+            Err(refusal) => return Err(refusal),
+        }
+    }
+    Ok(None)
+}
+
+#[test]
+fn a_world_goes_on_with_another_store_or_is_as_it_was(rt: HostRuntime) -> Result<(), Fail> {
+    answered(play_all(&rt, rt.alloc()))
+}

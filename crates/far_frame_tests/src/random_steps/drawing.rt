@@ -1,0 +1,171 @@
+//! How the calls of a random run are drawn.
+use super::aggregates::DRAWN;
+use super::plain::Plain;
+use crate::call::{Call, DrawnRow, Value};
+use far_random::Draws;
+use far_types::Kind;
+
+/// The kinds of the columns.
+pub const KINDS: [Kind; 4] = [Kind::Int, Kind::Text, Kind::Int, Kind::Text];
+
+/// How many columns there are.
+pub const COLUMNS: u32 = 4;
+
+/// How many places a row group has.
+pub const SIZE: u32 = 3;
+
+/// How many places there are at most.
+pub const PLACES: u32 = 18;
+
+/// Numbers that are drawn, ascending behind the first.
+static NUMBERS: [Value; 10] = [
+    Value::Missing,
+    Value::Int(-4),
+    Value::Int(-3),
+    Value::Int(-2),
+    Value::Int(-1),
+    Value::Int(0),
+    Value::Int(1),
+    Value::Int(2),
+    Value::Int(3),
+    Value::Int(4),
+];
+
+/// Texts that are drawn, ascending behind the first. Three of the longest are too long for a text object.
+static TEXTS: [Value; 6] = [
+    Value::Missing,
+    Value::Text(""),
+    Value::Text("fig"),
+    Value::Text("pear"),
+    Value::Text("plum of a tree of old"),
+    Value::Text("quince"),
+];
+
+/// All values that are drawn of a kind.
+pub fn values_of(kind: Kind) -> &'static [Value] {
+    match kind {
+        Kind::Int => &NUMBERS,
+        Kind::Text => &TEXTS,
+    }
+}
+
+/// The kind of a column; of numbers where there is none.
+pub fn kind_of(column: u32) -> Kind {
+    KINDS.get(column as usize).copied().unwrap_or(Kind::Int)
+}
+
+/// A value of a column, one time in twenty of the other kind.
+fn drawn_value(draws: &mut Draws, column: u32) -> Value {
+    let kind = match (draws.below(20), kind_of(column)) {
+        (0, Kind::Int) => Kind::Text,
+        (0, Kind::Text) => Kind::Int,
+        (_, kind) => kind,
+    };
+    let values = values_of(kind);
+    let count = u32::try_from(values.len()).unwrap_or(0);
+    let at = draws.below(count) as usize;
+    values.get(at).copied().unwrap_or(Value::Missing)
+}
+
+fn drawn_row(draws: &mut Draws, width: u32) -> DrawnRow {
+    DrawnRow {
+        first: drawn_value(draws, 0),
+        second: drawn_value(draws, 1),
+        third: drawn_value(draws, 2),
+        fourth: drawn_value(draws, 3),
+        width,
+    }
+}
+
+/// One edit. It may name a place and a column that are not there.
+fn drawn_edit(draws: &mut Draws, len: u32) -> Call {
+    let place = draws.below(len.saturating_add(1));
+    let column = draws.below(33) / 8;
+    match draws.below(20) {
+        0 => Call::Remove(place),
+        1 => Call::InsertDrawn(drawn_row(draws, 3)),
+        2..=11 => Call::InsertDrawn(drawn_row(draws, COLUMNS)),
+        _ => Call::Set(place, column, drawn_value(draws, column)),
+    }
+}
+
+/// A step about aggregates.
+fn drawn_asking(draws: &mut Draws, len: u32) -> Call {
+    let a = draws.below(34);
+    let group = draws.below(len.saturating_add(4)) / SIZE;
+    match draws.below(16) {
+        0..=4 => match DRAWN.get(draws.below(12) as usize) {
+            Some(watched) => Call::Watch(*watched),
+            None => Call::Ask(a),
+        },
+        5 => Call::Unwatch(a),
+        6 | 7 => Call::Ask(a),
+        8..=11 => Call::Scan(a, group),
+        _ => Call::Offload(a, group),
+    }
+}
+
+/// A step that moves objects, or lends them, but for the later ones of jobs.
+fn drawn_move(draws: &mut Draws, len: u32) -> Call {
+    let column = draws.below(33) / 8;
+    let group = draws.below(len.saturating_add(3)) / SIZE;
+    match draws.below(32) {
+        0..=9 => Call::Evac(column, group),
+        10..=17 => Call::Fetch(column, group),
+        18 | 19 => Call::Pin(column, group),
+        20 | 21 => Call::Unpin(column, group),
+        22 | 23 => Call::Compact(kind_of(draws.below(2)), draws.below(15)),
+        24 | 25 => Call::Prefetch(column),
+        _ => drawn_lending(draws, column, len),
+    }
+}
+
+/// Mostly a part of a row group, the first places of the next ones in turn.
+fn drawn_lending(draws: &mut Draws, column: u32, len: u32) -> Call {
+    let from = draws.below(len.saturating_add(1));
+    let to = from.saturating_add(draws.below(5));
+    match draws.below(8) {
+        0 => Call::Lend(column, to, from),
+        _ => Call::Lend(column, from, to),
+    }
+}
+
+/// A later step of a job, mostly of one of the last that were begun and of its kind.
+fn drawn_work(draws: &mut Draws, plain: &Plain) -> Call {
+    let back = u64::from(draws.below(6));
+    let n = plain.begun.wrapping_sub(back);
+    match draws.below(16) {
+        0..=6 => Call::Carry(n),
+        7 => Call::Commit(n),
+        8 => Call::Install(n),
+        9 => Call::Merge(n),
+        _ => plain.end_of(n),
+    }
+}
+
+/// The next step. It may name what is not there.
+pub fn drawn_call(draws: &mut Draws, plain: &Plain) -> Call {
+    let len = plain.len;
+    match draws.below(20) {
+        0..=5 => drawn_edit(draws, len),
+        6..=8 => drawn_asking(draws, len),
+        9..=12 => drawn_move(draws, len),
+        _ => drawn_work(draws, plain),
+    }
+}
+
+/// Of each kind of look, that of a number, if there is one. Together they show all of a table that calls tell.
+pub fn look(kind: u32, n: u32) -> Option<Call> {
+    let (column, group) = (n % COLUMNS, n / COLUMNS);
+    match kind {
+        0 if n <= PLACES => Some(Call::Row(n)),
+        1 if n <= PLACES => Some(Call::IsAlive(n)),
+        2 if n < 35 => Some(Call::MayEvac(n % 5, n / 5)),
+        3 => Some(Call::MayScan(n / 7, n % 7)),
+        4 => Some(Call::MayOffload(n / 7, n % 7)),
+        5 if n <= 32 => Some(Call::Ask(n)),
+        6 if n < COLUMNS => Some(Call::Prefetch(n)),
+        7 if group < PLACES / SIZE => Some(Call::Repin(column, group)),
+        _ => None,
+    }
+}
