@@ -3,6 +3,7 @@ use Rattle.std.proofs.Common.{inl, inr, ◌≡◌, ◌≢◌, ℕ, zero, suc, �
 use Rattle.std.specs.Prelude.{◌==◌, IsSome, option_map}
 use Rattle.std.proofs.lemmas.Bool.Decides.{eqb_tells}
 use Rattle.std.proofs.lemmas.List.{length-map}
+use Rattle.std.proofs.lemmas.Option.{none-some}
 use Rattle.std.proofs.Math.Seq.{take-append_seam}
 use Rattle.far_types.specs.declared.cell.Cell.{Cell}
 use Rattle.far_types.specs.Cells.{Cells, cells_of}
@@ -73,6 +74,16 @@ pub goes-back : (g : ℕ) (old mid new : List Slot) (pending : Pending) → Keep
 goes-back g old mid new pending before at len may is = record {
   may = record { len = omega arith; may = subst (λ n. EachMayBack n (length new) new pending.came.items) (sym at) may };
   kept = λ size places h. subst (Keeps size places) (sym (ap (λ n. zip_all (back n) new pending.came.items) at ∙ is)) (before size places h);
+}
+
+-- where nothing came, nothing goes back
+pub nothing-goes-back : (slots : List Slot) (pending : Pending) → slots ≡ [] → pending.came.items ≡ [] → GoesBack slots slots pending
+nothing-goes-back slots pending empty none = record {
+  may = record {
+    len = omega (arith, ap length none);
+    may = λ k s c within at there. absurd (none-some c (sym (ap (λ l. slice_get l k) none) ∙ there));
+  };
+  kept = λ size places h. subst (λ (s : List Slot). Keeps size places (zip_all (back pending.group) s pending.came.items)) (sym empty) tt;
 }
 
 -- what is to go can go where a place x becomes f x

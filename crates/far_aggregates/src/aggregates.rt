@@ -207,6 +207,10 @@ impl Aggregates {
         ensures registered { registered_of self.new ≡ registered_of self.old }
         ensures memory { IfErr result (λ e. e ≡ Refusal.NoMemory) }
     {
+        // Rows of a table without aggregates are not asked for what they give.
+        if self.slots.is_empty() {
+            return Ok(Pending::nothing(alloc));
+        }
         let group = (place / size as usize) as u32;
         let Pending { came, mut gone, .. } = mem::replace(&mut self.spare, Pending::nothing(alloc));
         let slots = self.slots.as_mut_slice();

@@ -1,4 +1,6 @@
 // What an edit has begun in the aggregates.
+ghost use Rattle.std.specs.Prelude.{◌≡◌, []};
+
 use super::changes::Pair;
 use super::coming::Coming;
 use std::alloc::Global;
@@ -14,7 +16,9 @@ pub struct Pending {
 
 impl Pending {
     /// Of no edit. Takes no memory.
-    pub(crate) fn nothing(alloc: Global) -> Pending {
+    pub(crate) fn nothing(alloc: Global) -> Pending
+        ensures came { result.came.items ≡ [] }
+    {
         Pending {
             group: 0,
             came: Vec::new(alloc),

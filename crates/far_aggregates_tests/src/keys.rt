@@ -10,6 +10,9 @@ pub enum Name {
     Word(&'static str),
 }
 
+/// A row of a table: the name of its key, and its value.
+pub type Row = (Name, i64);
+
 /// A row as it is given to an aggregate: a key, if it has one, and a value.
 pub type Pair = (Option<Key>, i64);
 
@@ -31,7 +34,7 @@ pub fn is_named(key: &Option<Key>, name: Name) -> bool {
 }
 
 /// These rows.
-pub fn pairs(alloc: Global, table: &[(Name, i64)]) -> Result<Vec<Pair>, Refusal> {
+pub fn pairs(alloc: Global, table: &[Row]) -> Result<Vec<Pair>, Refusal> {
     let mut pairs = Vec::new(alloc);
     for (name, value) in table {
         pairs.push((key_of(alloc, *name)?, *value))?;

@@ -2,12 +2,11 @@
 ghost use Rattle.std.specs.Prelude.{◌≡◌, OnOk};
 ghost use Rattle.far_extrema.specs.Live.{with_room, HasRoomFor};
 
-use crate::extrema::{group_of, is_answer};
-use crate::keys::{Name, key_of};
+use crate::extrema::{Line, group_of, is_answer};
+use crate::keys::{Name, Row, key_of};
 use far_extrema::{GroupExtrema, LiveExtrema};
 use far_types::{Answer, Key, Refusal};
 use std::alloc::Global;
-use std::test::Fail;
 
 /// The answer, at the second call where the first is refused.
 fn answer(alloc: Global, live: &LiveExtrema) -> Result<Answer, Refusal> {
@@ -17,18 +16,9 @@ fn answer(alloc: Global, live: &LiveExtrema) -> Result<Answer, Refusal> {
     }
 }
 
-fn has_lines(
-    alloc: Global,
-    live: &LiveExtrema,
-    table: &[(Name, i64, i64)],
-) -> Result<bool, Refusal> {
-    Ok(is_answer(&answer(alloc, live)?, table))
-}
-
 #[test]
 fn extrema_are_told_once_their_row_groups_are_in(rt: HostRuntime) {
-    let live = LiveExtrema::new(rt.alloc(), 1);
-    let told = live.answer(rt.alloc());
+    let told = LiveExtrema::new(rt.alloc(), 1).answer(rt.alloc());
     assert!(rt; matches!(&told, Err(Refusal::Building(1))));
 }
 
@@ -44,10 +34,10 @@ fn make_room_for(live: &mut LiveExtrema, group: u32, extrema: &GroupExtrema) -> 
     }
 }
 
-/// Extrema that waited for a row group of two rows, once these are merged.
-fn merged(alloc: Global) -> Result<LiveExtrema, Refusal> {
+/// Extrema that waited for the first row group, once its rows are merged.
+fn merged(alloc: Global, rows: &[Row]) -> Result<LiveExtrema, Refusal> {
     let mut live = LiveExtrema::new(alloc, 1);
-    let rows = group_of(alloc, &[(Name::Nobody, 3), (Name::Nobody, 4)])?;
+    let rows = group_of(alloc, rows)?;
     make_room_for(&mut live, 0, &rows)?;
     live.merge(0, rows);
     Ok(live)
@@ -58,7 +48,7 @@ fn set_rows(
     alloc: Global,
     live: &mut LiveExtrema,
     group: u32,
-    rows: &[(Name, i64)],
+    rows: &[Row],
 ) -> Result<(), Refusal> {
     let rows = group_of(alloc, rows)?;
     make_room_for(live, group, &rows)?;
@@ -66,73 +56,76 @@ fn set_rows(
     Ok(())
 }
 
-/// Whether the answer has these lines once the first row group has these rows.
-fn has_lines_replaced(
-    alloc: Global,
-    live: &mut LiveExtrema,
-    rows: &[(Name, i64)],
-    table: &[(Name, i64, i64)],
-) -> Result<bool, Refusal> {
-    set_rows(alloc, live, 0, rows)?;
-    has_lines(alloc, live, table)
+/// Row groups, and the lines of the answer to them.
+struct Groups {
+    name: &'static str,
+    /// The rows of the first one, which is merged.
+    merged: &'static [Row],
+    /// The rows of one that is set then.
+    set: (u32, &'static [Row]),
+    lines: &'static [Line],
 }
 
-#[test]
-fn a_group_is_merged(rt: HostRuntime) -> Result<(), Fail> {
-    let live = merged(rt.alloc())?;
-    assert!(rt; live.left() == 0);
-    assert!(rt; has_lines(rt.alloc(), &live, &[(Name::Nobody, 3, 4)])?);
-    Ok(())
+impl Groups {
+    fn has_lines(&self, alloc: Global) -> Result<bool, Refusal> {
+        let mut live = merged(alloc, self.merged)?;
+        let (group, rows) = self.set;
+        set_rows(alloc, &mut live, group, rows)?;
+        Ok(live.left() == 0 && is_answer(&answer(alloc, &live)?, self.lines))
+    }
 }
 
-/// Whether the first row group is replaced by one row, and by none.
-fn is_replaced(alloc: Global, live: &mut LiveExtrema) -> Result<bool, Refusal> {
-    let one_row = has_lines_replaced(alloc, live, &[(Name::Nobody, 4)], &[(Name::Nobody, 4, 4)])?;
-    Ok(one_row && has_lines_replaced(alloc, live, &[], &[])?)
-}
-
-#[test]
-fn a_merged_group_is_replaced(rt: HostRuntime) -> Result<(), Fail> {
-    let mut live = merged(rt.alloc())?;
-    assert!(rt; is_replaced(rt.alloc(), &mut live)?);
-    Ok(())
-}
-
-static FIRST_GROUP: [(Name, i64); 3] = [
-    (Name::Number(7), i64::MAX),
-    (Name::Word("b"), 1),
-    (Name::Number(7), -5),
+static GROUPS: [Groups; 4] = [
+    Groups {
+        name: "a group is merged",
+        merged: &[(Name::Nobody, 3), (Name::Nobody, 4)],
+        set: (1, &[]),
+        lines: &[(Name::Nobody, 3, 4)],
+    },
+    Groups {
+        name: "a merged group is replaced",
+        merged: &[(Name::Nobody, 3), (Name::Nobody, 4)],
+        set: (0, &[(Name::Nobody, 4)]),
+        lines: &[(Name::Nobody, 4, 4)],
+    },
+    Groups {
+        name: "a merged group is replaced by one without rows",
+        merged: &[(Name::Nobody, 3), (Name::Nobody, 4)],
+        set: (0, &[]),
+        lines: &[],
+    },
+    // The second row group has no row.
+    Groups {
+        name: "keys of all groups ascend, each with the extremes of all",
+        merged: &[
+            (Name::Number(7), i64::MAX),
+            (Name::Word("b"), 1),
+            (Name::Number(7), -5),
+        ],
+        set: (
+            2,
+            &[
+                (Name::Word("ab"), 2),
+                (Name::Number(-2), i64::MIN),
+                (Name::Word("b"), -4),
+                (Name::Number(7), 6),
+            ],
+        ),
+        lines: &[
+            (Name::Number(-2), i64::MIN, i64::MIN),
+            (Name::Number(7), -5, i64::MAX),
+            (Name::Word("ab"), 2, 2),
+            (Name::Word("b"), -4, 1),
+        ],
+    },
 ];
 
-static LAST_GROUP: [(Name, i64); 4] = [
-    (Name::Word("ab"), 2),
-    (Name::Number(-2), i64::MIN),
-    (Name::Word("b"), -4),
-    (Name::Number(7), 6),
-];
-
-static ALL_LINES: [(Name, i64, i64); 4] = [
-    (Name::Number(-2), i64::MIN, i64::MIN),
-    (Name::Number(7), -5, i64::MAX),
-    (Name::Word("ab"), 2, 2),
-    (Name::Word("b"), -4, 1),
-];
-
-/// The extrema of three row groups, of which the second has no row.
-fn three_groups(alloc: Global) -> Result<LiveExtrema, Refusal> {
-    let mut live = LiveExtrema::new(alloc, 0);
-    live.make_room(2);
-    live.make_room(1);
-    set_rows(alloc, &mut live, 0, &FIRST_GROUP)?;
-    set_rows(alloc, &mut live, 2, &LAST_GROUP)?;
-    Ok(live)
-}
-
 #[test]
-fn keys_of_all_groups_ascend_each_with_the_extremes_of_all(rt: HostRuntime) -> Result<(), Fail> {
-    let live = three_groups(rt.alloc())?;
-    assert!(rt; has_lines(rt.alloc(), &live, &ALL_LINES)?);
-    Ok(())
+fn row_groups_have_the_lines_of_all_their_rows(rt: HostRuntime) {
+    for groups in &GROUPS {
+        let name = groups.name;
+        assert!(rt; groups.has_lines(rt.alloc()) == Ok(true), "{name}");
+    }
 }
 
 /// Whether what stands under a key of row group 1 follows two rows, is put back to the first and follows another.
@@ -150,20 +143,15 @@ fn follows_rows(live: &mut LiveExtrema, key: &Option<Key>) -> Result<bool, Refus
     Ok(before.is_none() && live.span(1, key) == Some((-1, 4)))
 }
 
-/// Whether the row groups around row group 1 have nothing under a key.
-fn is_absent_beside(live: &LiveExtrema, key: &Option<Key>) -> bool {
-    live.span(0, key).is_none() && live.span(2, key).is_none()
-}
-
-/// Whether a span follows rows in its own row group alone.
-fn follows_rows_alone(alloc: Global, live: &mut LiveExtrema) -> Result<bool, Refusal> {
+/// Whether a span follows rows in its own row group, and the row groups around it have nothing under its key.
+fn follows_rows_alone(alloc: Global) -> Result<bool, Refusal> {
+    let mut live = LiveExtrema::new(alloc, 0);
     let key = key_of(alloc, Name::Word("a"))?;
-    Ok(follows_rows(live, &key)? && is_absent_beside(live, &key))
+    let follows = follows_rows(&mut live, &key)?;
+    Ok(follows && live.span(0, &key).is_none() && live.span(2, &key).is_none())
 }
 
 #[test]
-fn a_span_follows_a_row_and_is_put_back(rt: HostRuntime) -> Result<(), Fail> {
-    let mut live = LiveExtrema::new(rt.alloc(), 0);
-    assert!(rt; follows_rows_alone(rt.alloc(), &mut live)?);
-    Ok(())
+fn a_span_follows_a_row_and_is_put_back(rt: HostRuntime) {
+    assert!(rt; follows_rows_alone(rt.alloc()) == Ok(true));
 }

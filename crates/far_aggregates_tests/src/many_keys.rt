@@ -1,5 +1,5 @@
 // Totals of many keys, joined to others.
-ghost use Rattle.std.specs.Prelude.{◌≡◌, ◌≢◌, ◌≤◌, Option, IfOk};
+ghost use Rattle.std.specs.Prelude.{◌≡◌, ◌≤◌, Option, IfOk};
 ghost use Rattle.std.specs.FinMap as fin;
 ghost use Rattle.far_types.specs.declared.key.Key.{Key};
 ghost use Rattle.far_types.specs.Changes.{count_in};
@@ -9,7 +9,6 @@ use crate::totals::{answer, live_of, merge};
 use far_groups::LiveTotals;
 use far_types::{Answer, Key, Refusal, Text, TotalLines};
 use std::alloc::Global;
-use std::test::Fail;
 
 /// So many keys, each this far from the next.
 type Spread = (i64, i64);
@@ -55,37 +54,13 @@ fn lines_of(alloc: Global, live: &LiveTotals) -> Result<TotalLines, Refusal> {
     }
 }
 
-/// Whether the totals are those of a row for each key of each spread.
-fn are_of_rows(
-    alloc: Global,
-    live: &LiveTotals,
-    texts: bool,
-    spreads: &[Spread],
-) -> Result<bool, Refusal> {
-    let all = live_rows(alloc, 0, texts, spreads)?;
-    let expected = lines_of(alloc, &all)?;
-    Ok(lines_of(alloc, live)?.as_slice() == expected.as_slice())
-}
-
-/// Merges the rows of a spread. Says whether a refused call left what it found.
-fn merge_rows(
-    alloc: Global,
-    live: &mut LiveTotals,
-    texts: bool,
-    spread: Spread,
-) -> Result<bool, Refusal>
-    requires left { live.old.left ≢ 0 }
-    requires few { (key : Option Key) → count_in (fin.get live.old.totals key) ≤ 300 }
-{
-    let partial = live_rows(alloc, 0, texts, &[spread])?;
-    merge(live, &partial)
-}
-
 /// Whether the rows of one spread, merged to those of another, have the totals of all of them.
 fn are_joined(alloc: Global, texts: bool, here: Spread, there: Spread) -> Result<bool, Refusal> {
     let mut live = live_rows(alloc, 1, texts, &[here])?;
-    let kept = merge_rows(alloc, &mut live, texts, there)?;
-    Ok(kept && are_of_rows(alloc, &live, texts, &[here, there])?)
+    let kept = merge(&mut live, &live_rows(alloc, 0, texts, &[there])?)?;
+    let all = live_rows(alloc, 0, texts, &[here, there])?;
+    let expected = lines_of(alloc, &all)?;
+    Ok(kept && lines_of(alloc, &live)?.as_slice() == expected.as_slice())
 }
 
 static SPREADS: [(Spread, Spread); 6] = [
@@ -98,23 +73,13 @@ static SPREADS: [(Spread, Spread); 6] = [
 ];
 
 #[test]
-fn two_maps_of_many_numbers_are_joined_as_row_by_row(rt: HostRuntime) -> Result<(), Fail> {
+fn two_maps_of_many_numbers_or_texts_are_joined_as_row_by_row(rt: HostRuntime) {
     for (here, there) in &SPREADS {
-        assert!(rt;
-            are_joined(rt.alloc(), false, *here, *there)?,
-            "{here:?} {there:?}"
-        );
+        for texts in [false, true] {
+            assert!(rt;
+                are_joined(rt.alloc(), texts, *here, *there) == Ok(true),
+                "{here:?} {there:?}, as texts: {texts}"
+            );
+        }
     }
-    Ok(())
-}
-
-#[test]
-fn two_maps_of_many_texts_are_joined_as_row_by_row(rt: HostRuntime) -> Result<(), Fail> {
-    for (here, there) in &SPREADS {
-        assert!(rt;
-            are_joined(rt.alloc(), true, *here, *there)?,
-            "{here:?} {there:?}"
-        );
-    }
-    Ok(())
 }

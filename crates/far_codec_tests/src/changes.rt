@@ -1,14 +1,13 @@
 // Forms made from forms in which one text changes.
 ghost use Rattle.far_codec.specs.TextForm.{IsTextsForm};
 
-use crate::forms::{E_ACUTE, THREE_TEXTS, kind_of_rewritten};
+use crate::case::{Case, holds};
+use crate::forms::{E_ACUTE, THREE_TEXTS};
 use far_codec::{
-    Elem, Values, count_texts, decode, form_of, form_with, form_with_next, length_with,
-    length_with_next,
+    Elem, count_texts, form_of, form_with, form_with_next, length_with, length_with_next,
 };
-use far_types::{Kind, Refusal, Text};
+use far_types::{Refusal, Text};
 use std::alloc::Global;
-use std::test::Fail;
 
 /// The text of a word, or one that is missing.
 fn text(alloc: Global, word: Option<&str>) -> Result<Option<Text>, Refusal> {
@@ -38,194 +37,201 @@ fn changed_texts(
 }
 
 /// As `changed_texts`, of bytes that may be no form.
-pub fn changed_form(
-    alloc: Global,
-    bytes: &[u8],
-    i: usize,
-    text: &Option<Text>,
-) -> Result<Vec<u8>, Refusal> {
+fn changed(alloc: Global, bytes: &[u8], i: usize, word: Option<&str>) -> Result<Vec<u8>, Refusal> {
+    let text = text(alloc, word)?;
     match <u8 as Elem>::unspell(alloc, bytes)? {
-        Some(form) => changed_texts(alloc, form.as_slice(), i, text),
+        Some(form) => changed_texts(alloc, form.as_slice(), i, &text),
         None => Ok(Vec::new(alloc)),
     }
 }
 
-fn is_word(text: &Option<Text>, word: Option<&str>) -> bool {
-    match (text, word) {
-        (Some(text), Some(word)) => text.as_str() == word,
-        (None, None) => true,
-        _ => false,
+/// A form made by hand, a text of it that changes, and the form that it is then.
+struct Change {
+    from: &'static [u8],
+    at: usize,
+    word: Option<&'static str>,
+    to: &'static [u8],
+}
+
+impl Case for Change {
+    fn is_right(&self, alloc: Global) -> Result<bool, Refusal> {
+        let form = changed(alloc, self.from, self.at, self.word)?;
+        Ok(form.as_slice() == self.to)
     }
 }
 
-fn are_words(texts: &[Option<Text>], words: &[Option<&str>]) -> bool {
-    if texts.len() != words.len() {
-        return false;
-    }
-    for i in 0..texts.len() {
-        if !is_word(&texts[i], words[i]) {
-            return false;
-        }
-    }
-    true
-}
+const LAST_MISSING: &[u8] = &[2, 1, 3, 0, 0, 0, 4, 1, 0, 0, 0, 1, 0, 0, 0, 1, 0, 0, 0, 97];
 
-/// Whether the values that are read from the bytes are these words.
-fn are_values(alloc: Global, bytes: &[u8], words: &[Option<&str>]) -> Result<bool, Refusal> {
-    match decode(alloc, bytes)? {
-        Some(Values::Texts(list)) => Ok(are_words(list.as_slice(), words)),
-        _ => Ok(false),
-    }
-}
+const OUTER_MISSING: &[u8] = &[2, 1, 3, 0, 0, 0, 5, 0, 0, 0, 0, 0, 0, 0, 0, 0, 0, 0, 0];
 
-/// Whether the bytes are the one form of these words.
-fn is_form_of(alloc: Global, bytes: &[u8], words: &[Option<&str>]) -> Result<bool, Refusal> {
-    let kind = kind_of_rewritten(alloc, bytes)?;
-    Ok(kind == Some(Kind::Text) && are_values(alloc, bytes, words)?)
-}
+const FIRST_MISSING: &[u8] = &[
+    2, 1, 3, 0, 0, 0, 1, 0, 0, 0, 0, 0, 0, 0, 0, 2, 0, 0, 0, 98, 99,
+];
 
-/// The form once text `i` is that word, if this is the form of all the words.
-fn changed(
-    alloc: Global,
-    form: &[u8],
-    i: usize,
-    words: &[Option<&str>],
-) -> Result<Option<Vec<u8>>, Refusal> {
-    let Some(word) = words.get(i) else {
-        return Ok(None);
-    };
-    let form = changed_form(alloc, form, i, &text(alloc, *word)?)?;
-    if is_form_of(alloc, form.as_slice(), words)? {
-        return Ok(Some(form));
-    }
-    Ok(None)
-}
+const ONE_MISSING: &[u8] = &[2, 1, 1, 0, 0, 0, 1, 0, 0, 0, 0];
 
-/// Which text changes, and the words of all once it did.
-type Change = (usize, &'static [Option<&'static str>]);
+/// No text, none, "b", "c", none, "d", "e" and none.
+const EIGHT_TEXTS: &[u8] = &[
+    2, 1, 8, 0, 0, 0, 147, 0, 0, 0, 0, 0, 0, 0, 0, 1, 0, 0, 0, 2, 0, 0, 0, 2, 0, 0, 0, 3, 0, 0, 0,
+    4, 0, 0, 0, 4, 0, 0, 0, 98, 99, 100, 101,
+];
 
-/// The form once each change is made to what the one before it made, if each is as it should be.
-fn changed_in_turn(
-    alloc: Global,
-    form: &[u8],
-    changes: &[Change],
-) -> Result<Option<Vec<u8>>, Refusal> {
-    let mut form = Vec::from_slice(alloc, form)?;
-    for (i, words) in changes {
-        match changed(alloc, form.as_slice(), *i, words)? {
-            Some(new) => form = new,
-            None => return Ok(None),
-        }
-    }
-    Ok(Some(form))
-}
+/// The same and one more that is missing.
+const NINE_TEXTS: &[u8] = &[
+    2, 1, 9, 0, 0, 0, 147, 1, 0, 0, 0, 0, 0, 0, 0, 0, 1, 0, 0, 0, 2, 0, 0, 0, 2, 0, 0, 0, 3, 0, 0,
+    0, 4, 0, 0, 0, 4, 0, 0, 0, 4, 0, 0, 0, 98, 99, 100, 101,
+];
 
-/// Whether the changes, each made to what the one before it made, lead to these bytes.
-fn lead_to(alloc: Global, form: &[u8], changes: &[Change], bytes: &[u8]) -> Result<bool, Refusal> {
-    match changed_in_turn(alloc, form, changes)? {
-        Some(form) => Ok(form.as_slice() == bytes),
-        None => Ok(false),
-    }
-}
-
-static CHANGES: [Change; 5] = [
-    (0, &[Some("longer"), Some(""), Some("bc")]),
-    (0, &[Some(""), Some(""), Some("bc")]),
-    (1, &[Some("a"), Some("é"), Some("bc")]),
-    (2, &[Some("a"), Some(""), Some("b")]),
-    (3, &[Some("a"), Some(""), Some("bc"), Some("d")]),
+static CHANGES: [Change; 12] = [
+    Change {
+        from: THREE_TEXTS,
+        at: 0,
+        word: Some("longer"),
+        to: &[
+            1, 1, 3, 0, 0, 0, 6, 0, 0, 0, 6, 0, 0, 0, 8, 0, 0, 0, 108, 111, 110, 103, 101, 114, 98,
+            99,
+        ],
+    },
+    Change {
+        from: THREE_TEXTS,
+        at: 0,
+        word: Some(""),
+        to: &[1, 1, 3, 0, 0, 0, 0, 0, 0, 0, 0, 0, 0, 0, 2, 0, 0, 0, 98, 99],
+    },
+    Change {
+        from: THREE_TEXTS,
+        at: 1,
+        word: Some("é"),
+        to: &[
+            1, 1, 3, 0, 0, 0, 1, 0, 0, 0, 3, 0, 0, 0, 5, 0, 0, 0, 97, 195, 169, 98, 99,
+        ],
+    },
+    Change {
+        from: THREE_TEXTS,
+        at: 2,
+        word: Some("b"),
+        to: &[1, 1, 3, 0, 0, 0, 1, 0, 0, 0, 1, 0, 0, 0, 2, 0, 0, 0, 97, 98],
+    },
+    Change {
+        from: THREE_TEXTS,
+        at: 3,
+        word: Some("d"),
+        to: &[
+            1, 1, 4, 0, 0, 0, 1, 0, 0, 0, 1, 0, 0, 0, 3, 0, 0, 0, 4, 0, 0, 0, 97, 98, 99, 100,
+        ],
+    },
+    Change {
+        from: THREE_TEXTS,
+        at: 3,
+        word: None,
+        to: &[
+            2, 1, 4, 0, 0, 0, 8, 1, 0, 0, 0, 1, 0, 0, 0, 3, 0, 0, 0, 3, 0, 0, 0, 97, 98, 99,
+        ],
+    },
+    // The mask comes with the first missing text ..
+    Change {
+        from: THREE_TEXTS,
+        at: 2,
+        word: None,
+        to: LAST_MISSING,
+    },
+    Change {
+        from: LAST_MISSING,
+        at: 0,
+        word: None,
+        to: OUTER_MISSING,
+    },
+    Change {
+        from: OUTER_MISSING,
+        at: 2,
+        word: Some("bc"),
+        to: FIRST_MISSING,
+    },
+    // .. and goes with the last.
+    Change {
+        from: FIRST_MISSING,
+        at: 0,
+        word: Some("a"),
+        to: THREE_TEXTS,
+    },
+    Change {
+        from: ONE_MISSING,
+        at: 1,
+        word: None,
+        to: &[2, 1, 2, 0, 0, 0, 3, 0, 0, 0, 0, 0, 0, 0, 0],
+    },
+    // The mask grows a byte with the ninth text.
+    Change {
+        from: EIGHT_TEXTS,
+        at: 8,
+        word: None,
+        to: NINE_TEXTS,
+    },
 ];
 
 #[test]
-fn a_changed_text_stands_in_a_form_of_the_changed_list(rt: HostRuntime) -> Result<(), Fail> {
-    for (i, words) in &CHANGES {
-        assert!(rt;
-            changed(rt.alloc(), &THREE_TEXTS, *i, words)?.is_some(),
-            "{words:?}"
-        );
-    }
-    Ok(())
-}
-
-static MASKED: [Change; 1] = [(2, &[Some("a"), Some(""), None])];
-
-static MASKED_AND_BACK: [Change; 4] = [
-    (2, &[Some("a"), Some(""), None]),
-    (0, &[None, Some(""), None]),
-    (2, &[None, Some(""), Some("bc")]),
-    (0, &[Some("a"), Some(""), Some("bc")]),
-];
-
-#[test]
-fn the_mask_comes_with_the_first_missing_text_and_goes_with_the_last(
-    rt: HostRuntime,
-) -> Result<(), Fail> {
-    let masked = [2, 1, 3, 0, 0, 0, 4, 1, 0, 0, 0, 1, 0, 0, 0, 1, 0, 0, 0, 97];
-    assert!(rt; lead_to(rt.alloc(), &THREE_TEXTS, &MASKED, &masked)?);
-    assert!(rt; lead_to(rt.alloc(), &THREE_TEXTS, &MASKED_AND_BACK, &THREE_TEXTS)?);
-    Ok(())
-}
-
-/// The form of words of which the first is missing, put one behind the other, if each form on the way is as it should be.
-fn grown(alloc: Global, words: &[Option<&str>]) -> Result<Option<Vec<u8>>, Refusal> {
-    let mut form = form_of(alloc, &None)?;
-    for i in 1..words.len() {
-        match changed(alloc, form.as_slice(), i, &words[..=i])? {
-            Some(new) => form = new,
-            None => return Ok(None),
-        }
-    }
-    Ok(Some(form))
-}
-
-static EIGHT_WORDS: [Option<&str>; 8] = [
-    None,
-    None,
-    Some("b"),
-    Some("c"),
-    None,
-    Some("d"),
-    Some("e"),
-    None,
-];
-
-/// The form of the eight words with a missing one behind them; no bytes where a form on the way is another.
-fn nine_texts(alloc: Global) -> Result<Vec<u8>, Refusal> {
-    match grown(alloc, &EIGHT_WORDS)? {
-        Some(eight) => changed_form(alloc, eight.as_slice(), 8, &None),
-        None => Ok(Vec::new(alloc)),
+fn a_changed_text_stands_in_the_form_of_the_changed_list(rt: HostRuntime) {
+    for case in &CHANGES {
+        let (at, word) = (case.at, case.word);
+        assert!(rt; holds(rt.alloc(), case), "{word:?} at {at}");
     }
 }
 
-#[test]
-fn eight_texts_have_a_mask_of_one_byte(rt: HostRuntime) -> Result<(), Fail> {
-    let Some(eight) = grown(rt.alloc(), &EIGHT_WORDS)? else {
-        return Err("each form on the way is that of its words".into());
-    };
-    assert_eq!(rt; eight.len(), 6 + 1 + 32 + 4);
-    Ok(())
-}
-
-#[test]
-fn the_mask_grows_a_byte_with_the_ninth_text(rt: HostRuntime) -> Result<(), Fail> {
-    let nine = nine_texts(rt.alloc())?;
-    assert_eq!(rt; nine.len(), 6 + 2 + 36 + 4);
-    assert!(rt; nine[6] == 147 && nine[7] == 1);
-    Ok(())
-}
-
-/// The form of a short text.
-fn short_form(alloc: Global, word: &str) -> Result<Vec<u8>, Refusal> {
-    let text = text(alloc, Some(word))?;
+/// The form of one text that is short or missing.
+fn one_text(alloc: Global, word: Option<&str>) -> Result<Vec<u8>, Refusal> {
+    let text = text(alloc, word)?;
     match &text {
         Some(short) if short.len() < 100 => form_of(alloc, &text),
-        _ => Ok(Vec::new(alloc)),
+        Some(_) => Ok(Vec::new(alloc)),
+        None => form_of(alloc, &text),
     }
 }
 
+/// Texts that are put one behind the other, and their form.
+struct Growth {
+    first: Option<&'static str>,
+    others: &'static [Option<&'static str>],
+    to: &'static [u8],
+}
+
+impl Case for Growth {
+    fn is_right(&self, alloc: Global) -> Result<bool, Refusal> {
+        let mut form = one_text(alloc, self.first)?;
+        for (i, word) in self.others.iter().enumerate() {
+            form = changed(alloc, form.as_slice(), i + 1, *word)?;
+        }
+        Ok(form.as_slice() == self.to)
+    }
+}
+
+static GROWTHS: [Growth; 4] = [
+    Growth {
+        first: Some("é"),
+        others: &[],
+        to: E_ACUTE,
+    },
+    Growth {
+        first: None,
+        others: &[],
+        to: ONE_MISSING,
+    },
+    // Eight texts have a mask of one byte.
+    Growth {
+        first: None,
+        others: &[None, Some("b"), Some("c"), None, Some("d"), Some("e"), None],
+        to: EIGHT_TEXTS,
+    },
+    Growth {
+        first: Some("a"),
+        others: &[Some(""), Some("bc")],
+        to: THREE_TEXTS,
+    },
+];
+
 #[test]
-fn one_text_has_a_form(rt: HostRuntime) -> Result<(), Fail> {
-    let form = short_form(rt.alloc(), "é")?;
-    assert!(rt; form.as_slice() == E_ACUTE.as_slice());
-    Ok(())
+fn texts_put_one_behind_the_other_have_their_form(rt: HostRuntime) {
+    for case in &GROWTHS {
+        let (first, others) = (case.first, case.others);
+        assert!(rt; holds(rt.alloc(), case), "{first:?} {others:?}");
+    }
 }

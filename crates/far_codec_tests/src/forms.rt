@@ -1,23 +1,23 @@
 // Forms made by hand from the description of the format, and forms that are read and written again.
-use far_codec::{Values, decode, encode_ints, encode_texts};
+use far_codec::{Elem, Values, decode, encode_ints, encode_texts};
 use far_types::{Kind, Refusal};
 use std::alloc::Global;
 
-pub const ONE_AND_MINUS_ONE: [u8; 22] = [
+pub const ONE_AND_MINUS_ONE: &[u8] = &[
     1, 0, 2, 0, 0, 0, 1, 0, 0, 0, 0, 0, 0, 0, 255, 255, 255, 255, 255, 255, 255, 255,
 ];
 
-pub const ONE_AND_MISSING: [u8; 23] = [
+pub const ONE_AND_MISSING: &[u8] = &[
     2, 0, 2, 0, 0, 0, 2, 1, 0, 0, 0, 0, 0, 0, 0, 0, 0, 0, 0, 0, 0, 0, 0,
 ];
 
-pub const THREE_TEXTS: [u8; 21] = [
+pub const THREE_TEXTS: &[u8] = &[
     1, 1, 3, 0, 0, 0, 1, 0, 0, 0, 1, 0, 0, 0, 3, 0, 0, 0, 97, 98, 99,
 ];
 
-pub const E_ACUTE: [u8; 12] = [1, 1, 1, 0, 0, 0, 2, 0, 0, 0, 195, 169];
+pub const E_ACUTE: &[u8] = &[1, 1, 1, 0, 0, 0, 2, 0, 0, 0, 195, 169];
 
-pub const MISSING_AND_A: [u8; 16] = [2, 1, 2, 0, 0, 0, 1, 0, 0, 0, 0, 1, 0, 0, 0, 97];
+pub const MISSING_AND_A: &[u8] = &[2, 1, 2, 0, 0, 0, 1, 0, 0, 0, 0, 1, 0, 0, 0, 97];
 
 /// The kind of the values that are read from the bytes, if they are written as these bytes again.
 pub fn kind_of_rewritten(alloc: Global, bytes: &[u8]) -> Result<Option<Kind>, Refusal> {
@@ -30,4 +30,22 @@ pub fn kind_of_rewritten(alloc: Global, bytes: &[u8]) -> Result<Option<Kind>, Re
         return Ok(Some(kind));
     }
     Ok(None)
+}
+
+/// Whether these are the elements of an object where they are read from the bytes, and these bytes again.
+pub fn are_elements<T: Elem + PartialEq>(
+    alloc: Global,
+    bytes: &[u8],
+    list: &[T],
+) -> Result<bool, Refusal> {
+    let Some(read) = T::unspell(alloc, bytes)? else {
+        return Ok(false);
+    };
+    let form = T::spell(alloc, read.as_slice())?;
+    Ok(read.as_slice() == list && form.as_slice() == bytes && T::spells(bytes, list))
+}
+
+/// Whether the bytes spell no list of elements of an object.
+pub fn spells_none<T: Elem>(alloc: Global, bytes: &[u8]) -> Result<bool, Refusal> {
+    Ok(T::unspell(alloc, bytes)?.is_none())
 }

@@ -18,12 +18,9 @@ fn is_read_as_told(alloc: Global, bytes: &[u8]) -> Result<bool, Refusal> {
     Ok(kind_of_rewritten(alloc, bytes)? == kind)
 }
 
-/// Whether the bytes are read as told with one of them changed, cut off there, and then with one byte more.
-fn are_changes_read_as_told(
-    alloc: Global,
-    bytes: &mut Vec<u8>,
-    draws: &mut Draws,
-) -> Result<bool, Refusal> {
+/// Whether a form is read as told with one of its bytes changed, cut off there, and then with one byte more.
+fn is_changed_at_random(alloc: Global, form: &[u8], draws: &mut Draws) -> Result<bool, Refusal> {
+    let mut bytes = Vec::from_slice(alloc, form)?;
     let at = draws.index_or_end(bytes.len());
     if at < bytes.len() {
         bytes[at] = draws.below(4) as u8;
@@ -35,23 +32,18 @@ fn are_changes_read_as_told(
     Ok(changed && cut && is_read_as_told(alloc, bytes.as_slice())?)
 }
 
-/// Whether the form is read as told with random changes.
-fn is_changed_at_random(alloc: Global, form: &[u8], draws: &mut Draws) -> Result<bool, Refusal> {
-    let mut bytes = Vec::from_slice(alloc, form)?;
-    are_changes_read_as_told(alloc, &mut bytes, draws)
-}
+static FORMS: [&[u8]; 5] = [
+    ONE_AND_MINUS_ONE,
+    ONE_AND_MISSING,
+    THREE_TEXTS,
+    E_ACUTE,
+    MISSING_AND_A,
+];
 
 #[test]
 fn what_is_read_from_changed_forms_is_written_as_them(rt: HostRuntime) -> Result<(), Fail> {
-    let forms = [
-        ONE_AND_MINUS_ONE.as_slice(),
-        ONE_AND_MISSING.as_slice(),
-        THREE_TEXTS.as_slice(),
-        E_ACUTE.as_slice(),
-        MISSING_AND_A.as_slice(),
-    ];
     let mut draws = Draws::new(1);
-    for form in forms {
+    for form in &FORMS {
         for _ in 0..100 {
             assert!(rt; is_changed_at_random(rt.alloc(), form, &mut draws)?);
         }

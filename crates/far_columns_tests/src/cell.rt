@@ -31,24 +31,25 @@ impl Cell {
         Ok(Some(Text::new(string)))
     }
 
-    /// Whether this is its text.
+    /// Whether this is its text. Allocates nothing.
     pub fn is_text(self, text: Option<&str>) -> bool {
-        match (text, self) {
-            (Some(text), Cell::Text(letters, times)) => {
-                are_repeated(text.as_bytes(), letters.as_bytes(), times)
+        let (Cell::Text(letters, times), Some(text)) = (self, text) else {
+            return matches!(self, Cell::Missing) && text.is_none();
+        };
+        let letters = letters.as_bytes();
+        for (index, byte) in text.as_bytes().iter().enumerate() {
+            if letters.get(index % letters.len().max(1)) != Some(byte) {
+                return false;
             }
-            (None, Cell::Missing) => true,
-            _ => false,
         }
+        text.len() == letters.len().saturating_mul(times)
     }
-}
 
-// Whether bytes are so many times these letters.
-fn are_repeated(bytes: &[u8], letters: &[u8], times: usize) -> bool {
-    for (index, byte) in bytes.iter().enumerate() {
-        if letters.get(index % letters.len().max(1)) != Some(byte) {
-            return false;
+    /// How many bytes the text has; none where it is none.
+    pub fn bytes(self) -> usize {
+        match self {
+            Cell::Text(letters, times) => letters.len().saturating_mul(times),
+            _ => 0,
         }
     }
-    bytes.len() == letters.len().saturating_mul(times)
 }

@@ -9,8 +9,6 @@ mod cell;
 #[cfg(test)]
 mod columns;
 #[cfg(test)]
-mod coming_back;
-#[cfg(test)]
 mod lending;
 #[cfg(test)]
 mod moving;

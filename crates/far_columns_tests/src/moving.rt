@@ -6,6 +6,7 @@ ghost use Rattle.far_vector.specs.Vector.{IsVector};
 ghost use Rattle.far_columns.specs.Numbers.{number_lists};
 ghost use Rattle.far_texts.specs.Texts.{lists_of, IsTextColumn};
 
+use crate::script::Call;
 use far_codec::Elem;
 use far_columns::IntColumn;
 use far_fixtures::put;
@@ -16,8 +17,8 @@ use far_texts::TextColumn;
 use far_types::Refusal;
 use std::alloc::Global;
 
-/// Sends an object away, where it has no pin and may leave once more. Every object keeps its list.
-pub fn send_away<T: Elem, S: FarStore>(
+// Sends an object away, where it has no pin and may leave once more. Every object keeps its list.
+fn send_away<T: Elem, S: FarStore>(
     alloc: Global,
     objects: &mut Objects<T, S>,
     store: &S,
@@ -40,8 +41,8 @@ pub fn send_away<T: Elem, S: FarStore>(
     Ok(())
 }
 
-/// Brings an object back that is away. Every object keeps its list.
-pub fn bring_back<T: Elem, S: FarStore>(
+// Brings an object back that is away. Every object keeps its list.
+fn bring_back<T: Elem, S: FarStore>(
     alloc: Global,
     objects: &mut Objects<T, S>,
     store: &S,
@@ -66,37 +67,18 @@ pub fn bring_back<T: Elem, S: FarStore>(
     objects.arrive(o, &list)
 }
 
-/// Sends the object of a row group of numbers away.
-pub fn send_numbers_away<S: FarStore>(
+/// Sends the object of a row group of numbers away, or brings it back, as a call says.
+pub fn move_numbers<S: FarStore>(
     alloc: Global,
     objects: &mut Objects<Option<i64>, S>,
     store: &S,
     column: &IntColumn,
     group: u32,
-) -> Result<(), Refusal>
-    requires { IsVector (number_lists S.content objects.old) column.now }
-    ensures is { IsVector (number_lists S.content objects.new) column.now }
-    ensures lists { (p : ℕ) → number_lists S.content objects.new p ≡ number_lists S.content objects.old p }
-    ensures here { AreHere S.is_of (S.name store.now) objects.old → AreHere S.is_of (S.name store.now) objects.new }
-{
-    let Some(o) = column.object(group) else {
-        return Err(Refusal::NoRow);
-    };
-    let _len = column.len();
-    let _number = objects.number();
-    send_away(alloc, objects, store, o)
-}
-
-/// Brings the object of a row group of numbers back.
-pub fn bring_numbers_back<S: FarStore>(
-    alloc: Global,
-    objects: &mut Objects<Option<i64>, S>,
-    store: &S,
-    column: &IntColumn,
-    group: u32,
+    call: &Call<'_>,
 ) -> Result<(), Refusal>
     requires is { IsVector (number_lists S.content objects.old) column.now }
     requires here { AreHere S.is_of (S.name store.now) objects.old }
+    ensures is { IsVector (number_lists S.content objects.new) column.now }
     ensures lists { (p : ℕ) → number_lists S.content objects.new p ≡ number_lists S.content objects.old p }
     ensures here { AreHere S.is_of (S.name store.now) objects.new }
 {
@@ -105,35 +87,20 @@ pub fn bring_numbers_back<S: FarStore>(
     };
     let _len = column.len();
     let _number = objects.number();
-    bring_back(alloc, objects, store, o)
+    match call {
+        Call::Away(..) => send_away(alloc, objects, store, o),
+        _ => bring_back(alloc, objects, store, o),
+    }
 }
 
-/// Sends the object of a row group of texts away.
-pub fn send_texts_away<S: FarStore>(
+/// Sends the object of a row group of texts away, or brings it back, as a call says.
+pub fn move_texts<S: FarStore>(
     alloc: Global,
     objects: &mut Objects<u8, S>,
     store: &S,
     column: &TextColumn,
     group: usize,
-) -> Result<(), Refusal>
-    requires { IsTextColumn (lists_of S.content objects.old) column.now }
-    ensures lists { (p : ℕ) → lists_of S.content objects.new p ≡ lists_of S.content objects.old p }
-    ensures here { AreHere S.is_of (S.name store.now) objects.old → AreHere S.is_of (S.name store.now) objects.new }
-{
-    let Some(o) = column.object(group) else {
-        return Err(Refusal::NoRow);
-    };
-    let _number = objects.number();
-    send_away(alloc, objects, store, o)
-}
-
-/// Brings the object of a row group of texts back.
-pub fn bring_texts_back<S: FarStore>(
-    alloc: Global,
-    objects: &mut Objects<u8, S>,
-    store: &S,
-    column: &TextColumn,
-    group: usize,
+    call: &Call<'_>,
 ) -> Result<(), Refusal>
     requires is { IsTextColumn (lists_of S.content objects.old) column.now }
     requires here { AreHere S.is_of (S.name store.now) objects.old }
@@ -144,5 +111,8 @@ pub fn bring_texts_back<S: FarStore>(
         return Err(Refusal::NoRow);
     };
     let _number = objects.number();
-    bring_back(alloc, objects, store, o)
+    match call {
+        Call::Away(..) => send_away(alloc, objects, store, o),
+        _ => bring_back(alloc, objects, store, o),
+    }
 }

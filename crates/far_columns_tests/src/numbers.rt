@@ -7,12 +7,12 @@ ghost use Rattle.far_columns.specs.Numbers.{Numbers, number_lists};
 mod all;
 mod one;
 
-use crate::cell::Cell;
+use crate::columns::Columns;
 use crate::lending::lend_numbers;
 use crate::script::{Call, Layout, WRONG, found};
-use all::{may_push_all, push_all, push_and_unpush};
+use all::{push_all, push_and_unpush};
 use far_columns::{Alive, IntColumn};
-use far_fixtures::no_objects;
+use far_fixtures::{digest_of, no_objects};
 use far_scopes::Objects;
 use far_store::{FarStore, FarTickets};
 use far_types::Refusal;
@@ -23,14 +23,14 @@ use std::marker::Model;
 
 /// Columns of numbers with their objects.
 #[derive(Drop)]
-pub struct NumberColumns<'a, S: FarStore> {
-    store: &'a S,
+pub struct NumberColumns<S: FarStore> {
+    store: S,
     size: u32,
     objects: Objects<Option<i64>, S>,
     columns: Vec<IntColumn>,
 }
 
-impl<'a, S: FarStore> Model for NumberColumns<'a, S> {
+impl<S: FarStore> Model for NumberColumns<S> {
     ghost use Rattle.std.specs.Prelude.{◌≡◌, ℤ, Option, All};
     ghost use Rattle.far_scopes.specs.Movement.{Movement, AreHere};
     ghost use Rattle.far_vector.specs.Vectors.{AreVectors};
@@ -40,14 +40,14 @@ impl<'a, S: FarStore> Model for NumberColumns<'a, S> {
 
     ghost view = { λ fixture. fixture.objects };
 
-    ghost invariant = { λ fixture. AreVectors (number_lists S.content fixture.objects) fixture.columns.items × All (λ c. c.size ≡ fixture.size) fixture.columns.items × AreHere S.is_of (S.name fixture.store.now) fixture.objects };
+    ghost invariant = { λ fixture. AreVectors (number_lists S.content fixture.objects) fixture.columns.items × All (λ c. c.size ≡ fixture.size) fixture.columns.items × AreHere S.is_of (S.name fixture.store) fixture.objects };
 }
 
 // Columns without a number.
-fn no_numbers(alloc: Global, layout: Layout) -> Result<Vec<IntColumn>, Refusal>
-    requires { 0 < layout.group }
+fn no_numbers(alloc: Global, layout: &Layout) -> Result<Vec<IntColumn>, Refusal>
+    requires { 0 < layout.now.group }
     ensures are { IfOk result (λ columns. (lists : ℕ → Option Numbers) → AreVectors lists columns.items) }
-    ensures sized { IfOk result (λ columns. All (λ c. c.size ≡ layout.group) columns.items) }
+    ensures sized { IfOk result (λ columns. All (λ c. c.size ≡ layout.now.group) columns.items) }
 {
     vectors_stay_together::<Option<i64>>();
     let mut columns = Vec::new(alloc);
@@ -73,20 +73,16 @@ fn column_of<'a, S: FarTickets>(
     Ok(&columns[k])
 }
 
-impl<'a, S: FarStore> NumberColumns<'a, S> {
+impl<S: FarStore> NumberColumns<S> {
     /// No number.
-    pub fn new(
-        alloc: Global,
-        store: &'a S,
-        layout: Layout,
-    ) -> Result<NumberColumns<'a, S>, Refusal> {
+    pub fn new(alloc: Global, store: S, layout: &Layout) -> Result<NumberColumns<S>, Refusal> {
         let Ok(()) = layout.check() else {
             return Err(WRONG);
         };
         let Ok(columns) = no_numbers(alloc, layout) else {
             return Err(Refusal::NoMemory);
         };
-        let Ok(objects) = no_objects(alloc, store, layout.limits()) else {
+        let Ok(objects) = no_objects(alloc, &store, layout.limits()) else {
             return Err(Refusal::NoMemory);
         };
         Ok(NumberColumns {
@@ -96,20 +92,47 @@ impl<'a, S: FarStore> NumberColumns<'a, S> {
             columns,
         })
     }
+}
 
-    fn find(&self, k: usize, place: usize, cell: Cell) -> Result<(), Refusal> {
-        let column = column_of(&self.objects, &self.columns, k)?;
-        match column.get(&self.objects, place) {
-            Ok(number) => found(number == cell.number()),
-            Err(refusal) => Err(refusal),
+impl<S: FarStore> Columns for NumberColumns<S> {
+    fn len(&self, k: usize) -> usize {
+        match self.columns.get(k) {
+            Some(column) => column.len(),
+            None => 0,
         }
     }
 
-    /// What a call answers that is not about flags.
-    pub fn reply(&mut self, alloc: Global, call: Call) -> Result<(), Refusal> {
+    fn count(&self) -> u32 {
+        self.objects.count()
+    }
+
+    fn fits(&self, len: usize) -> bool {
+        self.objects.fits(len)
+    }
+
+    fn digest(&self) -> u64 {
+        digest_of(&self.objects)
+    }
+
+    fn look(&self, _alloc: Global, alive: &Alive, call: &Call<'_>) -> Result<(), Refusal> {
+        let Some(k) = call.column() else {
+            return Err(WRONG);
+        };
+        let column = column_of(&self.objects, &self.columns, k)?;
         match call {
-            Call::Find(k, place, cell) => self.find(k, place, cell),
-            Call::MayPushAll(_, _) => may_push_all(&self.objects, &self.columns, self.size),
+            Call::Find(_, place, cell) => match column.get(&self.objects, *place) {
+                Ok(number) => found(number == cell.number()),
+                Err(refusal) => Err(refusal),
+            },
+            Call::Lend(_, from, to) => lend_numbers(&self.objects, column, alive, *from, *to),
+            Call::Len(_, len) => found(column.len() == *len),
+            Call::Object(_, group, object) => found(column.object(*group) == *object),
+            _ => Err(WRONG),
+        }
+    }
+
+    fn change(&mut self, alloc: Global, call: &Call<'_>) -> Result<(), Refusal> {
+        match call {
             Call::PushAll(first, second) => push_all(
                 &mut self.objects,
                 &mut self.columns,
@@ -122,40 +145,14 @@ impl<'a, S: FarStore> NumberColumns<'a, S> {
                 self.size,
                 &[first.number(), second.number()],
             ),
-            call => change(
+            _ => change(
                 alloc,
                 &mut self.objects,
-                self.store,
+                &self.store,
                 &mut self.columns,
                 self.size,
                 call,
             ),
         }
-    }
-
-    /// Lends the places `from` to `to` of a column with their flags.
-    pub fn lend(&self, alive: &Alive, k: usize, from: usize, to: usize) -> Result<(), Refusal> {
-        let column = column_of(&self.objects, &self.columns, k)?;
-        lend_numbers(&self.objects, column, alive, self.size as usize, (from, to))
-    }
-
-    /// How many numbers a column has; 0 where there is no such column.
-    pub fn len(&self, k: usize) -> usize {
-        match self.columns.get(k) {
-            Some(column) => column.len(),
-            None => 0,
-        }
-    }
-
-    /// The object of a column's row group.
-    pub fn object(&self, k: usize, group: u32) -> Option<u32> {
-        match self.columns.get(k) {
-            Some(column) => column.object(group),
-            None => None,
-        }
-    }
-
-    pub fn objects(&self) -> &Objects<Option<i64>, S> {
-        &self.objects
     }
 }

@@ -1,31 +1,29 @@
 // Scripts: calls on columns, and their replies.
-ghost use Rattle.std.specs.Prelude.{◌≡◌, ◌<◌, ◌≤◌, ⊤, OnOk};
+ghost use Rattle.std.specs.Prelude.{◌≡◌, ◌<◌, ◌≤◌, OnOk};
 
 use crate::cell::Cell;
 use far_scopes::ObjectLimits;
 use far_types::Refusal;
-use std::alloc::AllocError;
-use std::test::Fail;
 
 /// A call, and its reply.
-pub type Line = (Call, Result<(), Refusal>);
+pub type Line = (Call<'static>, Result<(), Refusal>);
 
-/// What is played on new columns, of which the first gets so many cells before.
-#[derive(Clone, Copy)]
+/// What is played on new columns, of which the first gets so many cells before: the numbers from 1 on, or a letter each.
+#[derive(Drop)]
 pub struct Case {
     /// What it shows, in a sentence.
     pub name: &'static str,
     pub layout: Layout,
-    pub count: usize,
+    pub count: i64,
     pub script: Script,
 }
 
-#[derive(Clone, Copy)]
+#[derive(Drop)]
 pub enum Script {
     /// Calls with their replies.
     Lines(&'static [Line]),
-    /// The objects of two columns of such cells go away and come back.
-    Moves(&'static [[Cell; 2]]),
+    /// Calls that are drawn from a seed, beside plain lists, over a store of which a put and a get fail.
+    Random(u64),
 }
 
 /// What a call answers that found something else than it should, or was refused and yet changed something.
@@ -36,25 +34,19 @@ pub fn found(right: bool) -> Result<(), Refusal> {
     if right { Ok(()) } else { Err(WRONG) }
 }
 
-/// A line of a case that was not answered as it should be.
-#[derive(Clone, Copy)]
-pub struct Wrong {
-    pub name: &'static str,
-    pub line: usize,
-}
-
-/// Fails where a line of a case was not answered as it should be, and names both.
-pub fn answered(first_wrong: Result<Option<Wrong>, Refusal>) -> Result<(), Fail> {
-    match first_wrong? {
-        Some(Wrong { name, line }) => Err(Fail::new(format_args!("{name}: line {line}"))),
-        None => Ok(()),
+/// The reply of a call that was asked for beforehand, and is to answer the same unless memory is wanting.
+pub fn as_asked(asked: Result<(), Refusal>, reply: Result<(), Refusal>) -> Result<(), Refusal> {
+    if reply == asked || reply == Err(Refusal::NoMemory) {
+        reply
+    } else {
+        Err(WRONG)
     }
 }
 
 /// How large columns are, and the region of their objects: the number of the first column and how many there are, how many
 /// places a row group has, how many segments of how many elements there are, how often an object may be written and go away,
 /// and, where the columns are of texts, how many bytes a form may have.
-#[derive(Clone, Copy)]
+#[derive(Drop)]
 pub struct Layout {
     pub first: u32,
     pub columns: u32,
@@ -92,16 +84,20 @@ impl Layout {
     }
 }
 
-/// Whether a reply is the one that is due. Nothing can be said where memory is wanting.
-pub fn is_due(reply: Result<(), Refusal>, due: Result<(), Refusal>) -> Result<bool, Refusal> {
-    match reply {
-        Err(Refusal::NoMemory) => Err(Refusal::NoMemory),
-        reply => Ok(reply == due),
+/// The refusal that names the object of a row group of a column, where it is not one of those that are local.
+pub fn here(column: u32, group: usize, local: &[bool]) -> Result<(), Refusal> {
+    if local.get(group) == Some(&true) {
+        return Ok(());
     }
+    Err(Refusal::Absent {
+        column,
+        group: u32::try_from(group).unwrap_or(u32::MAX),
+    })
 }
 
 /// A call on columns. A column is named by its index.
-pub enum Call {
+#[derive(Drop)]
+pub enum Call<'a> {
     /// Pushes a cell to a column.
     Push(usize, Cell),
     /// Sets the cell of a column at a place; asks beforehand, with the same reply.
@@ -112,14 +108,14 @@ pub enum Call {
     Away(usize, u32),
     /// Brings it back.
     Back(usize, u32),
-    /// Pushes a cell to each of two columns.
+    /// Pushes a cell to each of two columns; asks beforehand, with the same reply.
     PushAll(Cell, Cell),
     /// The same, and takes it back.
     PushAndUnpush(Cell, Cell),
-    MayPushAll(Cell, Cell),
-    MaySet(usize, usize, Cell),
     /// Finds the cell of a column at a place.
     Find(usize, usize, Cell),
+    /// Finds these cells of a column, and no more, where its row groups are local, and elsewhere the refusal that names one.
+    FindAll(usize, &'a [bool], &'a [Cell]),
     /// Finds how long a form becomes once a place has another cell.
     LenWith(usize, usize, Cell, usize),
     /// Finds how long a form becomes once there is another cell behind the last.
@@ -137,32 +133,29 @@ pub enum Call {
     /// Finds a column's flag at a place.
     Flag(usize, usize, Option<bool>),
     /// Finds a column's flags from a place on.
-    Flags(usize, usize, &'static [bool]),
+    Flags(usize, usize, &'a [bool]),
 }
 
-// A derived `clone` copies call by call, and costs its proof more than all else here.
-impl Clone for Call {
-    ghost is_clone = { λ x y. y ≡ x };
-
-    ghost is_infallible = { λ _. ⊤ };
-
-    fn clone(&self) -> Result<Call, AllocError> {
-        Ok(*self)
-    }
-}
-
-impl Copy for Call {}
-
-impl Call {
-    /// The column that a call changes, if it is one.
-    pub fn column(self) -> Option<usize> {
+impl<'a> Call<'a> {
+    /// The column that a call is about, if it is one.
+    pub fn column(&self) -> Option<usize> {
         match self {
-            Call::Push(k, _) => Some(k),
-            Call::Set(k, _, _) => Some(k),
-            Call::Unpush(k) => Some(k),
-            Call::Away(k, _) => Some(k),
-            Call::Back(k, _) => Some(k),
-            _ => None,
+            Call::PushAll(..) | Call::PushAndUnpush(..) | Call::Objects(_) => None,
+            Call::Push(k, _)
+            | Call::Set(k, _, _)
+            | Call::Unpush(k)
+            | Call::Away(k, _)
+            | Call::Back(k, _)
+            | Call::Find(k, _, _)
+            | Call::FindAll(k, _, _)
+            | Call::LenWith(k, _, _, _)
+            | Call::LenWithNext(k, _, _)
+            | Call::Lend(k, _, _)
+            | Call::Len(k, _)
+            | Call::Object(k, _, _)
+            | Call::Clear(k, _)
+            | Call::Flag(k, _, _)
+            | Call::Flags(k, _, _) => Some(*k),
         }
     }
 }

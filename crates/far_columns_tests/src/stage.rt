@@ -1,63 +1,72 @@
 // Columns that scripts are played on, with the flags of their places.
 use crate::cell::Cell;
 use crate::columns::Columns;
-use crate::coming_back;
-use crate::script::{Call, Case, Layout, Line, Script, WRONG, found, is_due};
+use crate::random_run;
+use crate::script::{Call, Case, Layout, Line, Script, WRONG, found, here};
 use far_columns::Alive;
-use far_fixtures::{with, with_optional};
-use far_store::FarStore;
+use far_fixtures::with;
 use far_types::Refusal;
 use std::alloc::Global;
 
-/// Columns with the flags of their places.
+/// Columns, three at most, with the flags of their places.
 #[derive(Drop)]
-pub struct Stage<'a, S: FarStore> {
-    columns: Columns<'a, S>,
-    alive: Vec<Alive>,
+pub struct Stage<'a, C: Columns> {
+    layout: &'a Layout,
+    columns: C,
+    alive: [Alive; 3],
 }
 
-/// So many flags' lists, without a flag.
-fn no_flags(alloc: Global, count: u32) -> Result<Vec<Alive>, Refusal> {
-    let mut alive = Vec::new(alloc);
-    for _ in 0..count {
-        alive.push(Alive::new(alloc))?;
-    }
-    Ok(alive)
-}
-
-impl<'a, S: FarStore> Stage<'a, S> {
+impl<'a, C: Columns> Stage<'a, C> {
     /// Columns without a cell.
-    pub fn new(alloc: Global, store: &'a S, layout: Layout) -> Result<Stage<'a, S>, Refusal> {
-        let alive = no_flags(alloc, layout.columns)?;
-        match Columns::new(alloc, store, layout) {
-            Ok(columns) => Ok(Stage { columns, alive }),
-            Err(refusal) => Err(refusal),
+    pub fn new(alloc: Global, columns: C, layout: &'a Layout) -> Stage<'a, C> {
+        Stage {
+            layout,
+            columns,
+            alive: [Alive::new(alloc), Alive::new(alloc), Alive::new(alloc)],
         }
     }
 
-    pub fn columns(&self) -> &Columns<'a, S> {
+    pub fn columns(&self) -> &C {
         &self.columns
     }
 
     /// What a call answers. Before it each column has a flag for each of its places, whatever the call before did.
-    pub fn reply(&mut self, alloc: Global, call: Call) -> Result<(), Refusal> {
+    pub fn reply(&mut self, alloc: Global, call: &Call<'_>) -> Result<(), Refusal> {
         if keep_up(&self.columns, &mut self.alive).is_err() {
             return Err(Refusal::NoMemory);
         }
         match call {
-            Call::Clear(k, place) => clear(&mut self.alive, k, place),
-            Call::Flag(k, place, flag) => found(flag_of(&self.alive, k, place) == flag),
-            Call::Flags(k, from, flags) => found(are_flags(&self.alive, k, from, flags)),
-            Call::Lend(k, from, to) => lend(&self.columns, &self.alive, k, from, to),
-            Call::Len(k, len) => found(self.columns.len(k) == len),
-            Call::Object(k, group, object) => found(self.columns.object(k, group) == object),
-            Call::Objects(count) => found(self.columns.count() == count),
-            call => self.columns.reply(alloc, call),
+            Call::Objects(count) => found(self.columns.count() == *count),
+            Call::Find(..)
+            | Call::FindAll(..)
+            | Call::LenWith(..)
+            | Call::LenWithNext(..)
+            | Call::Lend(..)
+            | Call::Len(..)
+            | Call::Object(..)
+            | Call::Clear(..)
+            | Call::Flag(..)
+            | Call::Flags(..) => self.look(alloc, call),
+            _ => self.columns.change(alloc, call),
+        }
+    }
+
+    // What a call answers that looks at a column and at the flags of its places, or clears one.
+    fn look(&mut self, alloc: Global, call: &Call<'_>) -> Result<(), Refusal> {
+        let Some(alive) = self.alive.get_mut(call.column().unwrap_or(3)) else {
+            return Err(Refusal::NoColumn);
+        };
+        match call {
+            Call::Clear(_, place) => clear(alive, *place),
+            Call::Flag(_, place, flag) => found(alive.get(*place) == *flag),
+            Call::Flags(_, from, flags) => found(are_flags(alive, *from, flags)),
+            Call::FindAll(..) => find_all(alloc, &self.columns, alive, self.layout, call),
+            _ => self.columns.look(alloc, alive, call),
         }
     }
 
     /// What a call answers that is made once more where it finds no memory. A refused call leaves all as it was.
-    pub fn last_reply(&mut self, alloc: Global, call: Call) -> Result<(), Refusal> {
+    pub fn last_reply(&mut self, alloc: Global, call: &Call<'_>) -> Result<(), Refusal> {
         let before = self.digest();
         match self.reply(alloc, call) {
             Err(_) if self.digest() != before => Err(WRONG),
@@ -66,56 +75,43 @@ impl<'a, S: FarStore> Stage<'a, S> {
         }
     }
 
-    // A number that all goes into that is known of the columns and of their objects. Allocates nothing.
+    // A number that all goes into that is known of the objects, and how long the columns are. Allocates nothing.
     fn digest(&self) -> u64 {
         let mut digest = self.columns.digest();
         for k in 0..self.alive.len() {
             digest = with(digest, self.columns.len(k) as u64);
-            for group in 0..4 {
-                digest = match self.columns.object(k, group) {
-                    Some(object) => with(digest, u64::from(object)),
-                    None => with_optional(digest, None),
-                };
-            }
         }
         digest
     }
 
     /// Plays a case on columns without a cell: the line that is not answered as it should be.
-    pub fn play(&mut self, alloc: Global, case: Case) -> Result<Option<usize>, Refusal> {
-        for place in 0..case.count {
-            let reply = self.last_reply(alloc, Call::Push(0, counted(case.layout, place)));
-            if reply.is_err() {
-                return Err(WRONG);
-            }
+    pub fn play(&mut self, alloc: Global, case: &Case) -> Result<Option<usize>, Refusal> {
+        for number in 1..=case.count {
+            let cell = match self.layout.limit {
+                None => Cell::Number(number),
+                Some(_) => Cell::Text("a", 1),
+            };
+            self.last_reply(alloc, &Call::Push(0, cell))?;
         }
         match case.script {
-            Script::Lines(lines) => self.first_wrong(alloc, lines),
-            Script::Moves(cells) => Ok(coming_back::first_wrong(alloc, self, cells)),
+            Script::Lines(lines) => Ok(self.first_wrong(alloc, lines)),
+            Script::Random(seed) => random_run::first_wrong(alloc, self, self.layout, seed),
         }
     }
 
     // The index of the first line that is not answered as it should be.
-    fn first_wrong(&mut self, alloc: Global, lines: &[Line]) -> Result<Option<usize>, Refusal> {
+    fn first_wrong(&mut self, alloc: Global, lines: &[Line]) -> Option<usize> {
         for (index, (call, due)) in lines.iter().enumerate() {
-            if !is_due(self.last_reply(alloc, *call), *due)? {
-                return Ok(Some(index));
+            if self.last_reply(alloc, call) != *due {
+                return Some(index);
             }
         }
-        Ok(None)
-    }
-}
-
-// The cell that a case begins with at a place: the numbers from 1 on, or a letter each.
-fn counted(layout: Layout, place: usize) -> Cell {
-    match (layout.limit, i64::try_from(place)) {
-        (None, Ok(place)) => Cell::Number(place.saturating_add(1)),
-        _ => Cell::Text("a", 1),
+        None
     }
 }
 
 // As many flags for each column as it has places; a call changes that by one at most.
-fn keep_up<S: FarStore>(columns: &Columns<'_, S>, alive: &mut [Alive]) -> Result<(), Refusal> {
+fn keep_up<C: Columns>(columns: &C, alive: &mut [Alive]) -> Result<(), Refusal> {
     for (k, alive) in alive.iter_mut().enumerate() {
         let len = columns.len(k);
         if alive.len() < len {
@@ -127,38 +123,40 @@ fn keep_up<S: FarStore>(columns: &Columns<'_, S>, alive: &mut [Alive]) -> Result
     Ok(())
 }
 
-fn clear(alive: &mut [Alive], k: usize, place: usize) -> Result<(), Refusal> {
-    match alive.get_mut(k) {
-        Some(alive) if place < alive.len() => {
-            alive.clear(place);
-            Ok(())
-        }
-        _ => Err(Refusal::NoRow),
-    }
-}
-
-fn flag_of(alive: &[Alive], k: usize, place: usize) -> Option<bool> {
-    alive.get(k)?.get(place)
-}
-
-// Whether a column has these flags from a place on.
-fn are_flags(alive: &[Alive], k: usize, from: usize, flags: &[bool]) -> bool {
-    let to = from.saturating_add(flags.len());
-    match alive.get(k) {
-        Some(alive) if to <= alive.len() => alive.flags(from, to) == flags,
-        _ => false,
-    }
-}
-
-fn lend<S: FarStore>(
-    columns: &Columns<'_, S>,
-    alive: &[Alive],
-    k: usize,
-    from: usize,
-    to: usize,
+// Finds the cells of a column in the row groups that are local, and elsewhere the refusal that names one.
+fn find_all<C: Columns>(
+    alloc: Global,
+    columns: &C,
+    alive: &Alive,
+    layout: &Layout,
+    call: &Call<'_>,
 ) -> Result<(), Refusal> {
-    match alive.get(k) {
-        Some(alive) => columns.lend(alive, k, from, to),
-        None => Err(Refusal::NoColumn),
+    let Call::FindAll(k, local, cells) = call else {
+        return Err(WRONG);
+    };
+    let column = u32::try_from(*k)
+        .unwrap_or(u32::MAX)
+        .saturating_add(layout.first);
+    for (place, cell) in cells.iter().enumerate() {
+        let group = place.checked_div(layout.group as usize).unwrap_or(0);
+        let due = here(column, group, local);
+        if columns.look(alloc, alive, &Call::Find(*k, place, *cell)) != due {
+            return Err(WRONG);
+        }
     }
+    found(columns.len(*k) == cells.len())
+}
+
+fn clear(alive: &mut Alive, place: usize) -> Result<(), Refusal> {
+    if place >= alive.len() {
+        return Err(Refusal::NoRow);
+    }
+    alive.clear(place);
+    Ok(())
+}
+
+// Whether these are the flags from a place on.
+fn are_flags(alive: &Alive, from: usize, flags: &[bool]) -> bool {
+    let to = from.saturating_add(flags.len());
+    to <= alive.len() && alive.flags(from, to) == flags
 }

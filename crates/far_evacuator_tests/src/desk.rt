@@ -1,6 +1,7 @@
 // Objects with their store, and the last job of each kind.
-ghost use Rattle.std.specs.Prelude.{ℕ, List, IfOk};
-ghost use Rattle.far_scopes.specs.Movement.{AreClean, AreHere};
+ghost use Rattle.std.specs.Prelude.{◌≡◌, ◌<◌, ℕ, List, length, false, Some, IfOk, IsTrue};
+ghost use Rattle.far_scopes.specs.Memory.{list_in};
+ghost use Rattle.far_scopes.specs.Movement.{AreClean, AreHere, dirty};
 
 mod changing;
 mod moving;
@@ -11,23 +12,15 @@ use changing::change;
 use far_evacuator::{Carried, EvacJob, FetchJob, Fetched};
 use far_fixtures::{Element, digest_of};
 use far_pointer::Pointer;
+use far_scopes::laws::clean_objects_have_copies;
 use far_scopes::{ObjectLimits, Objects};
-use far_store::FarStore;
+use far_store::{FarStore, Meter};
 use far_types::Refusal;
 use std::alloc::Global;
 use std::marker::Model;
 
-/// The room of the objects, and how often each may be written and away.
-#[derive(Clone, Copy)]
-pub struct Limits {
-    pub segments: u16,
-    pub size: u32,
-    pub changes: u64,
-    pub leavings: u64,
-}
-
 /// What is known of an object beside its list.
-#[derive(Clone, Copy, PartialEq, Eq)]
+#[derive(Clone, Copy, PartialEq)]
 pub struct Record {
     pub local: bool,
     pub dirty: bool,
@@ -67,7 +60,7 @@ impl<'a, T: Element, S: FarStore> Desk<'a, T, S> {
         alloc: Global,
         store: &'a S,
         number: u32,
-        limits: Limits,
+        limits: ObjectLimits,
     ) -> Result<Desk<'a, T, S>, Refusal> {
         let objects = no_objects(alloc, number, limits)?;
         Ok(Desk::over(store, objects))
@@ -89,7 +82,12 @@ impl<'a, T: Element, S: FarStore> Desk<'a, T, S> {
     }
 
     /// No object once more, under another number; the jobs stay.
-    pub fn clear(&mut self, alloc: Global, number: u32, limits: Limits) -> Result<(), Refusal> {
+    pub fn clear(
+        &mut self,
+        alloc: Global,
+        number: u32,
+        limits: ObjectLimits,
+    ) -> Result<(), Refusal> {
         self.objects = no_objects(alloc, number, limits)?;
         Ok(())
     }
@@ -108,7 +106,7 @@ impl<'a, T: Element, S: FarStore> Desk<'a, T, S> {
 
     fn make_once(&mut self, alloc: Global, call: &Call<&[T]>) -> Result<u32, Refusal> {
         match call {
-            Call::Move(phase) => done(self.move_object(alloc, *phase)),
+            Call::Move(phase) => done(self.move_object(alloc, phase)),
             call => change(&mut self.objects, alloc, call),
         }
     }
@@ -127,6 +125,18 @@ impl<'a, T: Element, S: FarStore> Desk<'a, T, S> {
             return Err(Refusal::NoRow);
         }
         self.objects.may_write(o)
+    }
+
+    /// Whether the store has the far form of the list of an object that is local and clean.
+    pub fn has_copy(&self, alloc: Global, o: u32) -> Result<bool, Refusal> {
+        if o >= self.objects.count() {
+            return Err(Refusal::NoRow);
+        }
+        if self.objects.word(o).dirty() {
+            return Ok(false);
+        }
+        let list = self.objects.lend(o)?;
+        reads_copy(alloc, &self.objects, self.store, o, list)
     }
 
     /// What is known of an object.
@@ -153,19 +163,43 @@ impl<'a, T: Element, S: FarStore> Desk<'a, T, S> {
 fn no_objects<T: Element, S: FarStore>(
     alloc: Global,
     number: u32,
-    limits: Limits,
+    limits: ObjectLimits,
 ) -> Result<Objects<T, S>, Refusal>
     ensures here { IfOk result (λ m. (name : List ℕ) → AreHere S.is_of name m) }
     ensures clean { IfOk result (AreClean T.meaning S.content) }
 {
-    let limits = ObjectLimits {
-        segments: u32::from(limits.segments),
-        size: limits.size,
-        changes: limits.changes,
-        leavings: limits.leavings,
-    };
+    if limits.segments > 8 {
+        return Err(Refusal::BadSpec);
+    }
     match Objects::new(alloc, number, limits) {
         Err(Refusal::NoMemory) => Objects::new(alloc, number, limits),
         reply => reply,
+    }
+}
+
+// Whether the far copy of a local object that is clean is the far form of its list. It always is.
+fn reads_copy<T: Element, S: FarStore>(
+    alloc: Global,
+    objects: &Objects<T, S>,
+    store: &S,
+    o: u32,
+    list: &[T],
+) -> Result<bool, Refusal>
+    requires within { o < length objects.now.entries }
+    requires here { AreHere S.is_of (S.name store.now) objects.now }
+    requires clean { AreClean T.meaning S.content objects.now }
+    requires unwritten { dirty objects.now o ≡ false }
+    requires lent { list_in objects.now.memory o ≡ Some list.now }
+    ensures { IfOk result IsTrue }
+{
+    let _ = objects.number();
+    clean_objects_have_copies::<T, S>();
+    let Some(ticket) = objects.ticket(o) else {
+        unreachable!()
+    };
+    let mut bytes = Vec::new(alloc);
+    match store.get(alloc, &mut Meter::new(), ticket, &mut bytes) {
+        Ok(()) => Ok(T::spells(&bytes, list)),
+        Err(refusal) => Err(refusal),
     }
 }

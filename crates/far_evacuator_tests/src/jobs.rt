@@ -1,34 +1,28 @@
-// Jobs that are begun, carried, accepted and found stale: worked examples.
-use crate::call::Call::{self, Create, Move, On};
-use crate::call::Change::{Pin, Replace, Touch, Unpin, Write};
+// Jobs that are begun, carried, accepted and found stale: cases, each played on objects of its own.
+mod cases;
+
+use crate::call::Call::{self, Create, Move};
 use crate::call::Phase::{self, Begin, BeginFetch, Carry, CarryFetch, Commit, Install};
 use crate::call::away;
-use crate::desk::{Desk, Limits};
-use crate::stores::{answered, faulty, logged};
+use crate::desk::Desk;
+use crate::stores::{Plan, logged};
+use far_byte_log::ByteLog;
 use far_evacuator::Want;
-use far_store::FarStore;
+use far_scopes::ObjectLimits;
+use far_store::{EngineStore, FarStore};
 use far_types::Refusal;
 use std::alloc::Global;
 use std::sync::Wait;
 use std::test::Fail;
 
-const LIMITS: Limits = Limits {
-    segments: 4,
-    size: 16,
-    changes: 8,
-    leavings: 8,
-};
-
-const ONCE: Limits = Limits {
-    leavings: 1,
-    ..LIMITS
-};
-
-// The refusal of what only a local object may do, of the object 0.
-const AWAY: Refusal = Refusal::Absent {
-    column: 0,
-    group: 0,
-};
+/// What is played, beginning with no object.
+struct Case {
+    /// What it shows, in a sentence.
+    name: &'static str,
+    store: Plan,
+    limits: ObjectLimits,
+    steps: &'static [Step],
+}
 
 /// What is done, and how it turns out.
 enum Step {
@@ -44,29 +38,25 @@ enum Step {
     IsAway(u32),
     /// The object is local, with this list.
     Has(u32, &'static [i64]),
+    /// The object is local and clean: the store has the far form of its list.
+    HasCopy(u32),
     /// The frame has this number from now on, and eight new objects alone.
     Frame(u32),
 }
 
-/// The index of the first step that turns out otherwise, in a store where there is no object at first.
-fn play<S: FarStore>(
+/// The index of the first step of a case that turns out otherwise.
+fn play<R: Wait + Sync + Drop + Copy>(
+    rt: R,
     alloc: Global,
-    store: Result<S, Refusal>,
-    limits: Limits,
-    steps: &[Step],
+    case: &Case,
 ) -> Result<Option<usize>, Refusal> {
-    let store = store?;
-    play_over(alloc, &store, limits, steps)
+    let store = logged(rt, alloc, case.store)?;
+    play_over(alloc, &store, case)
 }
 
-fn play_over<S: FarStore>(
-    alloc: Global,
-    store: &S,
-    limits: Limits,
-    steps: &[Step],
-) -> Result<Option<usize>, Refusal> {
-    match Desk::new(alloc, store, 0, limits) {
-        Ok(mut desk) => Ok(first_wrong(&mut desk, alloc, limits, steps)),
+fn play_over<S: FarStore>(alloc: Global, store: &S, case: &Case) -> Result<Option<usize>, Refusal> {
+    match Desk::new(alloc, store, 0, case.limits) {
+        Ok(mut desk) => Ok(first_wrong(&mut desk, alloc, case)),
         Err(refusal) => Err(refusal),
     }
 }
@@ -74,11 +64,10 @@ fn play_over<S: FarStore>(
 fn first_wrong<S: FarStore>(
     desk: &mut Desk<'_, i64, S>,
     alloc: Global,
-    limits: Limits,
-    steps: &[Step],
+    case: &Case,
 ) -> Option<usize> {
-    for (index, step) in steps.iter().enumerate() {
-        if !turns_out(desk, alloc, limits, step) {
+    for (index, step) in case.steps.iter().enumerate() {
+        if !turns_out(desk, alloc, case.limits, step) {
             return Some(index);
         }
     }
@@ -88,7 +77,7 @@ fn first_wrong<S: FarStore>(
 fn turns_out<S: FarStore>(
     desk: &mut Desk<'_, i64, S>,
     alloc: Global,
-    limits: Limits,
+    limits: ObjectLimits,
     step: &Step,
 ) -> bool {
     match step {
@@ -98,6 +87,7 @@ fn turns_out<S: FarStore>(
         Step::BroughtBack(o) => are_done(desk, alloc, &[BeginFetch(*o), CarryFetch, Install]),
         Step::Frame(number) => begins_frame(desk, alloc, limits, *number),
         Step::Has(o, list) => desk.list(*o) == Ok(*list),
+        Step::HasCopy(o) => desk.has_copy(alloc, *o) == Ok(true),
         Step::IsAway(o) => is_away(desk, *o),
     }
 }
@@ -120,7 +110,7 @@ fn is_away<S: FarStore>(desk: &Desk<'_, i64, S>, o: u32) -> bool {
 fn begins_frame<S: FarStore>(
     desk: &mut Desk<'_, i64, S>,
     alloc: Global,
-    limits: Limits,
+    limits: ObjectLimits,
     number: u32,
 ) -> bool {
     let mut begins = desk.clear(alloc, number, limits).is_ok();
@@ -130,184 +120,36 @@ fn begins_frame<S: FarStore>(
     begins
 }
 
-/// The same over a store that takes so many contents, and of which a put and a get fail; 0 is none. It is played once more where the
-/// making of the store or of the objects finds no memory.
-fn play_faulty<R: Wait + Sync + Drop + Copy>(
+/// Whether a case turns out over one log, and so many of its bytes are used then.
+fn uses_log<R: Wait + Sync + Drop + Copy>(
     rt: R,
     alloc: Global,
-    store: [u64; 3],
-    limits: Limits,
-    steps: &[Step],
-) -> Result<(), Fail> {
-    answered(match play(alloc, faulty(rt, alloc, store), limits, steps) {
-        Err(Refusal::NoMemory) => play(alloc, faulty(rt, alloc, store), limits, steps),
-        reply => reply,
-    })
+    case: &Case,
+    bytes: usize,
+) -> Result<bool, Refusal> {
+    let log = ByteLog::new(alloc, case.store.bytes)?;
+    let store = EngineStore::new(rt, alloc, log, case.store.capacity)?;
+    Ok(play_over(alloc, &store, case)?.is_none() && store.engine().used() == bytes)
 }
 
 #[test]
-fn an_object_that_was_sent_away_stays_away_under_its_name(rt: HostRuntime) -> Result<(), Fail> {
-    static STEPS: &[Step] = &[
-        Step::Done(Create(&[1, 2])),
-        Step::SentAway(0),
-        Step::IsAway(0),
-        Step::Refused(Move(Begin(Want::Object(0))), AWAY),
-        Step::IsAway(0),
-    ];
-    play_faulty(&rt, rt.alloc(), [4, 0, 0], LIMITS, STEPS)
+fn cases_turn_out(rt: HostRuntime) -> Result<(), Fail> {
+    for case in cases::CASES {
+        // Once more where the making of the store or of the objects finds no memory.
+        let wrong = match play(&rt, rt.alloc(), case) {
+            Err(Refusal::NoMemory) => play(&rt, rt.alloc(), case),
+            reply => reply,
+        };
+        if let Some(step) = wrong? {
+            return Err(Fail::new(format_args!("{}: step {step}", case.name)));
+        }
+    }
+    Ok(())
 }
 
 #[test]
-fn the_coldest_object_is_the_one_that_was_used_least_lately(rt: HostRuntime) -> Result<(), Fail> {
-    static STEPS: &[Step] = &[
-        Step::Done(Create(&[1, 2])),
-        Step::Done(Create(&[3, 4])),
-        Step::Done(On(0, Touch)),
-        Step::Done(On(0, Pin)),
-        Step::Done(On(1, Pin)),
-        Step::Refused(Move(Begin(Want::Coldest)), Refusal::StaleJob),
-        Step::Done(On(0, Unpin)),
-        Step::Done(On(1, Unpin)),
-        Step::Done(Move(Begin(Want::Coldest))),
-        Step::Done(Move(Carry)),
-        Step::Done(Move(Commit)),
-        Step::Done(On(0, Replace(&[5, 6]))),
-        Step::IsAway(1),
-        Step::Has(0, &[5, 6]),
-    ];
-    play_faulty(&rt, rt.alloc(), [4, 0, 0], LIMITS, STEPS)
-}
-
-#[test]
-fn an_object_that_was_not_written_is_not_put_again(rt: HostRuntime) -> Result<(), Fail> {
-    static STEPS: &[Step] = &[
-        Step::Done(Create(&[1, 2])),
-        Step::SentAway(0),
-        Step::BroughtBack(0),
-        Step::SentAway(0),
-        Step::BroughtBack(0),
-        Step::Done(On(0, Write(&[9, 2]))),
-        Step::Done(Move(Begin(Want::Object(0)))),
-        Step::Refused(Move(Carry), Refusal::FarFault),
-        Step::Done(Move(Carry)),
-        Step::Done(Move(Commit)),
-        Step::BroughtBack(0),
-        Step::Has(0, &[9, 2]),
-    ];
-    play_faulty(&rt, rt.alloc(), [8, 2, 0], LIMITS, STEPS)
-}
-
-#[test]
-fn a_job_is_accepted_once(rt: HostRuntime) -> Result<(), Fail> {
-    static STEPS: &[Step] = &[
-        Step::Done(Create(&[1, 2])),
-        Step::SentAway(0),
-        Step::Refused(Move(Commit), Refusal::StaleJob),
-        Step::BroughtBack(0),
-        Step::Refused(Move(Commit), Refusal::StaleJob),
-        Step::Refused(Move(Install), Refusal::StaleJob),
-        Step::SentAway(0),
-        Step::Refused(Move(Install), Refusal::StaleJob),
-    ];
-    play_faulty(&rt, rt.alloc(), [8, 0, 0], LIMITS, STEPS)
-}
-
-#[test]
-fn a_job_of_another_frame_is_stale(rt: HostRuntime) -> Result<(), Fail> {
-    static STEPS: &[Step] = &[
-        Step::Frame(1),
-        Step::Done(Move(Begin(Want::Object(7)))),
-        Step::Done(Move(Carry)),
-        Step::Frame(2),
-        Step::Refused(Move(Commit), Refusal::StaleJob),
-        Step::SentAway(7),
-        Step::Done(Move(BeginFetch(7))),
-        Step::Done(Move(CarryFetch)),
-        Step::Frame(1),
-        Step::SentAway(7),
-        Step::Refused(Move(Install), Refusal::StaleJob),
-    ];
-    play_faulty(&rt, rt.alloc(), [8, 0, 0], LIMITS, STEPS)
-}
-
-#[test]
-fn an_object_goes_away_as_often_as_it_may(rt: HostRuntime) -> Result<(), Fail> {
-    static STEPS: &[Step] = &[
-        Step::Done(Create(&[1, 2])),
-        Step::SentAway(0),
-        Step::BroughtBack(0),
-        Step::Done(Move(Begin(Want::Object(0)))),
-        Step::Done(Move(Carry)),
-        Step::Refused(Move(Commit), Refusal::StaleJob),
-        Step::Has(0, &[1, 2]),
-    ];
-    play_faulty(&rt, rt.alloc(), [8, 0, 0], ONCE, STEPS)
-}
-
-#[test]
-fn a_pinned_object_stays_until_it_is_unpinned(rt: HostRuntime) -> Result<(), Fail> {
-    static STEPS: &[Step] = &[
-        Step::Done(Create(&[1, 2])),
-        Step::Done(On(0, Pin)),
-        Step::Done(Move(Begin(Want::Object(0)))),
-        Step::Done(Move(Carry)),
-        Step::Refused(Move(Commit), Refusal::Pinned),
-        Step::Done(On(0, Unpin)),
-        Step::Done(Move(Commit)),
-        Step::BroughtBack(0),
-        Step::Has(0, &[1, 2]),
-    ];
-    play_faulty(&rt, rt.alloc(), [8, 0, 0], LIMITS, STEPS)
-}
-
-#[test]
-fn a_carry_into_a_full_store_is_refused_and_keeps_its_job(rt: HostRuntime) -> Result<(), Fail> {
-    static STEPS: &[Step] = &[
-        Step::Done(Create(&[1, 2])),
-        Step::Done(Create(&[3, 4])),
-        Step::SentAway(0),
-        Step::Done(Move(Begin(Want::Object(1)))),
-        Step::Refused(Move(Carry), Refusal::FarFull),
-        Step::Refused(Move(Carry), Refusal::FarFull),
-        Step::Has(1, &[3, 4]),
-        Step::BroughtBack(0),
-        Step::Has(0, &[1, 2]),
-    ];
-    play_faulty(&rt, rt.alloc(), [1, 0, 0], LIMITS, STEPS)
-}
-
-#[test]
-fn a_carry_into_a_full_log_is_a_fault_and_keeps_its_job(rt: HostRuntime) -> Result<(), Fail> {
-    static STEPS: &[Step] = &[
-        Step::Done(Create(&[1, 2])),
-        Step::Done(Create(&[3, 4])),
-        Step::SentAway(0),
-        Step::Done(Move(Begin(Want::Object(1)))),
-        Step::Refused(Move(Carry), Refusal::FarFault),
-        Step::Refused(Move(Carry), Refusal::FarFault),
-        Step::Has(1, &[3, 4]),
-        Step::BroughtBack(0),
-        Step::Has(0, &[1, 2]),
-    ];
-    // The far form of two numbers has 22 bytes.
-    answered(play(
-        rt.alloc(),
-        logged(&rt, rt.alloc(), 43, [4, 0]),
-        LIMITS,
-        STEPS,
-    ))
-}
-
-#[test]
-fn a_fetch_that_met_a_fault_is_carried_again(rt: HostRuntime) -> Result<(), Fail> {
-    static STEPS: &[Step] = &[
-        Step::Done(Create(&[1, 2])),
-        Step::SentAway(0),
-        Step::Done(Move(BeginFetch(0))),
-        Step::Refused(Move(CarryFetch), Refusal::FarFault),
-        Step::Done(Move(CarryFetch)),
-        Step::Done(Move(Install)),
-        Step::Has(0, &[1, 2]),
-    ];
-    play_faulty(&rt, rt.alloc(), [8, 0, 1], LIMITS, STEPS)
+fn objects_come_and_go_over_one_log(rt: HostRuntime) {
+    // Three far forms of two numbers, of 22 bytes each: a log takes a form for each write, and none for an object that was not
+    // written.
+    assert!(rt; uses_log(&rt, rt.alloc(), &cases::COME_AND_GO, 66) == Ok(true));
 }

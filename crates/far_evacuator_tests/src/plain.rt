@@ -2,19 +2,21 @@
 mod changing;
 mod moving;
 mod numbers;
-mod renewing;
+mod placing;
 
 use crate::call::{Call, away, done};
-use crate::desk::{Limits, Record};
+use crate::desk::Record;
+use far_scopes::ObjectLimits;
 use far_types::Refusal;
-pub use numbers::{Log, Numbers};
+pub use numbers::Numbers;
 use std::alloc::Global;
 
-/// A list that was drawn: the how-many-th, and how many elements it has.
+/// A list that was drawn: the how-many-th, how many elements it has, and how many bytes its far form.
 #[derive(Clone, Copy)]
 pub struct Drawn {
     pub index: usize,
     pub len: usize,
+    pub bytes: usize,
 }
 
 /// Where a list lies.
@@ -26,8 +28,8 @@ struct Place {
 
 /// An object as it should be.
 #[derive(Clone, Copy)]
-struct Plain {
-    list: Drawn,
+pub struct Plain {
+    pub list: Drawn,
     // Where it lies if it is local.
     place: Place,
     record: Record,
@@ -35,21 +37,18 @@ struct Plain {
     used: u64,
 }
 
-/// What a job rests on. A fetch, and an evacuation that was carried or of an object that was clean, has a ticket.
+/// What a job rests on: an object as it was. A fetch, and an evacuation that was carried or of an object that was clean, has a
+/// ticket.
 #[derive(Clone, Copy)]
 struct Job {
-    number: u32,
     object: u32,
-    record: Record,
-    list: Drawn,
-    ticket: Option<u64>,
+    was: Plain,
 }
 
 /// Plain objects, and the last job of each kind.
 #[derive(Drop)]
 pub struct Plains {
-    number: u32,
-    limits: Limits,
+    limits: ObjectLimits,
     store: Numbers,
     objects: Vec<Plain>,
     // Two for each call that was made, which uses at most two objects.
@@ -61,9 +60,8 @@ pub struct Plains {
 }
 
 impl Plains {
-    pub fn new(alloc: Global, number: u32, limits: Limits, store: Numbers) -> Plains {
+    pub fn new(alloc: Global, limits: ObjectLimits, store: Numbers) -> Plains {
         Plains {
-            number,
             limits,
             store,
             objects: Vec::new(alloc),
@@ -79,23 +77,25 @@ impl Plains {
         u32::try_from(self.objects.len()).unwrap_or(u32::MAX)
     }
 
-    fn object(&self, o: u32) -> Option<&Plain> {
-        self.objects.get(o as usize)
+    fn object(&self, o: u32) -> Result<Plain, Refusal> {
+        match self.objects.get(o as usize) {
+            Some(object) => Ok(*object),
+            None => Err(Refusal::NoRow),
+        }
     }
 
-    /// The list of an object if it is local.
-    pub fn list(&self, o: u32) -> Result<Drawn, Refusal> {
+    /// An object that is local.
+    pub fn local(&self, o: u32) -> Result<Plain, Refusal> {
         match self.object(o) {
-            Some(object) if object.record.local => Ok(object.list),
-            Some(_) => Err(away(o)),
-            None => Err(Refusal::NoRow),
+            Ok(object) if !object.record.local => Err(away(o)),
+            reply => reply,
         }
     }
 
     pub fn record(&self, o: u32) -> Option<Record> {
         match self.object(o) {
-            Some(object) => Some(object.record),
-            None => None,
+            Ok(object) => Some(object.record),
+            Err(_) => None,
         }
     }
 
@@ -111,33 +111,8 @@ impl Plains {
             )),
             Call::PinTogether(listed) => self.pin_together(listed),
             Call::Compact(segment) => done(self.compact(*segment)),
-            Call::Move(phase) => done(self.move_object(*phase)),
+            Call::Move(phase) => done(self.move_object(phase)),
         }
-    }
-
-    // Where a segment's last list ends.
-    fn fill_of(&self, segment: u32) -> usize {
-        let mut fill = 0;
-        for object in &self.objects {
-            if object.record.local && object.place.segment == segment {
-                fill = fill.max(object.place.offset.saturating_add(object.list.len));
-            }
-        }
-        fill
-    }
-
-    // Where a list of so many elements goes, once a segment is filled up to this place.
-    fn room_beside(&self, filled: Option<Place>, len: usize) -> Option<Place> {
-        for segment in 0..u32::from(self.limits.segments) {
-            let offset = match filled {
-                Some(filled) if filled.segment == segment => filled.offset,
-                _ => self.fill_of(segment),
-            };
-            if offset.saturating_add(len) <= self.limits.size as usize {
-                return Some(Place { segment, offset });
-            }
-        }
-        None
     }
 
     // Puts an object in the place of another.

@@ -1,27 +1,32 @@
 // Random calls against plain objects, call by call.
 use crate::call::{Call, Change, Phase};
-use crate::desk::{Desk, Limits};
-use crate::plain::{Drawn, Log, Numbers, Plains};
-use crate::stores::{Logged, answered, faulty, logged};
+use crate::desk::Desk;
+use crate::plain::{Drawn, Numbers, Plains};
+use crate::stores::{Logged, Plan, logged};
 use far_evacuator::Want;
 use far_fixtures::Element;
 use far_random::Draws;
-use far_store::{AgentStore, FarStore, FaultyStore};
+use far_scopes::ObjectLimits;
+use far_store::FarStore;
 use far_types::Refusal;
 use std::alloc::Global;
+use std::ops::Range;
 use std::sync::Wait;
 use std::test::Fail;
 
-// How many walks, over how many stores in turn, of how many calls over each, and with how many objects at most.
-const WALKS: usize = 40;
+// The seeds of walks over stores that fail, and over logs that fill up.
+const FAILING: Range<u64> = 0..40;
 
+const FILLED: Range<u64> = 40..80;
+
+// How many stores a walk goes over in turn, with how many calls over each, and with how many objects at most.
 const STORES: u64 = 5;
 
 const STEPS: u32 = 100;
 
 const OBJECTS: u32 = 6;
 
-const LIMITS: Limits = Limits {
+const LIMITS: ObjectLimits = ObjectLimits {
     segments: 3,
     size: 40,
     changes: 12,
@@ -43,16 +48,6 @@ impl Drawable for Option<i64> {
             } else {
                 Some(i64::from(number))
             })?;
-        }
-        Ok(list)
-    }
-}
-
-impl Drawable for i64 {
-    fn draw(alloc: Global, draws: &mut Draws) -> Result<Vec<i64>, Refusal> {
-        let mut list = Vec::new(alloc);
-        for _ in 0..1 + draws.below(4) {
-            list.push(i64::from(draws.below(1_000)))?;
         }
         Ok(list)
     }
@@ -167,12 +162,17 @@ impl<T: Drawable> Lists<T> {
     /// A list for a call that takes one, and else the empty one, for which nothing is drawn.
     fn draw(&mut self, is_taken: bool, alloc: Global, draws: &mut Draws) -> Result<Drawn, Refusal> {
         if !is_taken {
-            return Ok(Drawn { index: 0, len: 0 });
+            return Ok(Drawn {
+                index: 0,
+                len: 0,
+                bytes: 0,
+            });
         }
         let list = T::draw(alloc, draws)?;
         let drawn = Drawn {
             index: self.index_of(&list),
             len: list.len(),
+            bytes: form_length(alloc, &list)?,
         };
         self.lists.push(list)?;
         Ok(drawn)
@@ -195,6 +195,14 @@ impl<T: Drawable> Lists<T> {
             None => &[],
         }
     }
+}
+
+/// How many bytes the far form of a list has.
+fn form_length<T: Element>(alloc: Global, list: &[T]) -> Result<usize, Refusal> {
+    if !T::is_spelled(list) {
+        return Err(Refusal::WrongKind);
+    }
+    Ok(T::spell(alloc, list)?.len())
 }
 
 /// A walk: its draws, the lists that were drawn, and the objects as they should be.
@@ -251,9 +259,10 @@ impl<T: Drawable> Walk<T> {
         &mut self,
         alloc: Global,
         desk: &mut Desk<'a, T, S>,
-        next: &'a Numbered<S>,
+        next: &'a Planned<S>,
     ) -> bool {
-        desk.renew(alloc, &next.store) == self.plains.renew(next.numbers) && self.agrees(desk)
+        let renewed = self.plains.renew(Numbers::new(next.plan));
+        desk.renew(alloc, &next.store) == renewed && self.agrees(desk)
     }
 
     /// Whether each object is as it should be.
@@ -267,8 +276,8 @@ impl<T: Drawable> Walk<T> {
     }
 
     fn agrees_at<S: FarStore>(&self, desk: &Desk<'_, T, S>, o: u32) -> bool {
-        let is_same = match (desk.list(o), self.plains.list(o)) {
-            (Ok(list), Ok(drawn)) => list == self.lists.get(drawn),
+        let is_same = match (desk.list(o), self.plains.local(o)) {
+            (Ok(list), Ok(plain)) => list == self.lists.get(plain.list),
             (Err(refusal), Err(due)) => refusal == due,
             _ => false,
         };
@@ -276,99 +285,79 @@ impl<T: Drawable> Walk<T> {
     }
 }
 
-/// A store, and the numbers that it should give out.
+/// A store, and how it is planned.
 #[derive(Drop)]
-struct Numbered<S> {
+struct Planned<S> {
     store: S,
-    numbers: Numbers,
+    plan: Plan,
 }
 
-/// What the stores of walks are made by.
-trait Making {
-    type Store: FarStore;
-
-    /// One of the stores of a seed's walk.
-    fn store(&self, alloc: Global, seed: u64, turn: u64) -> Result<Numbered<Self::Store>, Refusal>;
-}
-
-/// Stores each of which takes so much and fails in its own put and its own get.
-#[derive(Drop)]
-struct Agents<R>(R);
-
-impl<R: Wait + Sync + Drop + Copy> Making for Agents<R> {
-    type Store = FaultyStore<AgentStore<R>>;
-
-    fn store(&self, alloc: Global, seed: u64, turn: u64) -> Result<Numbered<Self::Store>, Refusal> {
-        let put = seed.wrapping_add(turn) % 7;
-        let get = seed.wrapping_add(turn.wrapping_mul(2)) % 5;
-        let capacity = 2 + seed.wrapping_add(turn.wrapping_mul(5)) % 11;
-        Ok(Numbered {
-            store: faulty(self.0, alloc, [capacity, put, get])?,
-            numbers: Numbers::new(capacity, put, get),
-        })
-    }
-}
-
-/// Stores over logs, each of which takes so many bytes, with forms like this, and fails in its own get.
-#[derive(Drop)]
-struct Logs<R>(R, Log);
-
-impl<R: Wait + Sync + Drop + Copy> Making for Logs<R> {
-    type Store = Logged<R>;
-
-    fn store(&self, alloc: Global, seed: u64, turn: u64) -> Result<Numbered<Self::Store>, Refusal> {
-        let get = seed.wrapping_add(turn.wrapping_mul(2)) % 5;
-        let left = 20 + seed.wrapping_add(turn.wrapping_mul(37)) % 101;
-        Ok(Numbered {
-            store: logged(self.0, alloc, left as usize, [8, get])?,
-            numbers: Numbers::logged(8, 0, get, Log { left, ..self.1 }),
-        })
-    }
-}
-
-/// The first seed whose walk, which begins with no object and goes over several stores, does not go as it should.
-fn first_wrong<T: Drawable, M: Making>(
-    alloc: Global,
-    making: &M,
-) -> Result<Option<usize>, Refusal> {
-    for seed in 0..WALKS {
-        if !walks::<T, M>(alloc, making, seed as u64)? {
-            return Ok(Some(seed));
+/// How one of the stores of a seed's walk is planned.
+fn plan_of(seed: u64, turn: u64) -> Plan {
+    let failing_get = seed.wrapping_add(turn.wrapping_mul(2)) % 5;
+    if seed < FAILING.end {
+        // It takes so much, and fails in its own put and its own get.
+        Plan {
+            bytes: 1_024,
+            capacity: 2 + seed.wrapping_add(turn.wrapping_mul(5)) % 11,
+            failing_put: seed.wrapping_add(turn) % 7,
+            failing_get,
+        }
+    } else {
+        // Its log takes so many bytes, and it fails in its own get.
+        Plan {
+            bytes: (20 + seed.wrapping_add(turn.wrapping_mul(37)) % 101) as usize,
+            capacity: 8,
+            failing_put: 0,
+            failing_get,
         }
     }
-    Ok(None)
+}
+
+/// Fails where a walk, which begins with no object and goes over several stores, does not go as it should, and names its seed.
+fn walk_all<T: Drawable, R: Wait + Sync + Drop + Copy>(
+    rt: R,
+    alloc: Global,
+    seeds: Range<u64>,
+) -> Result<(), Fail> {
+    for seed in seeds {
+        if !walks::<T, R>(rt, alloc, seed)? {
+            return Err(Fail::new(format_args!("seed {seed}")));
+        }
+    }
+    Ok(())
 }
 
 /// Whether a walk goes as it should.
-fn walks<T: Drawable, M: Making>(alloc: Global, making: &M, seed: u64) -> Result<bool, Refusal> {
-    let mut stores = Vec::new(alloc);
-    for turn in 0..STORES {
-        stores.push(making.store(alloc, seed, turn)?)?;
-    }
-    walks_over::<T, M::Store>(alloc, &stores, seed)
-}
-
-fn walks_over<T: Drawable, S: FarStore>(
+fn walks<T: Drawable, R: Wait + Sync + Drop + Copy>(
+    rt: R,
     alloc: Global,
-    stores: &[Numbered<S>],
     seed: u64,
 ) -> Result<bool, Refusal> {
+    let mut stores: Vec<Planned<Logged<R>>> = Vec::new(alloc);
+    for turn in 0..STORES {
+        let plan = plan_of(seed, turn);
+        stores.push(Planned {
+            store: logged(rt, alloc, plan)?,
+            plan,
+        })?;
+    }
     match stores.split_first() {
-        Some((first, others)) => walks_from::<T, S>(alloc, first, others, seed),
+        Some((first, others)) => walks_from::<T, Logged<R>>(alloc, first, others, seed),
         None => Ok(true),
     }
 }
 
 fn walks_from<'a, T: Drawable, S: FarStore>(
     alloc: Global,
-    first: &'a Numbered<S>,
-    others: &'a [Numbered<S>],
+    first: &'a Planned<S>,
+    others: &'a [Planned<S>],
     seed: u64,
 ) -> Result<bool, Refusal> {
     let mut walk: Walk<T> = Walk {
         draws: Draws::new(seed),
         lists: Lists::new(alloc)?,
-        plains: Plains::new(alloc, 0, LIMITS, first.numbers),
+        plains: Plains::new(alloc, LIMITS, Numbers::new(first.plan)),
     };
     walks_with(alloc, &first.store, others, &mut walk)
 }
@@ -376,7 +365,7 @@ fn walks_from<'a, T: Drawable, S: FarStore>(
 fn walks_with<'a, T: Drawable, S: FarStore>(
     alloc: Global,
     store: &'a S,
-    others: &'a [Numbered<S>],
+    others: &'a [Planned<S>],
     walk: &mut Walk<T>,
 ) -> Result<bool, Refusal> {
     match Desk::new(alloc, store, 0, LIMITS) {
@@ -388,7 +377,7 @@ fn walks_with<'a, T: Drawable, S: FarStore>(
 fn walks_on<'a, T: Drawable, S: FarStore>(
     alloc: Global,
     desk: &mut Desk<'a, T, S>,
-    others: &'a [Numbered<S>],
+    others: &'a [Planned<S>],
     walk: &mut Walk<T>,
 ) -> Result<bool, Refusal> {
     let mut agrees = walk.take_steps(alloc, desk)?;
@@ -399,35 +388,22 @@ fn walks_on<'a, T: Drawable, S: FarStore>(
     Ok(agrees)
 }
 
-// What the form of a list has: a text list is its own form, and numbers of which none is missing have 8 bytes each.
-const TEXTS: Log = Log {
-    left: 0,
-    head: 0,
-    each: 1,
-};
-
-const NUMBERS: Log = Log {
-    left: 0,
-    head: 6,
-    each: 8,
-};
-
 #[test]
 fn random_calls_on_numbers_agree_with_plain_objects(rt: HostRuntime) -> Result<(), Fail> {
-    answered(first_wrong::<Option<i64>, _>(rt.alloc(), &Agents(&rt)))
+    walk_all::<Option<i64>, _>(&rt, rt.alloc(), FAILING)
 }
 
 #[test]
 fn random_calls_on_texts_agree_with_plain_objects(rt: HostRuntime) -> Result<(), Fail> {
-    answered(first_wrong::<u8, _>(rt.alloc(), &Agents(&rt)))
-}
-
-#[test]
-fn random_calls_on_texts_agree_over_logs_that_fill_up(rt: HostRuntime) -> Result<(), Fail> {
-    answered(first_wrong::<u8, _>(rt.alloc(), &Logs(&rt, TEXTS)))
+    walk_all::<u8, _>(&rt, rt.alloc(), FAILING)
 }
 
 #[test]
 fn random_calls_on_numbers_agree_over_logs_that_fill_up(rt: HostRuntime) -> Result<(), Fail> {
-    answered(first_wrong::<i64, _>(rt.alloc(), &Logs(&rt, NUMBERS)))
+    walk_all::<Option<i64>, _>(&rt, rt.alloc(), FILLED)
+}
+
+#[test]
+fn random_calls_on_texts_agree_over_logs_that_fill_up(rt: HostRuntime) -> Result<(), Fail> {
+    walk_all::<u8, _>(&rt, rt.alloc(), FILLED)
 }

@@ -11,9 +11,9 @@ use far_types::Refusal;
 use std::alloc::Global;
 
 /// A store of so many contents.
-pub fn agent(rt: &HostRuntime, capacity: u64) -> Result<AgentStore<&HostRuntime>, Refusal> {
-    match AgentStore::new(rt, rt.alloc(), capacity) {
-        Err(Refusal::NoMemory) => AgentStore::new(rt, rt.alloc(), capacity),
+pub fn agent<R: Copy>(rt: R, alloc: Global, capacity: u64) -> Result<AgentStore<R>, Refusal> {
+    match AgentStore::new(rt, alloc, capacity) {
+        Err(Refusal::NoMemory) => AgentStore::new(rt, alloc, capacity),
         reply => reply,
     }
 }
@@ -47,13 +47,5 @@ pub fn put<T: Elem, S: FarStore>(alloc: Global, store: &S, list: &[T]) -> Result
     match store.put(alloc, &mut Meter::new(), &bytes) {
         Err(Refusal::NoMemory) => store.put(alloc, &mut Meter::new(), &bytes),
         reply => reply,
-    }
-}
-
-/// A copy of lent elements.
-pub fn copy_of<T: Elem>(alloc: Global, list: &[T]) -> Result<Vec<T>, Refusal> {
-    match list.to_vec(alloc) {
-        Ok(copy) => Ok(copy),
-        Err(_) => Ok(list.to_vec(alloc)?),
     }
 }

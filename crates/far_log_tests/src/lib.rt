@@ -1,15 +1,15 @@
 #![tactic(auto)]
-//! Tests of far_log: the region at numbers, at bytes and at a caller that writes through what it lends, and random calls
-//! against a plain list of lists.
+//! Tests of far_log: worked scripts of calls on a region of numbers, a caller that writes through what it lends, and random
+//! calls at numbers, at numbers that may be missing and at bytes against a plain list of lists.
 
 #[cfg(test)]
-mod compaction;
+mod cases;
 #[cfg(test)]
 mod order;
 #[cfg(test)]
-mod parts;
-#[cfg(test)]
 mod random;
+#[cfg(test)]
+mod script;
 #[cfg(test)]
 mod shadows;
 #[cfg(test)]

@@ -1,16 +1,14 @@
 // Random calls against a plain list of lists, step by step. A call says whether it did as it should.
 ghost use Rattle.std.specs.Prelude.{◌≡◌, ◌<◌, IfOk, IfSome, length};
-ghost use Rattle.far_log.specs.Room.{segment_of};
-ghost use Rattle.far_log.specs.Changes.{IsOrder};
 
 use crate::order::is_order;
+use crate::script::drop_part;
 use crate::shadows::{SEGMENTS, SIZE, Shadow, agree, empty_other, follow, place_of};
 use far_codec::Elem;
 use far_log::Region;
 use far_random::Draws;
 use far_types::Refusal;
 use std::alloc::Global;
-use std::test::Fail;
 
 /// How many calls are made.
 const STEPS: u32 = 10_000;
@@ -42,16 +40,12 @@ impl Sample for u8 {
     }
 }
 
-fn draw_element<T: Sample>(draws: &mut Draws) -> T {
-    T::sample(draws.below(1_000_000))
-}
-
 fn draw_list<T: Sample>(alloc: Global, draws: &mut Draws, len: usize) -> Result<Vec<T>, Refusal>
     ensures { IfOk result (λ list. length list.items ≡ len) }
 {
     let mut list = Vec::new(alloc);
     for _ in 0..len {
-        list.push(draw_element(draws))?;
+        list.push(T::sample(draws.below(1_000_000)))?;
     }
     Ok(list)
 }
@@ -66,24 +60,7 @@ fn draw_index(draws: &mut Draws, len: usize) -> Option<usize>
     }
 }
 
-/// Places a list. Says whether it went where it should.
-fn place<T: Sample>(
-    region: &mut Region<T>,
-    shadows: &mut Vec<Shadow<T>>,
-    list: Vec<T>,
-) -> Result<bool, Refusal>
-    requires { 0 < length list.items }
-{
-    let expected = place_of(shadows, list.len());
-    match region.place(&list) {
-        Ok(at) => {
-            shadows.push(Shadow { at, list })?;
-            Ok(Some(at) == expected)
-        }
-        Err(refusal) => Ok(refusal == Refusal::RegionFull && expected.is_none()),
-    }
-}
-
+/// Places a list. Says whether it fitted and went where it should.
 fn place_some<T: Sample>(
     alloc: Global,
     draws: &mut Draws,
@@ -92,10 +69,15 @@ fn place_some<T: Sample>(
 ) -> Result<bool, Refusal> {
     let len = 1 + draws.below(7) as usize;
     let list = draw_list::<T>(alloc, draws, len)?;
-    if region.fits(len) != place_of(shadows, len).is_some() {
-        return Ok(false);
+    let expected = place_of(shadows, len);
+    let fits = region.fits(len) == expected.is_some();
+    match region.place(&list) {
+        Ok(at) => {
+            shadows.push(Shadow { at, list })?;
+            Ok(fits && Some(at) == expected)
+        }
+        Err(refusal) => Ok(fits && refusal == Refusal::RegionFull && expected.is_none()),
     }
-    place(region, shadows, list)
 }
 
 fn drop_some<T: Sample>(
@@ -103,27 +85,42 @@ fn drop_some<T: Sample>(
     region: &mut Region<T>,
     shadows: &mut Vec<Shadow<T>>,
 ) -> bool {
-    let Some(number) = draw_index(draws, shadows.len()) else {
-        return true;
-    };
-    let shadow = shadows.swap_remove(number);
-    if !region.holds(shadow.at) {
-        return false;
+    match draw_index(draws, shadows.len()) {
+        Some(number) => drop_part(region, shadows.swap_remove(number).at),
+        None => true,
     }
-    region.drop_at(shadow.at);
-    true
 }
 
-/// Writes values over a part.
-fn write<T: Sample>(region: &mut Region<T>, shadow: &mut Shadow<T>, values: Vec<T>) -> bool {
-    if !region.holds(shadow.at) {
-        return false;
-    }
-    for (element, value) in region.part_mut(shadow.at).iter_mut().zip(values.iter()) {
+fn overwrite<T: Copy>(list: &mut [T], values: &[T]) {
+    for (element, value) in list.iter_mut().zip(values.iter()) {
         *element = *value;
     }
-    shadow.list = values;
-    true
+}
+
+/// Writes values over a range of a part, or over all of it.
+fn write<T: Sample>(
+    alloc: Global,
+    draws: &mut Draws,
+    region: &mut Region<T>,
+    shadow: &mut Shadow<T>,
+) -> Result<bool, Refusal> {
+    let (at, len) = (shadow.at, shadow.list.len());
+    if !region.holds(at) || region.part(at).len() != len {
+        return Ok(false);
+    }
+    let Some(from) = draw_index(draws, len) else {
+        return Ok(false);
+    };
+    let to = from + draw_index(draws, len - from).unwrap_or(0);
+    let values = draw_list::<T>(alloc, draws, len)?;
+    if draws.below(2) == 0 {
+        overwrite(region.part_mut(at), &values);
+        shadow.list = values;
+    } else {
+        overwrite(region.range_mut(at, from, to), &values);
+        overwrite(&mut shadow.list[from..to], &values);
+    }
+    Ok(true)
 }
 
 fn write_some<T: Sample>(
@@ -132,44 +129,9 @@ fn write_some<T: Sample>(
     region: &mut Region<T>,
     shadows: &mut [Shadow<T>],
 ) -> Result<bool, Refusal> {
-    let Some(number) = draw_index(draws, shadows.len()) else {
-        return Ok(true);
-    };
-    let values = draw_list::<T>(alloc, draws, shadows[number].list.len())?;
-    Ok(write(region, &mut shadows[number], values))
-}
-
-fn write_range<T: Sample>(
-    draws: &mut Draws,
-    region: &mut Region<T>,
-    shadow: &mut Shadow<T>,
-) -> bool {
-    if !region.holds(shadow.at) || region.part(shadow.at).len() != shadow.list.len() {
-        return false;
-    }
-    let len = shadow.list.len();
-    let Some(from) = draw_index(draws, len) else {
-        return false;
-    };
-    let to = from + draw_index(draws, len - from).unwrap_or(0);
-    let value = draw_element::<T>(draws);
-    for element in region.range_mut(shadow.at, from, to).iter_mut() {
-        *element = value;
-    }
-    for element in shadow.list[from..to].iter_mut() {
-        *element = value;
-    }
-    true
-}
-
-fn write_some_range<T: Sample>(
-    draws: &mut Draws,
-    region: &mut Region<T>,
-    shadows: &mut [Shadow<T>],
-) -> bool {
     match draw_index(draws, shadows.len()) {
-        Some(number) => write_range(draws, region, &mut shadows[number]),
-        None => true,
+        Some(number) => write(alloc, draws, region, &mut shadows[number]),
+        None => Ok(true),
     }
 }
 
@@ -185,23 +147,6 @@ fn order_of<T>(alloc: Global, shadows: &[Shadow<T>], segment: u32) -> Result<Vec
 }
 
 /// Compacts a segment. Says whether its parts went where they should.
-fn compact<T: Sample>(
-    alloc: Global,
-    region: &mut Region<T>,
-    shadows: &mut [Shadow<T>],
-    from: u32,
-    order: &[u32],
-) -> bool
-    requires { IsOrder (segment_of region.old from).parts order.now }
-{
-    let expected = empty_other(shadows, from);
-    match region.compact(alloc, from, order) {
-        Ok(moved) => Some(moved.segment) == expected && follow(shadows, from, &moved),
-        Err(Refusal::OutOfRange) => from == SEGMENTS,
-        Err(refusal) => refusal == Refusal::RegionFull && from < SEGMENTS && expected.is_none(),
-    }
-}
-
 fn compact_some<T: Sample>(
     alloc: Global,
     draws: &mut Draws,
@@ -213,7 +158,12 @@ fn compact_some<T: Sample>(
     if !is_order(region, from as u16, &order) {
         return Ok(false);
     }
-    Ok(compact(alloc, region, shadows, from, &order))
+    let expected = empty_other(shadows, from);
+    Ok(match region.compact(alloc, from, &order) {
+        Ok(moved) => Some(moved.segment) == expected && follow(shadows, from, &moved),
+        Err(Refusal::OutOfRange) => from == SEGMENTS,
+        Err(refusal) => refusal == Refusal::RegionFull && from < SEGMENTS && expected.is_none(),
+    })
 }
 
 fn step<T: Sample>(
@@ -225,8 +175,7 @@ fn step<T: Sample>(
     match draws.below(9) {
         0..=2 => place_some(alloc, draws, region, shadows),
         3 | 4 => Ok(drop_some(draws, region, shadows)),
-        5 => write_some(alloc, draws, region, shadows),
-        6 => Ok(write_some_range(draws, region, shadows)),
+        5 | 6 => write_some(alloc, draws, region, shadows),
         _ => compact_some(alloc, draws, region, shadows),
     }
 }
@@ -246,23 +195,18 @@ fn first_wrong_step<T: Sample>(
     Ok(None)
 }
 
-#[test]
-fn random_calls_on_numbers_agree_with_a_list_of_lists(rt: HostRuntime) -> Result<(), Fail> {
-    let mut region = Region::<i64>::new(rt.alloc(), SEGMENTS, SIZE)?;
-    assert_eq!(rt; first_wrong_step(rt.alloc(), &mut region)?, None);
-    Ok(())
+/// The same on a region that is made for these calls.
+fn wrong_step_on<T: Sample>(alloc: Global) -> Result<Option<u32>, Refusal> {
+    first_wrong_step(alloc, &mut Region::<T>::new(alloc, SEGMENTS, SIZE)?)
 }
 
 #[test]
-fn random_calls_on_numbers_that_may_be_missing_agree(rt: HostRuntime) -> Result<(), Fail> {
-    let mut region = Region::<Option<i64>>::new(rt.alloc(), SEGMENTS, SIZE)?;
-    assert_eq!(rt; first_wrong_step(rt.alloc(), &mut region)?, None);
-    Ok(())
-}
-
-#[test]
-fn random_calls_on_bytes_agree(rt: HostRuntime) -> Result<(), Fail> {
-    let mut region = Region::<u8>::new(rt.alloc(), SEGMENTS, SIZE)?;
-    assert_eq!(rt; first_wrong_step(rt.alloc(), &mut region)?, None);
-    Ok(())
+fn random_calls_agree_with_a_list_of_lists(rt: HostRuntime) {
+    assert_eq!(rt; wrong_step_on::<i64>(rt.alloc()), Ok(None), "on numbers");
+    assert_eq!(rt;
+        wrong_step_on::<Option<i64>>(rt.alloc()),
+        Ok(None),
+        "on numbers that may be missing"
+    );
+    assert_eq!(rt; wrong_step_on::<u8>(rt.alloc()), Ok(None), "on bytes");
 }

@@ -1,11 +1,12 @@
 #![tactic(auto)]
-//! Tests of far_offload: worked row groups, and what a refusal leaves: the repeat gives the answer.
+//! Tests of far_offload: worked row groups, carried and folded at hand, and what a refusal leaves: the repeat gives the
+//! answer.
 
+#[cfg(test)]
+mod cases;
 #[cfg(test)]
 mod folding;
 #[cfg(test)]
-mod hand;
-#[cfg(test)]
-mod plain;
+mod jobs;
 #[cfg(test)]
 mod rows;

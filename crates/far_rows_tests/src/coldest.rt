@@ -2,10 +2,9 @@
 use crate::fixture::{LIMITS, Values};
 use crate::look::Look;
 use crate::pushing::FIRST;
-use crate::script::{CASE, Call, Case, Step, play};
+use crate::script::{CASE, Call, Case, Step};
 use far_types::CellRef::{Int, Text};
 use far_types::{CellRef, Limits, Name};
-use std::test::Fail;
 
 // The objects of the first row group.
 const FIRST_TEXTS: Option<Name> = Some(Name {
@@ -72,7 +71,7 @@ const TWO_SEGMENTS: Limits = Limits {
 const SHORT: CellRef<'static> = Text("aaaaaaaaaaaaaaaaaaaaaa");
 
 /// Both kinds take half of their memory.
-const AS_MUCH: Values<'static> = (SHORT, Int(1), SHORT, Int(2));
+const AS_MUCH: Values<'static> = [SHORT, Int(1), SHORT, Int(2)];
 
 const NUMBERS_FIRST: &[Step] = &[
     Step::Does(Call::Push(AS_MUCH)),
@@ -83,7 +82,7 @@ const NUMBERS_FIRST: &[Step] = &[
 const LONG: CellRef<'static> = Text("aaaaaaaaaaaaaaaaaaaaaaa");
 
 /// The texts take more than half of it.
-const MORE: Values<'static> = (SHORT, Int(1), LONG, Int(2));
+const MORE: Values<'static> = [SHORT, Int(1), LONG, Int(2)];
 
 /// The numbers go where all texts are pinned.
 const TEXTS_FIRST: &[Step] = &[
@@ -94,7 +93,7 @@ const TEXTS_FIRST: &[Step] = &[
     Step::Is(Look::Coldest(FIRST_NUMBERS)),
 ];
 
-static CASES: [Case; 4] = [
+pub const CASES: &[Case] = &[
     Case {
         name: "numbers go before texts that take less",
         parts: &[PINNED],
@@ -118,8 +117,3 @@ static CASES: [Case; 4] = [
         ..CASE
     },
 ];
-
-#[test]
-fn the_coldest_object_of_the_kind_with_less_room_goes_first(rt: HostRuntime) -> Result<(), Fail> {
-    play(&rt, rt.alloc(), &CASES)
-}

@@ -11,10 +11,9 @@ use far_store::{FarStore, Meter};
 use far_types::{CellRef, Kind, Limits, Refusal, Schema};
 use std::alloc::Global;
 use std::marker::Model;
-pub use writing::row;
 
 /// The values of a row, in the order of the columns.
-pub type Values<'a> = (CellRef<'a>, CellRef<'a>, CellRef<'a>, CellRef<'a>);
+pub type Values<'a> = [CellRef<'a>; 4];
 
 /// Row groups of two places, and room for the objects of two of them.
 pub const LIMITS: Limits = Limits {
@@ -99,9 +98,7 @@ impl<'a, S: FarStore> Fixture<'a, S> {
 
     fn reply(&mut self, alloc: Global, call: &Call) -> Result<(), Refusal> {
         match call {
-            Call::MayPush(values) => self.may_push(alloc, values),
             Call::Push(values) => self.push(alloc, values),
-            Call::MaySet(column, place, value) => self.may_set(alloc, *column, *place, *value),
             Call::Set(column, place, value) => self.set(alloc, *column, *place, *value),
             Call::Clear(place) => self.clear(*place),
             Call::Pin(column, group) => self.rows.pin(*column, *group),

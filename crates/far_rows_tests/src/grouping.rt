@@ -1,9 +1,8 @@
 // Row groups that are lent: worked examples.
 use crate::look::Look;
 use crate::pushing::THREE_ROWS;
-use crate::script::{CASE, Call, Case, Step, play};
+use crate::script::{CASE, Call, Case, Step};
 use far_types::Refusal;
-use std::test::Fail;
 
 /// The first of three places is dead and the two others are alive.
 const FLAGS: &[Step] = &[
@@ -39,7 +38,7 @@ const AWAY: &[Step] = &[
     Step::Is(Look::Texts(0, 0, Some("one"), None)),
 ];
 
-static CASES: [Case; 3] = [
+pub const CASES: &[Case] = &[
     Case {
         name: "a row group is lent as far as its places are used",
         parts: &[THREE_ROWS, FLAGS],
@@ -56,8 +55,3 @@ static CASES: [Case; 3] = [
         ..CASE
     },
 ];
-
-#[test]
-fn row_groups_are_lent(rt: HostRuntime) -> Result<(), Fail> {
-    play(&rt, rt.alloc(), &CASES)
-}

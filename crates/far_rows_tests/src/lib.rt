@@ -2,9 +2,9 @@
 //! What no clause of far_rows says: that calls are served, and that worked examples come out as they should.
 
 #[cfg(test)]
-mod coldest;
+mod cases;
 #[cfg(test)]
-mod filling;
+mod coldest;
 #[cfg(test)]
 mod fixture;
 #[cfg(test)]

@@ -41,16 +41,6 @@ pub enum Look {
     Texts(usize, u32, Option<&'static str>, Option<&'static str>),
 }
 
-/// Which of these is the first that a table is not.
-pub fn first_other<S: FarTickets>(rows: &Rows<S>, looks: &[Look]) -> Option<usize> {
-    for (index, look) in looks.iter().enumerate() {
-        if !is_so(rows, look) {
-            return Some(index);
-        }
-    }
-    None
-}
-
 /// Whether a table is so.
 pub fn is_so<S: FarTickets>(rows: &Rows<S>, look: &Look) -> bool {
     match look {
@@ -62,11 +52,7 @@ pub fn is_so<S: FarTickets>(rows: &Rows<S>, look: &Look) -> bool {
         Look::Slots(slots) => rows.slots() == *slots,
         Look::Kind(column, kind) => rows.kind(*column) == *kind,
         Look::Flags(group, flags) => rows.flags(*group) == *flags,
-        Look::Numbers(column, group, numbers) => has_numbers(rows, *column, *group, numbers),
-        Look::Texts(column, group, first, second) => {
-            has_texts(rows, *column, *group, *first, *second)
-        }
-        Look::Pieces(column, from, to, due) => pieces(rows, *column, *from, *to) == *due,
+        Look::Pieces(..) | Look::Numbers(..) | Look::Texts(..) => is_lent(rows, look),
         Look::Here(_, due)
         | Look::Cell(_, _, due)
         | Look::Text(_, _, due)
@@ -87,35 +73,36 @@ fn refusal<S: FarTickets>(rows: &Rows<S>, look: &Look) -> Option<Refusal> {
     }
 }
 
-// How many pieces of a column's places `from` up to `to` are lent.
-fn pieces<S: FarTickets>(
-    rows: &Rows<S>,
-    column: usize,
-    from: usize,
-    to: usize,
-) -> Result<usize, Refusal> {
-    match rows.ints(column, from, to) {
-        Ok(pieces) => Ok(pieces.len()),
-        Err(refusal) => Err(refusal),
+// Whether what is looked at is lent as it should be.
+fn is_lent<S: FarTickets>(rows: &Rows<S>, look: &Look) -> bool {
+    match look {
+        Look::Pieces(column, from, to, due) => match rows.ints(*column, *from, *to) {
+            Ok(pieces) => *due == Ok(pieces.len()),
+            Err(refusal) => *due == Err(refusal),
+        },
+        Look::Numbers(column, group, numbers) => match rows.group_column(*column, *group) {
+            Ok(LentColumn::Numbers(lent)) => lent == *numbers,
+            _ => false,
+        },
+        Look::Texts(column, group, first, second) => match rows.group_column(*column, *group) {
+            Ok(LentColumn::Form(form)) => text_of(form, 0) == *first && text_of(form, 1) == *second,
+            _ => false,
+        },
+        _ => false,
     }
 }
 
 // Whether a table has these rows, which are all alive, and no other.
 fn has_rows<S: FarTickets>(rows: &Rows<S>, due: &[Values<'static>]) -> bool {
-    for place in 0..=4 {
-        if !has_row(rows, place, due.get(place)) {
+    for (place, values) in due.iter().enumerate() {
+        if rows.is_alive(place) != Some(true) || !has_values(rows, place, values) {
             return false;
         }
     }
-    rows.len() == due.len()
-}
-
-fn has_row<S: FarTickets>(rows: &Rows<S>, place: usize, row: Option<&Values<'static>>) -> bool {
-    let alive = rows.is_alive(place);
-    match row {
-        Some(values) => alive == Some(true) && has_values(rows, place, values),
-        None => alive.is_none() && rows.cell(0, place).err() == Some(Refusal::NoRow),
-    }
+    let end = due.len();
+    rows.len() == end
+        && rows.is_alive(end).is_none()
+        && rows.cell(0, end).err() == Some(Refusal::NoRow)
 }
 
 // Whether a place has these values, read cell by cell, and as one row, and no other.
@@ -127,23 +114,12 @@ fn has_values<S: FarTickets>(rows: &Rows<S>, place: usize, values: &Values<'_>) 
         return false;
     };
     for column in 0..5 {
-        let value = value_in(values, column);
+        let value = values.get(column).copied();
         if !is_cell(row.get(column), value) || !is_cell(rows.cell(column, place).ok(), value) {
             return false;
         }
     }
     true
-}
-
-/// The value for a column.
-pub fn value_in<'a>(values: &Values<'a>, column: usize) -> Option<CellRef<'a>> {
-    match column {
-        0 => Some(values.0),
-        1 => Some(values.1),
-        2 => Some(values.2),
-        3 => Some(values.3),
-        _ => None,
-    }
 }
 
 /// Whether both are the same cell, or none.
@@ -152,33 +128,6 @@ pub fn is_cell(one: Option<CellRef<'_>>, other: Option<CellRef<'_>>) -> bool {
         (Some(CellRef::Int(one)), Some(CellRef::Int(other))) => one == other,
         (Some(CellRef::Text(one)), Some(CellRef::Text(other))) => one == other,
         (Some(CellRef::Missing), Some(CellRef::Missing)) | (None, None) => true,
-        _ => false,
-    }
-}
-
-// Whether a row group of a column is lent with these numbers.
-fn has_numbers<S: FarTickets>(
-    rows: &Rows<S>,
-    column: usize,
-    group: u32,
-    numbers: &[Option<i64>],
-) -> bool {
-    match rows.group_column(column, group) {
-        Ok(LentColumn::Numbers(lent)) => lent == numbers,
-        _ => false,
-    }
-}
-
-// Whether a row group of a column is lent with these two texts.
-fn has_texts<S: FarTickets>(
-    rows: &Rows<S>,
-    column: usize,
-    group: u32,
-    first: Option<&str>,
-    second: Option<&str>,
-) -> bool {
-    match rows.group_column(column, group) {
-        Ok(LentColumn::Form(form)) => text_of(form, 0) == first && text_of(form, 1) == second,
         _ => false,
     }
 }

@@ -2,10 +2,9 @@
 use crate::fixture::LIMITS;
 use crate::look::Look;
 use crate::pushing::{FIRST, FOUR_ROWS, FOURTH, HAS_FOUR, HAS_THREE, THREE_ROWS};
-use crate::script::{CASE, Call, Case, Step, play};
+use crate::script::{CASE, Call, Case, Step};
 use far_types::CellRef::{Int, Missing};
 use far_types::{Limits, Refusal};
-use std::test::Fail;
 
 // How a call is refused for the object of a column in the second row group.
 macro_rules! absent {
@@ -24,12 +23,12 @@ macro_rules! while_away {
         &[
             Step::Is(Look::Here(1, Some(absent!($column)))),
             Step::Is(Look::Cell($column, 2, Some(absent!($column)))),
-            Step::Refuses(Call::MayPush(FIRST), absent!($column)),
-            Step::Refuses(Call::MaySet(3, 2, Int(1)), absent!($column)),
-            Step::Refuses(Call::MaySet(0, 2, Missing), absent!($column)),
+            Step::Refuses(Call::Push(FIRST), absent!($column)),
+            Step::Refuses(Call::Set(3, 2, Int(1)), absent!($column)),
+            Step::Refuses(Call::Set(0, 2, Missing), absent!($column)),
             Step::Is(Look::Here(0, None)),
             Step::Is(Look::Values(0, FIRST)),
-            Step::Does(Call::MaySet(3, 1, Int(1))),
+            Step::Does(Call::Set(3, 1, Int(20))),
         ]
     };
 }
@@ -181,7 +180,7 @@ const ALL_TAKEN: &[Step] = &[
     HAS_FOUR,
 ];
 
-static CASES: [Case; 5] = [
+pub const CASES: &[Case] = &[
     Case {
         name: "objects that went away and came back have their cells",
         parts: &[
@@ -240,8 +239,3 @@ static CASES: [Case; 5] = [
         ..CASE
     },
 ];
-
-#[test]
-fn objects_are_pinned_and_moved(rt: HostRuntime) -> Result<(), Fail> {
-    play(&rt, rt.alloc(), &CASES)
-}

@@ -1,67 +1,46 @@
-// Tables that are opened: worked examples.
-use crate::look::{Look, first_other};
-use far_rows::{Rows, Slot};
-use far_store::{AgentStore, FarTickets};
-use far_types::{Kind, Limits, Refusal, Schema};
-use std::alloc::Global;
-use std::test::Fail;
+// A table that is opened: a worked example.
+use crate::look::Look;
+use crate::script::{CASE, Case, Step};
+use far_rows::Slot;
+use far_types::{Kind, Refusal};
 
-/// An empty table of a column of numbers, one of texts and another of numbers, at the second call where the first finds no
-/// memory.
-fn opened<S: FarTickets>(alloc: Global) -> Result<Rows<S>, Refusal> {
-    let schema = Schema::new(Vec::from_array(alloc, [Kind::Int, Kind::Text, Kind::Int])?)?;
-    let limits = Limits {
-        group: 4,
-        places: 100,
-        edits: 9,
-        int_segments: 2,
-        int_size: 4,
-        text_segments: 2,
-        text_size: 64,
-    };
-    limits.check()?;
-    match Rows::new(alloc, &schema, &limits, 7) {
-        Err(Refusal::NoMemory) => Rows::new(alloc, &schema, &limits, 7),
-        reply => reply,
-    }
-}
-
-/// What is due of it.
-static OPENED: [Look; 18] = [
+const COLUMNS: &[Step] = &[
     // A column lies behind those of its kind.
-    Look::Slots(&[Slot::Number(0), Slot::Text(0), Slot::Number(1)]),
-    Look::Kind(0, Some(Kind::Int)),
-    Look::Kind(1, Some(Kind::Text)),
-    Look::Kind(2, Some(Kind::Int)),
-    Look::Kind(3, None),
-    // An empty table has no cell.
-    Look::Len(0),
-    Look::Alive(0, None),
-    Look::Cell(2, 0, Some(Refusal::NoRow)),
-    Look::Cell(3, 0, Some(Refusal::NoColumn)),
-    // A row group without a place is here.
-    Look::Here(0, None),
-    Look::Here(9, None),
-    // Numbers are lent of columns of numbers alone.
-    Look::Pieces(0, 0, 0, Ok(0)),
-    Look::Pieces(2, 0, 1, Err(Refusal::OutOfRange)),
-    Look::Pieces(1, 0, 1, Err(Refusal::WrongKind)),
-    Look::Pieces(3, 0, 0, Err(Refusal::NoColumn)),
-    // A text is lent of a column of texts alone.
-    Look::Text(1, 0, Some(Refusal::NoRow)),
-    Look::Text(0, 0, Some(Refusal::WrongKind)),
-    Look::Text(3, 0, Some(Refusal::NoColumn)),
+    Step::Is(Look::Slots(&[
+        Slot::Text(0),
+        Slot::Number(0),
+        Slot::Text(1),
+        Slot::Number(1),
+    ])),
+    Step::Is(Look::Kind(0, Some(Kind::Text))),
+    Step::Is(Look::Kind(1, Some(Kind::Int))),
+    Step::Is(Look::Kind(2, Some(Kind::Text))),
+    Step::Is(Look::Kind(3, Some(Kind::Int))),
+    Step::Is(Look::Kind(4, None)),
 ];
 
-/// The first of these that it is not.
-fn first_other_opened<S: FarTickets>(alloc: Global) -> Result<Option<usize>, Refusal> {
-    let rows = opened::<S>(alloc)?;
-    Ok(first_other(&rows, &OPENED))
-}
+const EMPTY: &[Step] = &[
+    // An empty table has no cell.
+    Step::Is(Look::Len(0)),
+    Step::Is(Look::Alive(0, None)),
+    Step::Is(Look::Cell(3, 0, Some(Refusal::NoRow))),
+    Step::Is(Look::Cell(4, 0, Some(Refusal::NoColumn))),
+    // A row group without a place is here.
+    Step::Is(Look::Here(0, None)),
+    Step::Is(Look::Here(9, None)),
+    // Numbers are lent of columns of numbers alone.
+    Step::Is(Look::Pieces(1, 0, 0, Ok(0))),
+    Step::Is(Look::Pieces(3, 0, 1, Err(Refusal::OutOfRange))),
+    Step::Is(Look::Pieces(2, 0, 1, Err(Refusal::WrongKind))),
+    Step::Is(Look::Pieces(4, 0, 0, Err(Refusal::NoColumn))),
+    // A text is lent of a column of texts alone.
+    Step::Is(Look::Text(2, 0, Some(Refusal::NoRow))),
+    Step::Is(Look::Text(1, 0, Some(Refusal::WrongKind))),
+    Step::Is(Look::Text(4, 0, Some(Refusal::NoColumn))),
+];
 
-/// The store of the table is not made, since an empty table asks it for nothing.
-#[test]
-fn a_table_is_opened_without_a_row(rt: HostRuntime) {
-    let other = first_other_opened::<AgentStore<&'_ HostRuntime>>(rt.alloc());
-    assert_eq!(rt; other, Ok(None));
-}
+pub const CASES: &[Case] = &[Case {
+    name: "a table is opened without a row",
+    parts: &[COLUMNS, EMPTY],
+    ..CASE
+}];

@@ -1,19 +1,18 @@
 // Rows that are pushed: worked examples.
 use crate::fixture::{LIMITS, Values};
 use crate::look::Look;
-use crate::script::{CASE, Call, Case, Step, play};
+use crate::script::{CASE, Call, Case, Step};
 use far_types::CellRef::{Int, Missing, Text};
 use far_types::{CellRef, Limits, Refusal};
-use std::test::Fail;
 
 /// The values of two row groups.
-pub const FIRST: Values<'static> = (Text("one"), Int(1), Text(""), Missing);
+pub const FIRST: Values<'static> = [Text("one"), Int(1), Text(""), Missing];
 
-pub const SECOND: Values<'static> = (Missing, Int(-2), Text("zwei"), Int(20));
+pub const SECOND: Values<'static> = [Missing, Int(-2), Text("zwei"), Int(20)];
 
-pub const THIRD: Values<'static> = (Text("three"), Missing, Missing, Int(i64::MIN));
+pub const THIRD: Values<'static> = [Text("three"), Missing, Missing, Int(i64::MIN)];
 
-pub const FOURTH: Values<'static> = (Missing, Missing, Missing, Missing);
+pub const FOURTH: Values<'static> = [Missing, Missing, Missing, Missing];
 
 /// The first of them are pushed.
 pub const ONE_ROW: &[Step] = &[Step::Does(Call::Push(FIRST))];
@@ -40,26 +39,22 @@ pub const HAS_THREE: Step = Step::Is(Look::Rows(&[FIRST, SECOND, THIRD]));
 
 pub const HAS_FOUR: Step = Step::Is(Look::Rows(&[FIRST, SECOND, THIRD, FOURTH]));
 
-/// Each row is asked for, pushed and read back.
+/// Each row is pushed, which asks beforehand, and read back.
 const PUSHED: &[Step] = &[
     Step::Is(Look::Rows(&[])),
-    Step::Does(Call::MayPush(FIRST)),
     Step::Does(Call::Push(FIRST)),
     HAS_ONE,
-    Step::Does(Call::MayPush(SECOND)),
     Step::Does(Call::Push(SECOND)),
     HAS_TWO,
-    Step::Does(Call::MayPush(THIRD)),
     Step::Does(Call::Push(THIRD)),
     HAS_THREE,
-    Step::Does(Call::MayPush(FOURTH)),
     Step::Does(Call::Push(FOURTH)),
     HAS_FOUR,
 ];
 
 /// Two row groups take all room for numbers.
 const NO_NUMBERS: &[Step] = &[
-    Step::Refuses(Call::MayPush(FIRST), Refusal::RegionFull),
+    Step::Refuses(Call::Push(FIRST), Refusal::RegionFull),
     HAS_FOUR,
 ];
 
@@ -72,15 +67,15 @@ const ONE_SEGMENT: Limits = Limits {
     ..LIMITS
 };
 
-const TWO_LONG: Values<'static> = (LONG, Missing, LONG, Missing);
+const TWO_LONG: Values<'static> = [LONG, Missing, LONG, Missing];
 
-const ONE_LONG: Values<'static> = (Missing, Int(1), LONG, Int(2));
+const ONE_LONG: Values<'static> = [Missing, Int(1), LONG, Int(2)];
 
 /// A row with one long text fits in it, and neither two such texts do nor another such row.
 const NO_TEXTS: &[Step] = &[
-    Step::Refuses(Call::MayPush(TWO_LONG), Refusal::RegionFull),
+    Step::Refuses(Call::Push(TWO_LONG), Refusal::RegionFull),
     Step::Does(Call::Push(ONE_LONG)),
-    Step::Refuses(Call::MayPush(ONE_LONG), Refusal::ChunkFull),
+    Step::Refuses(Call::Push(ONE_LONG), Refusal::ChunkFull),
     Step::Is(Look::Alive(0, Some(true))),
     Step::Is(Look::Alive(1, None)),
     Step::Is(Look::Values(0, ONE_LONG)),
@@ -118,11 +113,11 @@ macro_rules! is_too_long {
     ($text:expr) => {
         &[
             Step::Refuses(
-                Call::MayPush((Text($text), Int(1), Missing, Int(2))),
+                Call::Push([Text($text), Int(1), Missing, Int(2)]),
                 Refusal::ChunkFull,
             ),
             Step::Refuses(
-                Call::MayPush((Missing, Int(1), Text($text), Int(2))),
+                Call::Push([Missing, Int(1), Text($text), Int(2)]),
                 Refusal::ChunkFull,
             ),
         ]
@@ -132,7 +127,7 @@ macro_rules! is_too_long {
 /// The next row is pushed.
 const ONLY_SHORT: &[Step] = &[HAS_ONE, Step::Does(Call::Push(SECOND)), HAS_TWO];
 
-static CASES: [Case; 4] = [
+pub const CASES: &[Case] = &[
     Case {
         name: "rows that are pushed read back",
         parts: &[PUSHED],
@@ -161,8 +156,3 @@ static CASES: [Case; 4] = [
         ..CASE
     },
 ];
-
-#[test]
-fn rows_are_pushed_as_far_as_there_is_room(rt: HostRuntime) -> Result<(), Fail> {
-    play(&rt, rt.alloc(), &CASES)
-}

@@ -3,18 +3,18 @@ mod plain;
 
 use crate::fixture::{Fixture, LIMITS};
 use crate::look::is_cell;
-use crate::script::{Call, store};
+use crate::script::{CASE, Call, Case, play_case};
 use far_random::Draws;
 use far_store::FarStore;
 use far_types::{CellRef, Limits, Refusal};
 use plain::Plain;
 use std::alloc::Global;
-use std::sync::Wait;
+use std::test::Fail;
 
 // How many runs of how many calls.
 const RUNS: u64 = 20;
 
-const STEPS: u32 = 400;
+const STEPS: usize = 400;
 
 // How many places a row group has, and the table at most.
 const SIZE: usize = 3;
@@ -61,21 +61,18 @@ fn drawn(draws: &mut Draws, column: usize) -> CellRef<'static> {
     CellRef::Int(i64::from(number).wrapping_sub(500))
 }
 
-/// A call that pushes a row.
-fn drawn_push(draws: &mut Draws) -> Call {
-    let first = drawn(draws, 0);
-    let second = drawn(draws, 1);
-    let third = drawn(draws, 2);
-    Call::Push((first, second, third, drawn(draws, 3)))
-}
-
 /// The next call on a table of so many places.
 fn drawn_call(draws: &mut Draws, len: usize) -> Call {
     let place = draws.index_or_end(len);
     let column = draws.below(4) as usize;
     let group = u32::try_from(place / SIZE).unwrap_or(u32::MAX);
     match draws.below(29) {
-        0..=4 if len < PLACES => drawn_push(draws),
+        0..=4 if len < PLACES => Call::Push([
+            drawn(draws, 0),
+            drawn(draws, 1),
+            drawn(draws, 2),
+            drawn(draws, 3),
+        ]),
         0..=12 => Call::Set(column, place, drawn(draws, column)),
         13 => Call::Clear(place),
         14 => Call::Pin(column, group),
@@ -89,12 +86,12 @@ fn drawn_call(draws: &mut Draws, len: usize) -> Call {
 
 /// Whether a table is as it should be.
 fn agree<S: FarStore>(fixture: &Fixture<'_, S>, plain: &Plain) -> bool {
-    for place in 0..=plain.len() {
+    for place in 0..=plain.len {
         if !agree_at(fixture, plain, place) {
             return false;
         }
     }
-    fixture.rows().len() == plain.len()
+    fixture.rows().len() == plain.len
 }
 
 fn agree_at<S: FarStore>(fixture: &Fixture<'_, S>, plain: &Plain, place: usize) -> bool {
@@ -120,57 +117,32 @@ fn is_same(one: Result<CellRef<'_>, Refusal>, other: Result<CellRef<'_>, Refusal
 }
 
 /// Makes the calls of a seed: which is the first whose reply, or the whole table after it, is not as it should be.
-fn first_wrong<S: FarStore>(
+pub fn first_wrong<S: FarStore>(
     alloc: Global,
     fixture: &mut Fixture<'_, S>,
-    plain: &mut Plain,
     seed: u64,
-) -> Option<u32> {
+) -> Option<(usize, usize)> {
     let mut draws = Draws::new(seed);
+    let mut plain = Plain::new();
     for step in 0..STEPS {
-        let call = drawn_call(&mut draws, plain.len());
-        if fixture.answer(alloc, &call) != plain.answer(&call) || !agree(fixture, plain) {
-            return Some(step);
+        let call = drawn_call(&mut draws, plain.len);
+        if fixture.answer(alloc, &call) != plain.answer(&call) || !agree(fixture, &plain) {
+            return Some((0, step));
         }
     }
     None
 }
 
-/// The same on a table of its own.
-fn first_wrong_of<S: FarStore>(
-    alloc: Global,
-    store: &S,
-    seed: u64,
-) -> Result<Option<u32>, Refusal> {
-    let mut fixture = Fixture::new(alloc, store, store, &LARGE)?;
-    let mut plain = Plain::new(alloc)?;
-    Ok(first_wrong(alloc, &mut fixture, &mut plain, seed))
-}
-
-/// The first run that is not right, and its first call that is not.
-fn first_wrong_run<S: FarStore>(alloc: Global, store: &S) -> Result<Option<(u64, u32)>, Refusal> {
-    for seed in 0..RUNS {
-        match first_wrong_of(alloc, store, seed) {
-            Ok(None) => {}
-            Ok(Some(step)) => return Ok(Some((seed, step))),
-            Err(refusal) => return Err(refusal),
-        }
-    }
-    Ok(None)
-}
-
-/// The same over a store of its own.
-fn first_wrong_over<R: Wait + Sync + Drop + Copy>(
-    rt: R,
-    alloc: Global,
-) -> Result<Option<(u64, u32)>, Refusal> {
-    match store(rt, alloc, 65_536, 0) {
-        Ok(store) => first_wrong_run(alloc, &store),
-        Err(refusal) => Err(refusal),
-    }
-}
-
 #[test]
-fn random_calls_on_a_table_agree_with_plain_lists(rt: HostRuntime) {
-    assert_eq!(rt; first_wrong_over(&rt, rt.alloc()), Ok(None));
+fn random_calls_on_a_table_agree_with_plain_lists(rt: HostRuntime) -> Result<(), Fail> {
+    for seed in 0..RUNS {
+        let case = Case {
+            limits: LARGE,
+            seed: Some(seed),
+            ..CASE
+        };
+        let wrong = play_case(&rt, rt.alloc(), &case)?;
+        assert_eq!(rt; wrong, None, "seed {seed}");
+    }
+    Ok(())
 }

@@ -4,9 +4,8 @@ use crate::moving::{
     TEXTS_AWAY, TEXTS_BACK, WHILE_ALL_AWAY, WHILE_NUMBERS_AWAY, WHILE_TEXTS_AWAY,
 };
 use crate::pushing::{HAS_THREE, THREE_ROWS};
-use crate::script::{CASE, Call, Case, Step, play};
+use crate::script::{CASE, Call, Case, Step};
 use far_types::Refusal;
-use std::test::Fail;
 
 /// What is away is put into the other store, or there is no room for it.
 const PUT: &[Step] = &[Step::Does(Call::PutAgain)];
@@ -43,7 +42,7 @@ const EACH_BACK: &[Step] = &[
     HAS_THREE,
 ];
 
-static CASES: [Case; 10] = [
+pub const CASES: &[Case] = &[
     Case {
         name: "texts that are away move",
         parts: &[THREE_ROWS, TEXTS_AWAY],
@@ -110,8 +109,3 @@ static CASES: [Case; 10] = [
         ..CASE
     },
 ];
-
-#[test]
-fn tables_go_into_another_store(rt: HostRuntime) -> Result<(), Fail> {
-    play(&rt, rt.alloc(), &CASES)
-}

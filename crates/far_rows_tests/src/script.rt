@@ -2,6 +2,7 @@
 // grows with its steps: one player makes the stores and the table of all of them.
 use crate::fixture::{Fixture, LIMITS, Values};
 use crate::look::{Look, is_so};
+use crate::random_run;
 use far_store::{AgentStore, FarStore, FaultyStore};
 use far_types::{CellRef, Limits, Refusal};
 use std::alloc::Global;
@@ -11,10 +12,8 @@ use std::test::Fail;
 /// A call on a table. `Set` asks beforehand whether it may be made, and so does `Push`.
 #[derive(Drop)]
 pub enum Call {
-    MayPush(Values<'static>),
     Push(Values<'static>),
     /// The column, the place and the value.
-    MaySet(usize, usize, CellRef<'static>),
     Set(usize, usize, CellRef<'static>),
     Clear(usize),
     /// The column and the row group.
@@ -41,6 +40,7 @@ pub enum Step {
 }
 
 /// A script of several parts on a table of its own, which begins without a row.
+#[derive(Drop)]
 pub struct Case {
     pub name: &'static str,
     pub limits: Limits,
@@ -51,6 +51,8 @@ pub struct Case {
     pub parts: &'static [&'static [Step]],
     /// What comes once the table is in the other store. It goes there if there is such a part.
     pub moved: &'static [&'static [Step]],
+    /// In place of parts, calls that follow from this seed, beside plain lists.
+    pub seed: Option<u64>,
 }
 
 /// A case without a part, within the limits of most.
@@ -61,6 +63,7 @@ pub const CASE: Case = Case {
     fault: 0,
     parts: &[],
     moved: &[],
+    seed: None,
 };
 
 /// Plays cases, and fails at the first step that does not come out as it should: it names the case, and counts the parts and
@@ -71,45 +74,22 @@ pub fn play<R: Wait + Sync + Drop + Copy>(
     cases: &[Case],
 ) -> Result<(), Fail> {
     for case in cases {
-        if let Some((part, step)) = first_wrong(rt, alloc, case)? {
+        if let Some((part, step)) = play_case(rt, alloc, case)? {
             return Err(Fail::new(format_args!("{}: {part}, {step}", case.name)));
         }
     }
     Ok(())
 }
 
-/// A store of so many contents, at the second call where the first finds no memory. One get from it is a fault.
-pub fn store<R: Wait + Sync + Drop + Copy>(
-    rt: R,
-    alloc: Global,
-    capacity: u64,
-    fault: u64,
-) -> Result<FaultyStore<AgentStore<R>>, Refusal> {
-    let store = match AgentStore::new(rt, alloc, capacity) {
-        Err(Refusal::NoMemory) => AgentStore::new(rt, alloc, capacity),
-        reply => reply,
-    };
-    Ok(FaultyStore::new(store?, 0, fault))
-}
-
-// The part and the step of a case that do not come out as they should.
-fn first_wrong<R: Wait + Sync + Drop + Copy>(
+/// The part and the step of a case that do not come out as they should.
+pub fn play_case<R: Wait + Sync + Drop + Copy>(
     rt: R,
     alloc: Global,
     case: &Case,
 ) -> Result<Option<(usize, usize)>, Refusal> {
-    let store = store(rt, alloc, 16, case.fault)?;
-    first_wrong_over(rt, alloc, &store, case)
-}
-
-fn first_wrong_over<R: Wait + Sync + Drop + Copy>(
-    rt: R,
-    alloc: Global,
-    first: &FaultyStore<AgentStore<R>>,
-    case: &Case,
-) -> Result<Option<(usize, usize)>, Refusal> {
-    let other = store(rt, alloc, case.capacity, 0)?;
-    first_wrong_between(alloc, first, &other, case)
+    let store = FaultyStore::new(AgentStore::new(rt, alloc, 256)?, 0, case.fault);
+    let other = FaultyStore::new(AgentStore::new(rt, alloc, case.capacity)?, 0, 0);
+    first_wrong_between(alloc, &store, &other, case)
 }
 
 fn first_wrong_between<S: FarStore>(
@@ -119,24 +99,17 @@ fn first_wrong_between<S: FarStore>(
     case: &Case,
 ) -> Result<Option<(usize, usize)>, Refusal> {
     let mut fixture = Fixture::new(alloc, store, other, &case.limits)?;
+    if let Some(seed) = case.seed {
+        return Ok(random_run::first_wrong(alloc, &mut fixture, seed));
+    }
     let wrong = first_wrong_part(alloc, &mut fixture, case.parts);
     if wrong.is_some() || case.moved.is_empty() {
         return Ok(wrong);
     }
-    first_wrong_moved(alloc, fixture, case.moved)
-}
-
-// The same of the parts that come once the table is in the other store.
-fn first_wrong_moved<S: FarStore>(
-    alloc: Global,
-    fixture: Fixture<'_, S>,
-    parts: &[&[Step]],
-) -> Result<Option<(usize, usize)>, Refusal> {
     let mut fixture = fixture.moved(alloc)?;
-    Ok(first_wrong_part(alloc, &mut fixture, parts))
+    Ok(first_wrong_part(alloc, &mut fixture, case.moved))
 }
 
-// The part of a script and its step that do not come out as they should.
 fn first_wrong_part<S: FarStore>(
     alloc: Global,
     fixture: &mut Fixture<'_, S>,
@@ -156,18 +129,14 @@ fn first_wrong_step<S: FarStore>(
     part: &[Step],
 ) -> Option<usize> {
     for (index, step) in part.iter().enumerate() {
-        if !comes_out(alloc, fixture, step) {
+        let comes_out = match step {
+            Step::Does(call) => fixture.answer(alloc, call) == Ok(()),
+            Step::Refuses(call, refusal) => fixture.answer(alloc, call) == Err(*refusal),
+            Step::Is(look) => is_so(fixture.rows(), look),
+        };
+        if !comes_out {
             return Some(index);
         }
     }
     None
-}
-
-// Whether a step comes out as it should.
-fn comes_out<S: FarStore>(alloc: Global, fixture: &mut Fixture<'_, S>, step: &Step) -> bool {
-    match step {
-        Step::Does(call) => fixture.answer(alloc, call) == Ok(()),
-        Step::Refuses(call, refusal) => fixture.answer(alloc, call) == Err(*refusal),
-        Step::Is(look) => is_so(fixture.rows(), look),
-    }
 }

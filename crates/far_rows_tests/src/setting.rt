@@ -2,42 +2,41 @@
 use crate::fixture::{LIMITS, Values};
 use crate::look::Look;
 use crate::pushing::{FIRST, FOUR_ROWS, FOURTH, HAS_FOUR, ONE_ROW, SECOND, THIRD};
-use crate::script::{CASE, Call, Case, Step, play};
+use crate::script::{CASE, Call, Case, Step};
 use far_types::CellRef::{Int, Missing, Text};
 use far_types::{CellRef, Limits, Refusal};
-use std::test::Fail;
 
 /// The first row, and the fourth, once some of their cells are set.
-const SET_FIRST: Values<'static> = (Missing, Missing, Text("uno"), Int(-7));
+const SET_FIRST: Values<'static> = [Missing, Missing, Text("uno"), Int(-7)];
 
-const SET_FOURTH: Values<'static> = (Text(""), Missing, Missing, Int(i64::MAX));
+const SET_FOURTH: Values<'static> = [Text(""), Missing, Missing, Int(i64::MAX)];
 
 /// Sets one after the other, each with all rows after it.
 const SETS: &[Step] = &[
     Step::Does(Call::Set(1, 0, Int(7))),
     Step::Is(Look::Rows(&[
-        (Text("one"), Int(7), Text(""), Missing),
+        [Text("one"), Int(7), Text(""), Missing],
         SECOND,
         THIRD,
         FOURTH,
     ])),
     Step::Does(Call::Set(3, 0, Int(-7))),
     Step::Is(Look::Rows(&[
-        (Text("one"), Int(7), Text(""), Int(-7)),
+        [Text("one"), Int(7), Text(""), Int(-7)],
         SECOND,
         THIRD,
         FOURTH,
     ])),
     Step::Does(Call::Set(1, 0, Missing)),
     Step::Is(Look::Rows(&[
-        (Text("one"), Missing, Text(""), Int(-7)),
+        [Text("one"), Missing, Text(""), Int(-7)],
         SECOND,
         THIRD,
         FOURTH,
     ])),
     Step::Does(Call::Set(2, 0, Text("uno"))),
     Step::Is(Look::Rows(&[
-        (Text("one"), Missing, Text("uno"), Int(-7)),
+        [Text("one"), Missing, Text("uno"), Int(-7)],
         SECOND,
         THIRD,
         FOURTH,
@@ -49,14 +48,14 @@ const SETS: &[Step] = &[
         SET_FIRST,
         SECOND,
         THIRD,
-        (Text("four"), Missing, Missing, Missing),
+        [Text("four"), Missing, Missing, Missing],
     ])),
     Step::Does(Call::Set(0, 3, Text(""))),
     Step::Is(Look::Rows(&[
         SET_FIRST,
         SECOND,
         THIRD,
-        (Text(""), Missing, Missing, Missing),
+        [Text(""), Missing, Missing, Missing],
     ])),
     Step::Does(Call::Set(3, 3, Int(i64::MAX))),
     Step::Is(Look::Rows(&[SET_FIRST, SECOND, THIRD, SET_FOURTH])),
@@ -75,7 +74,7 @@ const CLEARED: &[Step] = &[
     Step::Is(Look::Values(3, FOURTH)),
     Step::Does(Call::Set(1, 2, Int(3))),
     Step::Is(Look::Alive(2, Some(false))),
-    Step::Is(Look::Values(2, (Text("three"), Int(3), Missing, Int(i64::MIN)))),
+    Step::Is(Look::Values(2, [Text("three"), Int(3), Missing, Int(i64::MIN)])),
     Step::Is(Look::Alive(4, None)),
 ];
 
@@ -85,14 +84,14 @@ const FILLING: CellRef<'static> = Text(
 );
 
 const TOO_LONG: &[Step] = &[
-    Step::Refuses(Call::MaySet(2, 3, FILLING), Refusal::ChunkFull),
+    Step::Refuses(Call::Set(2, 3, FILLING), Refusal::ChunkFull),
     HAS_FOUR,
 ];
 
 /// A text of 45 letters, of which two take all room for texts.
 const LONG: CellRef<'static> = Text("aaaaaaaaaaaaaaaaaaaaaaaaaaaaaaaaaaaaaaaaaaaaa");
 
-const TWO_LONG: Values<'static> = (LONG, Missing, LONG, Missing);
+const TWO_LONG: Values<'static> = [LONG, Missing, LONG, Missing];
 
 const TWO_SEGMENTS: Limits = Limits {
     text_segments: 2,
@@ -101,7 +100,7 @@ const TWO_SEGMENTS: Limits = Limits {
 
 const NO_ROOM: &[Step] = &[
     Step::Does(Call::Push(TWO_LONG)),
-    Step::Refuses(Call::MaySet(2, 0, Text("a")), Refusal::RegionFull),
+    Step::Refuses(Call::Set(2, 0, Text("a")), Refusal::RegionFull),
     Step::Is(Look::Values(0, TWO_LONG)),
 ];
 
@@ -112,14 +111,14 @@ const WRITTEN_OUT: &[Step] = &[
     Step::Does(Call::Set(0, 0, Text("b"))),
     Step::Does(Call::Set(1, 0, Int(9))),
     Step::Does(Call::Set(0, 0, Text("b"))),
-    Step::Refuses(Call::MaySet(1, 0, Missing), Refusal::EditsUsedUp),
-    Step::Refuses(Call::MaySet(0, 0, Missing), Refusal::EditsUsedUp),
-    Step::Does(Call::MaySet(2, 0, Missing)),
-    Step::Refuses(Call::MayPush(SECOND), Refusal::EditsUsedUp),
-    Step::Is(Look::Values(0, (Text("b"), Int(9), Text(""), Missing))),
+    Step::Refuses(Call::Set(1, 0, Missing), Refusal::EditsUsedUp),
+    Step::Refuses(Call::Set(0, 0, Missing), Refusal::EditsUsedUp),
+    Step::Does(Call::Set(2, 0, Missing)),
+    Step::Refuses(Call::Push(SECOND), Refusal::EditsUsedUp),
+    Step::Is(Look::Values(0, [Text("b"), Int(9), Missing, Missing])),
 ];
 
-static CASES: [Case; 5] = [
+pub const CASES: &[Case] = &[
     Case {
         name: "a cell that is set reads back and the others stay",
         parts: &[FOUR_ROWS, SETS],
@@ -148,8 +147,3 @@ static CASES: [Case; 5] = [
         ..CASE
     },
 ];
-
-#[test]
-fn cells_are_set_as_far_as_they_may_be(rt: HostRuntime) -> Result<(), Fail> {
-    play(&rt, rt.alloc(), &CASES)
-}

@@ -1,1 +1,1 @@
-mod RenewedCount
+mod NotMemory

@@ -1,250 +1,143 @@
 // When a planned fault comes: no clause can say it, since no clause knows what an atomic holds.
-ghost use Rattle.std.specs.Prelude.{◌≡◌, ◌+◌, ◌<◌, ◌^◌};
-ghost use Rattle.far_store.specs.Faults.{faults_in};
+use crate::case::{AGENT, Base, Case, LOG};
+use crate::generic::Why::{Fault, Full, NoMemory};
+use crate::planned_engine::Turn;
+use crate::script::Line::{self, FourThreads, Get, JoinsMeters, Put};
 
-use crate::generic::{
-    Answer, FAULT, Gets, NO_MEMORY, SERVED, Why, answer_of_put, answers_gets, answers_puts,
-    why_not_put,
-};
-use crate::trial::{Kind, Trial, comes_out};
-use far_store::{AgentStore, FarRead, FarStore, FaultyStore, Meter};
-use far_types::Refusal;
-use std::alloc::{AllocError, Global};
-use std::sync::Wait;
-use std::thread::{self, Threads};
+// What five puts draw of which the first fails, the second or the third: the one that fails draws nothing.
+const FIRST_FAILS: &[Line] = &[
+    Put(&[1], Err(Fault)),
+    Put(&[1], Ok(0)),
+    Put(&[1], Ok(1)),
+    Put(&[1], Ok(2)),
+    Put(&[1], Ok(3)),
+];
 
-// A store of so many contents that fails in these calls.
-pub fn faulty<R: Drop>(
-    rt: R,
-    alloc: Global,
-    capacity: u64,
-    failing_put: u64,
-    failing_get: u64,
-) -> Result<FaultyStore<AgentStore<R>>, Refusal> {
-    let agent = AgentStore::new(rt, alloc, capacity)?;
-    Ok(FaultyStore::new(agent, failing_put, failing_get))
-}
+const SECOND_FAILS: &[Line] = &[
+    Put(&[1], Ok(0)),
+    Put(&[1], Err(Fault)),
+    Put(&[1], Ok(1)),
+    Put(&[1], Ok(2)),
+    Put(&[1], Ok(3)),
+];
 
-// Whether, of five puts, this one alone meets a fault.
-pub fn fails_in_put<S: FarStore>(store: &S, alloc: Global, failing: u64) -> bool {
-    let mut all = true;
-    for put in 1..6 {
-        let wanted = if put == failing { FAULT } else { SERVED };
-        all &= answer_of_put(store, alloc) == wanted;
+const THIRD_FAILS: &[Line] = &[
+    Put(&[1], Ok(0)),
+    Put(&[1], Ok(1)),
+    Put(&[1], Err(Fault)),
+    Put(&[1], Ok(2)),
+    Put(&[1], Ok(3)),
+];
+
+static CASES: [Case; 11] = [
+    Case {
+        name: "the first put fails once and its repeat is served",
+        failing_put: 1,
+        lines: FIRST_FAILS,
+        ..AGENT
+    },
+    Case {
+        name: "the second put fails once and its repeat is served",
+        failing_put: 2,
+        lines: SECOND_FAILS,
+        ..AGENT
+    },
+    Case {
+        name: "the planned put does not reach the store under it",
+        failing_put: 3,
+        lines: THIRD_FAILS,
+        ..AGENT
+    },
+    Case {
+        name: "the planned put into a log fails once",
+        failing_put: 2,
+        lines: SECOND_FAILS,
+        ..LOG
+    },
+    Case {
+        name: "the planned put does not reach the log under it",
+        failing_put: 3,
+        lines: THIRD_FAILS,
+        ..LOG
+    },
+    Case {
+        name: "the planned get fails once and leaves nothing",
+        failing_get: 2,
+        lines: &[
+            Put(&[1, 2], Ok(0)),
+            Get(Ok(&[1, 2])),
+            Get(Err(Fault)),
+            Get(Ok(&[1, 2])),
+        ],
+        ..AGENT
+    },
+    Case {
+        name: "a 0 plans no fault",
+        failing_put: 0,
+        failing_get: 0,
+        lines: &[
+            Put(&[0], Ok(0)),
+            Get(Ok(&[0])),
+            Put(&[1], Ok(1)),
+            Get(Ok(&[1])),
+            Put(&[2], Ok(2)),
+            Get(Ok(&[2])),
+        ],
+        ..AGENT
+    },
+    // The first put and the first get that find memory are the second ones.
+    Case {
+        name: "a call that finds no memory is not counted",
+        base: Base::Log(
+            64,
+            &[Turn::NoMemory, Turn::Serve, Turn::Serve, Turn::NoMemory],
+        ),
+        failing_put: 2,
+        failing_get: 2,
+        lines: &[
+            Put(&[1, 2], Err(NoMemory)),
+            Put(&[1, 2], Ok(0)),
+            Put(&[1, 2], Err(Fault)),
+            Put(&[1, 2], Ok(1)),
+            Get(Err(NoMemory)),
+            Get(Ok(&[1, 2])),
+            Get(Err(Fault)),
+            Get(Ok(&[1, 2])),
+        ],
+        ..LOG
+    },
+    Case {
+        name: "a put into a full store is counted",
+        capacity: 1,
+        failing_put: 3,
+        lines: &[
+            Put(&[1], Ok(0)),
+            Put(&[1], Err(Full)),
+            Put(&[1], Err(Fault)),
+            Put(&[1], Err(Full)),
+        ],
+        ..AGENT
+    },
+    Case {
+        name: "joined meters add up",
+        failing_put: 2,
+        failing_get: 1,
+        lines: &[Put(&[1], Ok(0)), JoinsMeters],
+        ..AGENT
+    },
+    Case {
+        name: "one of four threads meets the planned fault",
+        capacity: 4_000,
+        failing_put: 2_000,
+        lines: &[FourThreads(1_000, 3, 1)],
+        ..AGENT
+    },
+];
+
+#[test]
+fn a_faulty_store_fails_where_each_case_says(rt: HostRuntime) {
+    for case in &CASES {
+        let name = case.name;
+        assert!(rt; case.holds(&rt, rt.alloc()), "{name}");
     }
-    all
-}
-
-#[test]
-fn the_planned_put_fails_once_and_its_repeat_is_served(rt: HostRuntime) {
-    for failing in 1..4 {
-        let store = Kind::Faulty(8, failing, 0);
-        let fails = comes_out(&rt, rt.alloc(), store, Trial::FailsInPut(failing));
-        assert!(rt; fails, "failing {failing}");
-    }
-}
-
-#[test]
-fn the_planned_put_into_a_log_fails_once(rt: HostRuntime) {
-    assert!(rt; comes_out(&rt, rt.alloc(), Kind::FaultyLog(2), Trial::FailsInPut(2)));
-}
-
-// Whether puts draw these numbers, one after another, and meet a fault where there is none.
-pub fn draws<S: FarStore>(store: &S, alloc: Global, numbers: &[Option<u64>]) -> bool {
-    let mut all = true;
-    for wanted in numbers {
-        all &= draws_next(store, alloc, *wanted);
-    }
-    all
-}
-
-fn draws_next<S: FarStore>(store: &S, alloc: Global, wanted: Option<u64>) -> bool {
-    match store.put(alloc, &mut Meter::new(), &[1]) {
-        Ok(ticket) => wanted == Some(store.number(&ticket)),
-        Err(refusal) => wanted.is_none() && refusal == Refusal::FarFault,
-    }
-}
-
-// What the puts draw of which the third fails.
-static THIRD_FAILS: [Option<u64>; 5] = [Some(0), Some(1), None, Some(2), Some(3)];
-
-#[test]
-fn the_planned_put_does_not_reach_the_store_under_it(rt: HostRuntime) {
-    assert!(rt;
-        comes_out(
-            &rt,
-            rt.alloc(),
-            Kind::Faulty(8, 3, 0),
-            Trial::Draws(&THIRD_FAILS)
-        )
-    );
-}
-
-#[test]
-fn the_planned_put_does_not_reach_the_log_under_it(rt: HostRuntime) {
-    assert!(rt;
-        comes_out(
-            &rt,
-            rt.alloc(),
-            Kind::FaultyLog(3),
-            Trial::Draws(&THIRD_FAILS)
-        )
-    );
-}
-
-#[test]
-fn the_planned_get_fails_once_and_leaves_nothing(rt: HostRuntime) {
-    static WANTED: [(Answer, &[u8]); 3] = [(SERVED, &[1, 2]), (FAULT, &[]), (SERVED, &[1, 2])];
-    assert!(rt;
-        comes_out(
-            &rt,
-            rt.alloc(),
-            Kind::Faulty(8, 0, 2),
-            Trial::AnswersGets(&WANTED)
-        )
-    );
-}
-
-#[test]
-fn a_0_plans_no_fault(rt: HostRuntime) {
-    assert!(rt; comes_out(&rt, rt.alloc(), Kind::Faulty(8, 0, 0), Trial::Serves(5)));
-}
-
-// Whether the second put that finds memory meets a fault, and the gets of what the first put are as wanted.
-pub fn counts_what_had_memory<S: FarStore>(
-    store: &S,
-    alloc: Global,
-    wanted: Gets<'_>,
-) -> Result<bool, Refusal> {
-    let is_refused = answer_of_put(store, alloc) == NO_MEMORY;
-    let ticket = store.put(alloc, &mut Meter::new(), &[1, 2])?;
-    let are_answered = answers_puts(store, alloc, &[FAULT, SERVED]);
-    Ok(is_refused && are_answered && answers_gets(store, alloc, &ticket, wanted))
-}
-
-#[test]
-fn a_call_that_finds_no_memory_is_not_counted(rt: HostRuntime) {
-    static WANTED: [(Answer, &[u8]); 4] = [
-        (NO_MEMORY, &[]),
-        (SERVED, &[1, 2]),
-        (FAULT, &[]),
-        (SERVED, &[1, 2]),
-    ];
-    assert!(rt;
-        comes_out(
-            &rt,
-            rt.alloc(),
-            Kind::Scarce,
-            Trial::CountsWhatHadMemory(&WANTED)
-        )
-    );
-}
-
-// Whether puts are not accepted for these reasons, one after another.
-pub fn gives_reasons<S: FarStore>(store: &S, alloc: Global, reasons: &[Option<Why>]) -> bool {
-    let mut all = true;
-    for wanted in reasons {
-        all &= why_not_put(store, alloc) == *wanted;
-    }
-    all
-}
-
-#[test]
-fn a_put_into_a_full_store_is_counted(rt: HostRuntime) {
-    static REASONS: [Option<Why>; 4] = [None, Some(Why::Full), Some(Why::Fault), Some(Why::Full)];
-    assert!(rt;
-        comes_out(
-            &rt,
-            rt.alloc(),
-            Kind::Faulty(1, 3, 0),
-            Trial::GivesReasons(&REASONS)
-        )
-    );
-}
-
-// Whether these are the faults of a caller whose first put is refused, of one whose first get is, and of both together.
-pub fn joined_faults<S: FarStore>(
-    store: &S,
-    alloc: Global,
-    faults: [u64; 3],
-) -> Result<bool, Refusal> {
-    let (mut first, mut second) = (Meter::new(), Meter::new());
-    let _ = store.put(alloc, &mut first, &[1]).err();
-    let ticket = store.put(alloc, &mut second, &[1])?;
-    let _ = got(store, alloc, &mut second, &ticket).err();
-    let apart = [first.faults(), second.faults()];
-    first.join(second);
-    Ok(apart == [faults[0], faults[1]] && first.faults() == faults[2])
-}
-
-// How a get is answered whose buffer is let go of.
-fn got<S: FarRead>(
-    store: &S,
-    alloc: Global,
-    meter: &mut Meter,
-    ticket: &S::Ticket,
-) -> Result<(), Refusal>
-    requires few { meter.old < 2 ^ 62 }
-    requires here { S.is_of ticket.now (S.name store.now) }
-    ensures { meter.new ≡ meter.old + faults_in result }
-{
-    let mut buffer = Vec::new(alloc);
-    store.get(alloc, meter, ticket, &mut buffer)
-}
-
-#[test]
-fn joined_meters_add_up(rt: HostRuntime) {
-    assert!(rt;
-        comes_out(
-            &rt,
-            rt.alloc(),
-            Kind::Faulty(8, 1, 1),
-            Trial::JoinsFaults([1, 1, 2])
-        )
-    );
-}
-
-// How many of 1,000 puts of a thread are refused.
-fn refused_puts<S: FarStore>(store: &S, alloc: Global) -> usize {
-    let mut refused = 0usize;
-    for _ in 0..1_000 {
-        if answer_of_put(store, alloc).0.is_some() {
-            refused = refused.saturating_add(1);
-        }
-    }
-    refused
-}
-
-// Whether, of four threads that put together, one had one put refused, and three none.
-fn one_of_four_is_refused<R: Threads + Sync, S: FarStore>(
-    rt: &R,
-    store: &S,
-    alloc: Global,
-) -> Result<bool, AllocError> {
-    let refused = thread::map_indices(rt, alloc, 4, &|_| refused_puts(store, alloc))?;
-    Ok(had(&refused, 1) == 1 && had(&refused, 0) == 3)
-}
-
-// How many threads had so many puts refused.
-fn had(refused: &[usize], puts: usize) -> usize {
-    let mut threads = 0usize;
-    for count in refused {
-        if *count == puts {
-            threads = threads.saturating_add(1);
-        }
-    }
-    threads
-}
-
-// The same of an agent whose 2,000th put fails.
-fn fails_in_one_thread<R: Threads + Wait + Sync + Drop>(
-    rt: &R,
-    alloc: Global,
-) -> Result<bool, Refusal> {
-    Ok(one_of_four_is_refused(rt, &faulty(rt, alloc, 4_000, 2_000, 0)?, alloc)?)
-}
-
-#[test]
-fn one_of_four_threads_meets_the_planned_fault(rt: HostRuntime) {
-    assert!(rt; fails_in_one_thread(&rt, rt.alloc()) == Ok(true));
 }

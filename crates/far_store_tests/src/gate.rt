@@ -1,81 +1,55 @@
 // What a gate does to a put, which no clause can say.
-use crate::engine::logged;
-use crate::generic::{Answer, FAULT, SERVED, answer_of_put, serves};
+use crate::case::logged;
+use crate::generic::Why::{self, Fault};
+use crate::generic::put;
+use crate::script::Line::{self, Get, Put};
+use crate::script::plays;
+use crate::threads::had;
 use far_store::{AgentStore, FarStore, GateStore};
 use far_types::Refusal;
-use std::alloc::{AllocError, Global};
+use std::alloc::Global;
 use std::sync::Wait;
 use std::thread::{self, Threads};
+
+// What opens a gate.
+#[derive(Clone, Copy)]
+enum Opener {
+    // A release.
+    Release,
+    // The second put.
+    SecondPut,
+    // A release before any put.
+    Early,
+}
 
 // What is tried on a gate.
 #[derive(Clone, Copy)]
 enum Trial {
+    // Lines are answered one after another, and a put was at the gate.
+    Plays(&'static [Line]),
     // A put is served that is held until it is released, and the next one without.
     ServesTheReleased,
-    // The first put is held until it is a fault, and the second served.
-    FailsUnreleased,
     // Of two threads that put once each, so many meet a fault, and so many are served.
     AnswersTwo(usize, usize),
-    // Contents are served once the gate is open.
-    ServesOnceOpen,
 }
 
-// Whether a trial comes out on a gate over an agent.
-fn on_agent<R: Threads + Wait + Sync + Drop>(
-    rt: &R,
-    alloc: Global,
-    trial: Trial,
-) -> Result<bool, Refusal> {
-    on(
-        rt,
-        &GateStore::new(AgentStore::new(rt, alloc, 8)?),
-        alloc,
-        trial,
-    )
-}
-
-// The same of a gate that the second put opens.
-fn on_two<R: Threads + Wait + Sync + Drop>(
-    rt: &R,
-    alloc: Global,
-    trial: Trial,
-) -> Result<bool, Refusal> {
-    on(
-        rt,
-        &GateStore::two(AgentStore::new(rt, alloc, 8)?),
-        alloc,
-        trial,
-    )
-}
-
-// The same of a gate over a log.
-fn on_log<R: Threads + Wait + Sync + Drop>(
-    rt: &R,
-    alloc: Global,
-    trial: Trial,
-) -> Result<bool, Refusal> {
-    on(rt, &GateStore::new(logged(rt, alloc, 8, 8)?), alloc, trial)
-}
-
-fn on<R: Threads + Sync, S: FarStore>(
-    rt: &R,
-    store: &GateStore<S>,
-    alloc: Global,
-    trial: Trial,
-) -> Result<bool, Refusal> {
-    match trial {
-        Trial::ServesTheReleased => Ok(serves_the_released(rt, store, alloc)),
-        Trial::FailsUnreleased => Ok(fails_unreleased(store, alloc)),
-        Trial::AnswersTwo(faults, served) => Ok(answers_two(rt, store, alloc, faults, served)?),
-        Trial::ServesOnceOpen => serves_once_open(store, alloc),
+fn gated<S: FarStore>(store: S, opener: Opener) -> GateStore<S> {
+    match opener {
+        Opener::Release => GateStore::new(store),
+        Opener::SecondPut => GateStore::two(store),
+        Opener::Early => {
+            let gate = GateStore::new(store);
+            gate.release();
+            gate
+        }
     }
 }
 
 // Waits until a put is held, and then opens the gate. Says whether one came.
-fn release_when_held<S>(store: &GateStore<S>) -> bool {
+fn release_when_held<S>(gate: &GateStore<S>) -> bool {
     for _ in 0..1_000_000 {
-        if store.held() {
-            store.release();
+        if gate.held() {
+            gate.release();
             return true;
         }
         thread::yield_now();
@@ -83,86 +57,118 @@ fn release_when_held<S>(store: &GateStore<S>) -> bool {
     false
 }
 
+// Why a put is not served, if it is not.
+fn unserved<S: FarStore>(store: &S, alloc: Global) -> Option<Why> {
+    put(store, alloc, &[1]).err()
+}
+
 // Whether a put is served that is held until it is released, and the next one without.
 fn serves_the_released<R: Threads, S: FarStore>(
     rt: &R,
-    store: &GateStore<S>,
+    gate: &GateStore<S>,
     alloc: Global,
 ) -> bool {
-    let is_held_before = store.held();
-    let (answer, came) = thread::join(
-        rt,
-        || answer_of_put(store, alloc),
-        || release_when_held(store),
-    );
-    !is_held_before && came && answer == SERVED && answer_of_put(store, alloc) == SERVED
+    let is_held_before = gate.held();
+    let (held, came) = thread::join(rt, || unserved(gate, alloc), || release_when_held(gate));
+    !is_held_before && came && [held, unserved(gate, alloc)] == [None, None]
+}
+
+// How two puts at once are answered.
+fn two_at_once<R: Threads, S: FarStore>(
+    rt: &R,
+    gate: &GateStore<S>,
+    alloc: Global,
+) -> [Option<Why>; 2] {
+    let (one, other) = thread::join(rt, || unserved(gate, alloc), || unserved(gate, alloc));
+    [one, other]
+}
+
+// Whether a trial comes out on a gate.
+fn comes_out<R: Threads + Sync, S: FarStore>(
+    rt: &R,
+    gate: &GateStore<S>,
+    alloc: Global,
+    trial: Trial,
+) -> bool {
+    match trial {
+        Trial::Plays(lines) => plays(rt, gate, alloc, lines) && gate.held(),
+        Trial::ServesTheReleased => serves_the_released(rt, gate, alloc),
+        Trial::AnswersTwo(faults, served) => {
+            let answers = two_at_once(rt, gate, alloc);
+            had(&answers, &Some(Fault)) == faults && had(&answers, &None) == served
+        }
+    }
+}
+
+fn on_agent<R: Threads + Wait + Sync + Drop>(
+    rt: &R,
+    alloc: Global,
+    opener: Opener,
+    trial: Trial,
+) -> Result<bool, Refusal> {
+    let gate = gated(AgentStore::new(rt, alloc, 8)?, opener);
+    Ok(comes_out(rt, &gate, alloc, trial))
+}
+
+fn on_log<R: Threads + Wait + Sync + Drop>(
+    rt: &R,
+    alloc: Global,
+    trial: Trial,
+) -> Result<bool, Refusal> {
+    let gate = gated(logged(rt, alloc, 8, &[], 8)?, Opener::Release);
+    Ok(comes_out(rt, &gate, alloc, trial))
+}
+
+// The first put is held until it is a fault, and the second is served.
+const UNRELEASED: Trial = Trial::Plays(&[Put(&[1], Err(Fault)), Put(&[1], Ok(0))]);
+
+static CASES: [(&str, Opener, Trial); 5] = [
+    (
+        "a held put goes on when it is released",
+        Opener::Release,
+        Trial::ServesTheReleased,
+    ),
+    (
+        "a second put passes a gate that waits for release and does not open it",
+        Opener::Release,
+        Trial::AnswersTwo(1, 1),
+    ),
+    (
+        "the second put opens the gate of two",
+        Opener::SecondPut,
+        Trial::AnswersTwo(0, 2),
+    ),
+    (
+        "a put that no second releases is a fault",
+        Opener::SecondPut,
+        UNRELEASED,
+    ),
+    (
+        "an open gate lets everything through",
+        Opener::Early,
+        Trial::Plays(&[
+            Put(&[0], Ok(0)),
+            Get(Ok(&[0])),
+            Put(&[1], Ok(1)),
+            Get(Ok(&[1])),
+        ]),
+    ),
+];
+
+#[test]
+fn a_gate_over_an_agent_opens_as_each_case_says(rt: HostRuntime) {
+    for (name, opener, trial) in &CASES {
+        let came_out = on_agent(&rt, rt.alloc(), *opener, *trial);
+        assert!(rt; came_out == Ok(true), "{name}");
+    }
 }
 
 #[test]
-fn a_held_put_goes_on_when_it_is_released(rt: HostRuntime) {
-    assert!(rt; on_agent(&rt, rt.alloc(), Trial::ServesTheReleased) == Ok(true));
+fn a_put_that_nobody_releases_is_a_fault(rt: HostRuntime) {
+    assert!(rt; on_agent(&rt, rt.alloc(), Opener::Release, UNRELEASED) == Ok(true));
 }
 
 #[test]
 fn a_held_put_into_a_log_goes_on_when_it_is_released(rt: HostRuntime) {
     assert!(rt; on_log(&rt, rt.alloc(), Trial::ServesTheReleased) == Ok(true));
-}
-
-// Whether the first put is held until it is a fault, and the second served.
-fn fails_unreleased<S: FarStore>(store: &GateStore<S>, alloc: Global) -> bool {
-    let first = answer_of_put(store, alloc);
-    first == FAULT && store.held() && answer_of_put(store, alloc) == SERVED
-}
-
-#[test]
-fn a_put_that_nobody_releases_is_a_fault(rt: HostRuntime) {
-    assert!(rt; on_agent(&rt, rt.alloc(), Trial::FailsUnreleased) == Ok(true));
-}
-
-#[test]
-fn a_put_that_no_second_releases_is_a_fault(rt: HostRuntime) {
-    assert!(rt; on_two(&rt, rt.alloc(), Trial::FailsUnreleased) == Ok(true));
-}
-
-// Whether, of two threads that put once each, so many meet a fault, and so many are served.
-fn answers_two<R: Threads + Sync, S: FarStore>(
-    rt: &R,
-    store: &GateStore<S>,
-    alloc: Global,
-    faults: usize,
-    served: usize,
-) -> Result<bool, AllocError> {
-    let answers = thread::map_indices(rt, alloc, 2, &|_| answer_of_put(store, alloc))?;
-    Ok(had(&answers, FAULT) == faults && had(&answers, SERVED) == served)
-}
-
-// How many of the answers are this one.
-fn had(answers: &[Answer], wanted: Answer) -> usize {
-    let mut count = 0usize;
-    for answer in answers {
-        if *answer == wanted {
-            count = count.saturating_add(1);
-        }
-    }
-    count
-}
-
-#[test]
-fn a_second_put_passes_a_gate_that_waits_for_release_and_does_not_open_it(rt: HostRuntime) {
-    assert!(rt; on_agent(&rt, rt.alloc(), Trial::AnswersTwo(1, 1)) == Ok(true));
-}
-
-#[test]
-fn the_second_put_opens_the_gate_of_two(rt: HostRuntime) {
-    assert!(rt; on_two(&rt, rt.alloc(), Trial::AnswersTwo(0, 2)) == Ok(true));
-}
-
-fn serves_once_open<S: FarStore>(store: &GateStore<S>, alloc: Global) -> Result<bool, Refusal> {
-    store.release();
-    serves(store, alloc, 3)
-}
-
-#[test]
-fn an_open_gate_lets_everything_through(rt: HostRuntime) {
-    assert!(rt; on_agent(&rt, rt.alloc(), Trial::ServesOnceOpen) == Ok(true));
 }

@@ -6,115 +6,42 @@ use far_store::{FarRead, FarStore, FarTickets, Meter};
 use far_types::Refusal;
 use std::alloc::Global;
 
-// The refusal that a call is answered with, if any, and the faults that its meter shows.
-pub type Answer = (Option<Refusal>, u64);
-
-pub const SERVED: Answer = (None, 0);
-
-pub const FAULT: Answer = (Some(Refusal::FarFault), 1);
-
-pub const FULL: Answer = (Some(Refusal::FarFull), 0);
-
-pub const NO_MEMORY: Answer = (Some(Refusal::NoMemory), 0);
-
-// How one put is answered.
-pub fn answer_of_put<S: FarStore>(store: &S, alloc: Global) -> Answer {
-    answer_of_put_of(store, alloc, &[1])
-}
-
-// How the put of these bytes is answered.
-pub fn answer_of_put_of<S: FarStore>(store: &S, alloc: Global, bytes: &[u8]) -> Answer {
-    let mut meter = Meter::new();
-    let answer = store.put(alloc, &mut meter, bytes).err();
-    (answer, meter.faults())
-}
-
-// Whether puts are answered so, one after another.
-pub fn answers_puts<S: FarStore>(store: &S, alloc: Global, wanted: &[Answer]) -> bool {
-    let mut all = true;
-    for answer in wanted {
-        all &= answer_of_put(store, alloc) == *answer;
-    }
-    all
-}
-
-// Why a put was not accepted, in the three ways that there are.
+// Why a call is not served, in the three ways that there are.
 #[derive(Clone, Copy, PartialEq, Eq)]
 pub enum Why {
     Fault,
     Full,
-    Memory,
+    NoMemory,
 }
 
 // A caller that names these three has named all.
-pub fn why_not_put<S: FarStore>(store: &S, alloc: Global) -> Option<Why> {
-    match store.put(alloc, &mut Meter::new(), &[1]) {
-        Ok(_) => None,
-        Err(Refusal::FarFault) => Some(Why::Fault),
-        Err(Refusal::FarFull) => Some(Why::Full),
-        Err(Refusal::NoMemory) => Some(Why::Memory),
+pub fn put<S: FarStore>(store: &S, alloc: Global, bytes: &[u8]) -> Result<S::Ticket, Why>
+    ensures { IfOk result (λ t. S.is_of t (S.name store.now)) }
+{
+    match store.put(alloc, &mut Meter::new(), bytes) {
+        Ok(ticket) => Ok(ticket),
+        Err(Refusal::FarFault) => Err(Why::Fault),
+        Err(Refusal::FarFull) => Err(Why::Full),
+        Err(Refusal::NoMemory) => Err(Why::NoMemory),
         Err(_) => unreachable!(),
     }
 }
 
-// How one get into a buffer is answered.
-pub fn answer_of_get<S: FarRead>(
+// A get is never refused by a store that is full.
+pub fn get<S: FarRead>(
     store: &S,
     alloc: Global,
     ticket: &S::Ticket,
     buffer: &mut Vec<u8>,
-) -> Answer
+) -> Result<(), Why>
     requires { S.is_of ticket.now (S.name store.now) }
 {
-    let mut meter = Meter::new();
-    let answer = store.get(alloc, &mut meter, ticket, buffer).err();
-    (answer, meter.faults())
-}
-
-// What gets of the content `[1, 2]` are answered, one after another, and what each leaves in the buffer.
-pub type Gets<'a> = &'a [(Answer, &'a [u8])];
-
-// Whether the gets of a ticket are as wanted.
-pub fn answers_gets<S: FarRead>(
-    store: &S,
-    alloc: Global,
-    ticket: &S::Ticket,
-    wanted: Gets<'_>,
-) -> bool
-    requires { S.is_of ticket.now (S.name store.now) }
-{
-    let mut buffer = Vec::new(alloc);
-    let mut all = true;
-    for (answer, left) in wanted {
-        all &= answer_of_get(store, alloc, ticket, &mut buffer) == *answer;
-        all &= buffer.as_slice() == *left;
+    match store.get(alloc, &mut Meter::new(), ticket, buffer) {
+        Ok(()) => Ok(()),
+        Err(Refusal::FarFault) => Err(Why::Fault),
+        Err(Refusal::NoMemory) => Err(Why::NoMemory),
+        Err(_) => unreachable!(),
     }
-    all
-}
-
-// Whether the gets of what a first put gave a ticket for are as wanted.
-pub fn answers_gets_of_one<S: FarStore>(
-    store: &S,
-    alloc: Global,
-    wanted: Gets<'_>,
-) -> Result<bool, Refusal> {
-    let ticket = store.put(alloc, &mut Meter::new(), &[1, 2])?;
-    Ok(answers_gets(store, alloc, &ticket, wanted))
-}
-
-// Whether a get reads these bytes and meets no fault.
-pub fn reads<S: FarRead>(
-    store: &S,
-    alloc: Global,
-    ticket: &S::Ticket,
-    bytes: &[u8],
-) -> Result<bool, Refusal>
-    requires { S.is_of ticket.now (S.name store.now) }
-{
-    let mut meter = Meter::new();
-    let mut buffer = Vec::new(alloc);
-    store.get(alloc, &mut meter, ticket, &mut buffer)?;
-    Ok(buffer.as_slice() == bytes && meter.faults() == 0)
 }
 
 // What is put is got.
@@ -127,20 +54,6 @@ pub fn round_trip<S: FarStore>(store: &S, alloc: Global, bytes: &[u8]) -> Result
     let mut buffer = Vec::new(alloc);
     store.get(alloc, &mut meter, &store.again(&ticket), &mut buffer)?;
     Ok(buffer)
-}
-
-// Whether so many contents of one byte are got as they were put.
-pub fn serves<S: FarStore>(store: &S, alloc: Global, count: u8) -> Result<bool, Refusal> {
-    let mut served = true;
-    for n in 0..count {
-        served &= is_served(store, alloc, n)?;
-    }
-    Ok(served)
-}
-
-fn is_served<S: FarStore>(store: &S, alloc: Global, byte: u8) -> Result<bool, Refusal> {
-    let read = round_trip(store, alloc, &[byte])?;
-    Ok(read.as_slice() == [byte].as_slice())
 }
 
 // A content moves from one store to another.
@@ -207,7 +120,7 @@ pub fn puts_all<S: FarStore>(
 }
 
 // How many of these tickets give back what the thread put.
-pub fn gets_all<S: FarStore>(
+pub fn gets_all<S: FarRead>(
     store: &S,
     alloc: Global,
     thread: u64,
@@ -217,8 +130,10 @@ pub fn gets_all<S: FarStore>(
 {
     let mut right = 0;
     let mut n = 0;
+    let mut buffer = Vec::new(alloc);
     for ticket in tickets {
-        if reads(store, alloc, ticket, &nth_content(thread, n))? {
+        store.get(alloc, &mut Meter::new(), ticket, &mut buffer)?;
+        if buffer.as_slice() == nth_content(thread, n).as_slice() {
             right += 1;
         }
         n += 1;

@@ -5,6 +5,10 @@
 #[cfg(test)]
 mod agent;
 #[cfg(test)]
+mod carrying;
+#[cfg(test)]
+mod case;
+#[cfg(test)]
 mod engine;
 #[cfg(test)]
 mod faulty;
@@ -15,8 +19,8 @@ mod generic;
 #[cfg(test)]
 mod planned_engine;
 #[cfg(test)]
-mod scarce_store;
+mod script;
 #[cfg(test)]
 mod shelf_store;
 #[cfg(test)]
-mod trial;
+mod threads;

@@ -1,4 +1,4 @@
-// An engine that fails in the calls in which it is told to, and counts its calls.
+// An engine that fails in the calls in which it is told to.
 use far_store::{Engine, Failure};
 use std::alloc::Global;
 use std::sync::atomic::{AtomicUsize, Ordering};
@@ -19,21 +19,17 @@ pub struct Failed;
 #[derive(Drop)]
 pub struct PlannedEngine<E> {
     engine: E,
-    plan: &'static [Turn],
+    plan: Vec<Turn>,
     calls: AtomicUsize,
 }
 
 impl<E> PlannedEngine<E> {
-    pub fn new(engine: E, plan: &'static [Turn]) -> PlannedEngine<E> {
+    pub fn new(engine: E, plan: Vec<Turn>) -> PlannedEngine<E> {
         PlannedEngine {
             engine,
             plan,
             calls: AtomicUsize::new(0),
         }
-    }
-
-    pub fn calls(&self) -> usize {
-        self.calls.load(Ordering::SeqCst)
     }
 
     fn turn(&self) -> Result<(), Failure<Failed>> {

@@ -1,58 +1,23 @@
 // A clone is equal.
 use crate::samples::{row_of, schema, spec, text};
-use far_types::{Cell, Edit, Filter, Fold, Key, Kind, Refusal, Row, Schema, Spec, Test, clone_key};
+use far_types::{Cell, Edit, Key, Kind, Refusal, clone_key};
 use std::alloc::Global;
-use std::test::Fail;
 
-fn cloned_schema(alloc: Global) -> Result<Schema, Refusal> {
-    schema(alloc)?.clone()
+fn is_schema_cloned(alloc: Global) -> Result<bool, Refusal> {
+    Ok(schema(alloc)?.clone()?.as_slice() == [Kind::Int, Kind::Text].as_slice())
 }
 
-#[test]
-fn a_clone_of_a_schema_is_equal(rt: HostRuntime) -> Result<(), Fail> {
-    let schema = cloned_schema(rt.alloc())?;
-    assert!(rt; schema.as_slice() == [Kind::Int, Kind::Text].as_slice());
-    Ok(())
-}
-
-fn cloned_cell(alloc: Global) -> Result<Cell, Refusal> {
-    Cell::Text(text(alloc, "a")?).clone()
-}
-
-#[test]
-fn a_clone_of_a_cell_is_equal(rt: HostRuntime) -> Result<(), Fail> {
-    let cell = cloned_cell(rt.alloc())?;
-    assert!(rt; matches!(&cell, Cell::Text(text) if text.as_str() == "a"));
-    Ok(())
-}
-
-fn is_row(row: &Row, number: i64, bytes: &str) -> bool {
-    match row.as_slice() {
+fn has_cells(cells: &[Cell], number: i64, bytes: &str) -> bool {
+    match cells {
         [Cell::Int(n), Cell::Text(t)] => *n == number && t.as_str() == bytes,
         _ => false,
     }
 }
 
-fn cloned_row(alloc: Global) -> Result<Row, Refusal> {
-    row_of(alloc, Some(1), "a")?.clone()
-}
-
-#[test]
-fn a_clone_of_a_row_is_equal(rt: HostRuntime) -> Result<(), Fail> {
-    let row = cloned_row(rt.alloc())?;
-    assert!(rt; is_row(&row, 1, "a"));
-    Ok(())
-}
-
-fn cloned_insert(alloc: Global) -> Result<Edit, Refusal> {
-    Edit::Insert(row_of(alloc, Some(1), "a")?).clone()
-}
-
-#[test]
-fn a_clone_of_an_edit_is_equal(rt: HostRuntime) -> Result<(), Fail> {
-    let edit = cloned_insert(rt.alloc())?;
-    assert!(rt; matches!(&edit, Edit::Insert(row) if is_row(row, 1, "a")));
-    Ok(())
+/// The same of an edit, and so of its row, of the cells of that and of a text.
+fn is_edit_cloned(alloc: Global) -> Result<bool, Refusal> {
+    let clone = Edit::Insert(row_of(alloc, Some(1), "a")?).clone()?;
+    Ok(matches!(&clone, Edit::Insert(row) if has_cells(row.as_slice(), 1, "a")))
 }
 
 fn is_key_cloned(alloc: Global) -> Result<bool, Refusal> {
@@ -60,24 +25,17 @@ fn is_key_cloned(alloc: Global) -> Result<bool, Refusal> {
     Ok(clone_key(&key)? == key)
 }
 
-#[test]
-fn a_clone_of_a_key_is_equal(rt: HostRuntime) -> Result<(), Fail> {
-    assert!(rt; is_key_cloned(rt.alloc())?);
-    Ok(())
-}
-
-fn cloned_spec(alloc: Global) -> Result<Spec, Refusal> {
-    spec(alloc, 0, 1, 1)?.clone()
-}
-
-fn is_test_for_a(filter: &Filter) -> bool {
-    matches!(filter.as_slice(), [Test::TextBegins { column: 1, text }] if text.as_str() == "a")
+/// The same of an aggregate, and so of its filter and the test of that.
+fn is_spec_cloned(alloc: Global) -> Result<bool, Refusal> {
+    let spec = spec(alloc, 0, 1, 1)?;
+    Ok(spec.clone()?.is_same(&spec))
 }
 
 #[test]
-fn a_clone_of_an_aggregate_is_equal(rt: HostRuntime) -> Result<(), Fail> {
-    let spec = cloned_spec(rt.alloc())?;
-    assert!(rt; spec.fold == Fold::Extrema && spec.value == 0 && spec.key == Some(1));
-    assert!(rt; is_test_for_a(&spec.filter));
-    Ok(())
+fn a_clone_is_equal(rt: HostRuntime) {
+    let alloc = rt.alloc();
+    assert!(rt; is_schema_cloned(alloc) == Ok(true));
+    assert!(rt; is_edit_cloned(alloc) == Ok(true));
+    assert!(rt; is_key_cloned(alloc) == Ok(true));
+    assert!(rt; is_spec_cloned(alloc) == Ok(true));
 }

@@ -8,11 +8,11 @@ mod answers;
 #[cfg(test)]
 mod clones;
 #[cfg(test)]
-mod filters;
-#[cfg(test)]
 mod lent;
 #[cfg(test)]
 mod limits;
+#[cfg(test)]
+mod pairs;
 #[cfg(test)]
 mod refusals;
 #[cfg(test)]

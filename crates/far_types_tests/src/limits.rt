@@ -1,114 +1,162 @@
 // The edges of the limits, and of schemas.
 use far_types::{Kind, Limits, Refusal, Schema};
 use std::alloc::Global;
-use std::test::Fail;
 
-fn limits() -> Limits {
-    Limits::in_groups_of(4)
+/// The usual limits in row groups of four places.
+const LIMITS: Limits = Limits {
+    group: 4,
+    places: 16_777_216,
+    edits: 1_099_511_627_776,
+    int_segments: 64,
+    int_size: 4_096,
+    text_segments: 64,
+    text_size: 65_536,
+};
+
+#[test]
+fn usual_limits_are_within_their_bounds(rt: HostRuntime) {
+    assert!(rt; Limits::in_groups_of(4) == LIMITS);
+    assert!(rt; Limits::default() == Limits::in_groups_of(64));
+    assert!(rt; Limits::default().check() == Ok(()));
+    assert!(rt; Limits::in_groups_of(65_536).check() == Ok(()));
 }
 
-fn with_group(group: u32) -> Limits {
-    Limits { group, ..limits() }
-}
-
-/// Row groups of this size, of which a segment of numbers holds one.
-fn with_segments_of_one_group(group: u32) -> Limits {
+static AT_THEIR_ENDS: [Limits; 15] = [
+    LIMITS,
+    Limits { group: 1, ..LIMITS },
+    // A segment of numbers holds one row group.
     Limits {
-        group,
-        int_size: group,
-        ..limits()
-    }
-}
-
-fn with_places(places: u32) -> Limits {
-    Limits { places, ..limits() }
-}
-
-fn with_edits(edits: u64) -> Limits {
-    Limits { edits, ..limits() }
-}
-
-fn with_segments(int_segments: u32, text_segments: u32) -> Limits {
+        group: 65_536,
+        int_size: 65_536,
+        ..LIMITS
+    },
     Limits {
-        int_segments,
-        text_segments,
-        ..limits()
-    }
-}
-
-fn with_sizes(int_size: u32, text_size: u32) -> Limits {
+        int_size: 4,
+        ..LIMITS
+    },
     Limits {
-        int_size,
-        text_size,
-        ..limits()
-    }
-}
+        int_size: 1_048_576,
+        ..LIMITS
+    },
+    Limits {
+        places: 1,
+        ..LIMITS
+    },
+    Limits {
+        places: 16_777_216,
+        ..LIMITS
+    },
+    Limits { edits: 1, ..LIMITS },
+    Limits {
+        edits: 1_099_511_627_776,
+        ..LIMITS
+    },
+    Limits {
+        int_segments: 1,
+        ..LIMITS
+    },
+    Limits {
+        int_segments: 1_024,
+        ..LIMITS
+    },
+    Limits {
+        text_segments: 1,
+        ..LIMITS
+    },
+    Limits {
+        text_segments: 1_024,
+        ..LIMITS
+    },
+    Limits {
+        text_size: 64,
+        ..LIMITS
+    },
+    Limits {
+        text_size: 16_777_216,
+        ..LIMITS
+    },
+];
+
+static PAST_THEIR_ENDS: [Limits; 14] = [
+    Limits { group: 0, ..LIMITS },
+    Limits {
+        group: 65_537,
+        int_size: 65_537,
+        ..LIMITS
+    },
+    Limits {
+        int_size: 3,
+        ..LIMITS
+    },
+    Limits {
+        int_size: 1_048_577,
+        ..LIMITS
+    },
+    Limits {
+        places: 0,
+        ..LIMITS
+    },
+    Limits {
+        places: 16_777_217,
+        ..LIMITS
+    },
+    Limits { edits: 0, ..LIMITS },
+    Limits {
+        edits: 1_099_511_627_777,
+        ..LIMITS
+    },
+    Limits {
+        int_segments: 0,
+        ..LIMITS
+    },
+    Limits {
+        int_segments: 1_025,
+        ..LIMITS
+    },
+    Limits {
+        text_segments: 0,
+        ..LIMITS
+    },
+    Limits {
+        text_segments: 1_025,
+        ..LIMITS
+    },
+    Limits {
+        text_size: 63,
+        ..LIMITS
+    },
+    Limits {
+        text_size: 16_777_217,
+        ..LIMITS
+    },
+];
 
 #[test]
 fn limits_reach_to_their_ends(rt: HostRuntime) {
-    let good = [
-        limits(),
-        with_group(1),
-        with_segments_of_one_group(65_536),
-        with_places(1),
-        with_edits(1),
-        with_segments(1, 1),
-        with_segments(1_024, 1_024),
-        with_sizes(4, 65_536),
-        with_sizes(1_048_576, 65_536),
-        with_sizes(4096, 64),
-        with_sizes(4096, 16_777_216),
-    ];
-    for limits in good {
-        assert_eq!(rt; limits.check(), Ok(()), "{limits:?}");
+    for limits in &AT_THEIR_ENDS {
+        assert!(rt; limits.check() == Ok(()), "{limits:?}");
     }
 }
 
 #[test]
 fn limits_past_their_ends_are_refused(rt: HostRuntime) {
-    let bad = [
-        with_group(0),
-        with_segments_of_one_group(65_537),
-        with_places(0),
-        with_places(16_777_217),
-        with_edits(0),
-        with_edits(1_099_511_627_777),
-        with_segments(0, 64),
-        with_segments(1_025, 64),
-        with_segments(64, 0),
-        with_segments(64, 1_025),
-        with_sizes(3, 65_536),
-        with_sizes(1_048_577, 65_536),
-        with_sizes(4096, 63),
-        with_sizes(4096, 16_777_217),
-    ];
-    for limits in bad {
-        assert_eq!(rt; limits.check(), Err(Refusal::BadSchema), "{limits:?}");
+    for limits in &PAST_THEIR_ENDS {
+        assert!(rt; limits.check() == Err(Refusal::BadSchema), "{limits:?}");
     }
 }
 
-fn is_schema(alloc: Global, columns: u32) -> Result<bool, Refusal> {
+fn is_schema(alloc: Global, columns: usize) -> Result<bool, Refusal> {
     let mut kinds = Vec::new(alloc);
-    for _ in 0..columns {
-        kinds.push(Kind::Int)?;
-    }
+    kinds.resize(columns, Kind::Int)?;
     Ok(Schema::new(kinds).is_ok())
 }
 
 #[test]
-fn a_schema_has_one_to_sixteen_columns(rt: HostRuntime) -> Result<(), Fail> {
+fn a_schema_has_one_to_sixteen_columns(rt: HostRuntime) {
     for (columns, expected) in [(0, false), (1, true), (16, true), (17, false)] {
         assert!(rt;
-            is_schema(rt.alloc(), columns)? == expected,
+            is_schema(rt.alloc(), columns) == Ok(expected),
             "{columns} columns"
         );
     }
-    Ok(())
-}
-
-#[test]
-fn usual_limits_are_within_their_bounds(rt: HostRuntime) {
-    assert!(rt; Limits::default() == Limits::in_groups_of(64));
-    assert!(rt; Limits::default().check() == Ok(()));
-    assert!(rt; Limits::in_groups_of(65_536).check() == Ok(()));
 }

@@ -1,5 +1,5 @@
 // What the tests begin with.
-use far_types::{Cell, Filter, Fold, Kind, Refusal, Row, Schema, Spec, Test, Text};
+use far_types::{Cell, Kind, Refusal, Row, Schema, Spec, Test, Text};
 use std::alloc::Global;
 
 pub fn text(alloc: Global, bytes: &str) -> Result<Text, Refusal> {
@@ -21,23 +21,12 @@ pub fn schema(alloc: Global) -> Result<Schema, Refusal> {
     Schema::new(Vec::from_array(alloc, [Kind::Int, Kind::Text])?)
 }
 
-pub fn begins_with_a(alloc: Global, column: u32) -> Result<Test, Refusal> {
-    Ok(Test::TextBegins {
-        column,
-        text: text(alloc, "a")?,
-    })
-}
-
 /// The extrema of a column by column 1, over the rows whose text in a column begins with `a`, tested so many times.
 pub fn spec(alloc: Global, value: u32, column: u32, tests: u32) -> Result<Spec, Refusal> {
-    let mut list = Vec::new(alloc);
+    let mut spec = Spec::extrema(alloc, value).by(1);
     for _ in 0..tests {
-        list.push(begins_with_a(alloc, column)?)?;
+        let text = text(alloc, "a")?;
+        spec = spec.only(Test::TextBegins { column, text })?;
     }
-    Ok(Spec {
-        fold: Fold::Extrema,
-        value,
-        key: Some(1),
-        filter: Filter::new(list),
-    })
+    Ok(spec)
 }

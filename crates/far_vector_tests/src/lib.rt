@@ -2,18 +2,10 @@
 //! Tests of far_vector: what no clause says, that calls are served, and that worked examples come out as they should.
 
 #[cfg(test)]
-mod again;
+mod calls;
 #[cfg(test)]
-mod away;
+mod play;
 #[cfg(test)]
-mod example;
+mod script;
 #[cfg(test)]
-mod fixture;
-#[cfg(test)]
-mod pushing;
-#[cfg(test)]
-mod reading;
-#[cfg(test)]
-mod refusing;
-#[cfg(test)]
-mod writing;
+mod scripts;

@@ -52,7 +52,7 @@ const THIRD_AWAY: Result<(), Refusal> = Err(Refusal::Absent {
     group: 2,
 });
 
-pub static CASES: [Case; 10] = [
+pub const CASES: &[Case] = &[
     // Of five numbers the third is missing, the fourth is set, and the second is cleared; the last four are lent.
     Case {
         name: "numbers are lent with the flags of their places",

@@ -1,6 +1,9 @@
 // Two columns of numbers at once: worked examples.
+use super::moves::{away, moves};
 use crate::cell::Cell::{Missing, Number};
-use crate::script::Call::{Away, Find, Len, MayPushAll, Object, Objects, PushAll, PushAndUnpush};
+use crate::script::Call::{
+    Away, Back, Clear, Find, FindAll, Len, Lend, Object, Objects, PushAll, PushAndUnpush,
+};
 use crate::script::{Case, Layout, Script};
 use far_types::Refusal;
 
@@ -51,16 +54,14 @@ const THREES: Layout = Layout {
 /// Row groups of one place, and room for sixteen of them.
 const ONES: Layout = Layout { group: 1, ..FOURS };
 
-pub static CASES: [Case; 7] = [
+pub const CASES: &[Case] = &[
     // Each number is at its place, in its own column, and each row group has its object, the first column's before the second's.
     Case {
         name: "each column gets its own number",
         layout: PAIRS,
         count: 0,
         script: Script::Lines(&[
-            (MayPushAll(Number(5), Number(-3)), Ok(())),
             (PushAll(Number(5), Number(-3)), Ok(())),
-            (MayPushAll(Missing, Number(7)), Ok(())),
             (PushAll(Missing, Number(7)), Ok(())),
             (PushAll(Number(9), Missing), Ok(())),
             (Object(0, 1, Some(2)), Ok(())),
@@ -80,7 +81,6 @@ pub static CASES: [Case; 7] = [
         layout: ONE_GROUP,
         count: 0,
         script: Script::Lines(&[
-            (MayPushAll(Number(5), Number(6)), REGION_FULL),
             (PushAll(Number(5), Number(6)), REGION_FULL),
             (Objects(0), Ok(())),
             (Len(0, 0), Ok(())),
@@ -94,7 +94,6 @@ pub static CASES: [Case; 7] = [
         script: Script::Lines(&[
             (PushAll(Number(5), Number(6)), Ok(())),
             (PushAll(Number(7), Number(8)), Ok(())),
-            (MayPushAll(Number(9), Number(10)), USED_UP),
             (PushAll(Number(9), Number(10)), USED_UP),
             (Len(0, 2), Ok(())),
             (Len(1, 2), Ok(())),
@@ -109,7 +108,6 @@ pub static CASES: [Case; 7] = [
         script: Script::Lines(&[
             (PushAll(Number(5), Number(6)), Ok(())),
             (Away(1, 0), Ok(())),
-            (MayPushAll(Number(7), Number(8)), SECOND_AWAY),
             (PushAll(Number(7), Number(8)), SECOND_AWAY),
             (Len(0, 1), Ok(())),
             (Len(1, 1), Ok(())),
@@ -132,7 +130,7 @@ pub static CASES: [Case; 7] = [
         name: "numbers that went away and came back read as before",
         layout: THREES,
         count: 0,
-        script: Script::Moves(&[
+        script: Script::Lines(moves![
             [Number(1), Missing],
             [Missing, Missing],
             [Number(3), Missing],

@@ -1,7 +1,7 @@
 // A column of texts: worked examples, and why calls are refused.
 use crate::cell::Cell::{Missing, Text};
 use crate::script::Call::{
-    Away, Clear, Find, Flag, Len, LenWith, LenWithNext, Lend, MaySet, Object, Push, Set,
+    Away, Clear, Find, Flag, Len, LenWith, LenWithNext, Lend, Object, Push, Set,
 };
 use crate::script::{Case, Layout, Script};
 use far_types::Refusal;
@@ -75,7 +75,7 @@ const ONE_SEGMENT: Layout = Layout {
     ..FOURS
 };
 
-pub static CASES: [Case; 14] = [
+pub const CASES: &[Case] = &[
     // The third text is cleared, and lent with the one before it.
     Case {
         name: "texts are lent with the flags of their places",
@@ -159,9 +159,10 @@ pub static CASES: [Case; 14] = [
         count: 0,
         script: Script::Lines(&[
             (Push(0, Text("a", 1)), Ok(())),
-            (MaySet(0, 0, Text("a", 54)), Ok(())),
-            (MaySet(0, 0, Text("a", 55)), CHUNK_FULL),
+            (Set(0, 0, Text("a", 55)), CHUNK_FULL),
             (Find(0, 0, Text("a", 1)), Ok(())),
+            (Set(0, 0, Text("a", 54)), Ok(())),
+            (Find(0, 0, Text("a", 54)), Ok(())),
         ]),
     },
     // There is no sixth of five texts.

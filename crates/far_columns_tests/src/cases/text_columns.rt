@@ -1,7 +1,8 @@
 // Two columns of texts at once: worked examples.
+use super::moves::{away, moves};
 use crate::cell::Cell;
 use crate::cell::Cell::{Missing, Text};
-use crate::script::Call::{Away, Find, Len, MayPushAll, Objects, PushAll, Set};
+use crate::script::Call::{Away, Back, Clear, Find, FindAll, Len, Lend, Objects, PushAll, Set};
 use crate::script::{Case, Layout, Script};
 use far_types::Refusal;
 
@@ -100,7 +101,7 @@ const ONE_WRITE: Layout = Layout {
 /// Row groups of three places.
 const THREES: Layout = Layout { group: 3, ..FOURS };
 
-pub static CASES: [Case; 16] = [
+pub const CASES: &[Case] = &[
     // Each text is at its place, in its own column.
     Case {
         name: "each column gets its own text",
@@ -142,12 +143,10 @@ pub static CASES: [Case; 16] = [
         layout: PAIRS,
         count: 0,
         script: Script::Lines(&[
-            (MayPushAll(PEAR, RED), Ok(())),
             (Objects(0), Ok(())),
             (Len(0, 0), Ok(())),
             (Len(1, 0), Ok(())),
             (PushAll(PEAR, RED), Ok(())),
-            (MayPushAll(FIG, EMPTY), Ok(())),
             (Len(0, 1), Ok(())),
             (Len(1, 1), Ok(())),
             (Find(0, 0, PEAR), Ok(())),
@@ -162,11 +161,11 @@ pub static CASES: [Case; 16] = [
         count: 0,
         script: Script::Lines(&[
             (PushAll(LONG, LONG), Ok(())),
-            (MayPushAll(Text("a", 0), LONG), CHUNK_FULL),
-            (MayPushAll(Text("a", 0), Text("a", 0)), REGION_FULL),
+            (PushAll(Text("a", 0), LONG), CHUNK_FULL),
+            (PushAll(Text("a", 0), Text("a", 0)), REGION_FULL),
             (Away(1, 0), Ok(())),
-            (MayPushAll(Text("a", 0), Text("a", 4097)), TOO_LONG),
-            (MayPushAll(Text("a", 0), LONG), SECOND_AWAY),
+            (PushAll(Text("a", 0), Text("a", 4097)), TOO_LONG),
+            (PushAll(Text("a", 0), LONG), SECOND_AWAY),
         ]),
     },
     Case {
@@ -175,7 +174,7 @@ pub static CASES: [Case; 16] = [
         count: 0,
         script: Script::Lines(&[
             (PushAll(LONG, LONG), Ok(())),
-            (MayPushAll(Text("a", 0), Text("a", 0)), USED_UP),
+            (PushAll(Text("a", 0), Text("a", 0)), USED_UP),
         ]),
     },
     Case {
@@ -184,7 +183,7 @@ pub static CASES: [Case; 16] = [
         count: 0,
         script: Script::Lines(&[
             (PushAll(LONG, LONG), Ok(())),
-            (MayPushAll(Text("a", 0), Text("a", 0)), Ok(())),
+            (PushAll(Text("a", 0), Text("a", 0)), Ok(())),
         ]),
     },
     // Row groups that begin, before an object of those before them is away, and while one is.
@@ -194,10 +193,10 @@ pub static CASES: [Case; 16] = [
         count: 0,
         script: Script::Lines(&[
             (PushAll(LONG, LONG), Ok(())),
-            (MayPushAll(LONG, LONG), REGION_FULL),
+            (PushAll(LONG, LONG), REGION_FULL),
             (Away(1, 0), Ok(())),
-            (MayPushAll(Text("a", 0), Text("a", 4097)), TOO_LONG),
-            (MayPushAll(Text("a", 0), Text("a", 55)), CHUNK_FULL),
+            (PushAll(Text("a", 0), Text("a", 4097)), TOO_LONG),
+            (PushAll(Text("a", 0), Text("a", 55)), CHUNK_FULL),
         ]),
     },
     Case {
@@ -206,10 +205,15 @@ pub static CASES: [Case; 16] = [
         count: 0,
         script: Script::Lines(&[
             (PushAll(LONG, LONG), Ok(())),
-            (MayPushAll(LONG, LONG), Ok(())),
             (Away(1, 0), Ok(())),
-            (MayPushAll(LONG, LONG), Ok(())),
+            (PushAll(LONG, LONG), Ok(())),
         ]),
+    },
+    Case {
+        name: "texts that begin row groups find room behind the others",
+        layout: ONES_WITH_ROOM,
+        count: 0,
+        script: Script::Lines(&[(PushAll(LONG, LONG), Ok(())), (PushAll(LONG, LONG), Ok(()))]),
     },
     Case {
         name: "an object that is away refuses all",
@@ -324,7 +328,7 @@ pub static CASES: [Case; 16] = [
         name: "texts that went away and came back read as before",
         layout: THREES,
         count: 0,
-        script: Script::Moves(&[
+        script: Script::Lines(moves![
             [PEAR, Missing],
             [Missing, Missing],
             [EMPTY, Missing],

@@ -5,7 +5,7 @@ ghost use Rattle.far_vector.specs.Vectors.{AreVectors};
 ghost use Rattle.far_columns.specs.Numbers.{number_lists};
 ghost use Rattle.far_columns.specs.NumbersTogether.{AreNumberColumns};
 
-use crate::script::WRONG;
+use crate::script::{WRONG, as_asked};
 use far_columns::{IntColumn, may_push_numbers, push_numbers, unpush_numbers};
 use far_scopes::Objects;
 use far_store::FarTickets;
@@ -25,22 +25,7 @@ fn are_even<S: FarTickets>(
     columns.len() == 2 && columns[0].len() == columns[1].len()
 }
 
-/// Whether two columns may get a number each.
-pub fn may_push_all<S: FarTickets>(
-    objects: &Objects<Option<i64>, S>,
-    columns: &[IntColumn],
-    size: u32,
-) -> Result<(), Refusal>
-    requires are { AreVectors (number_lists S.content objects.now) columns.now }
-    requires sized { All (λ c. c.size ≡ size) columns.now }
-{
-    if !are_even(objects, columns, size) {
-        return Err(WRONG);
-    }
-    may_push_numbers(objects, columns)
-}
-
-/// Pushes a number to each of two columns; there are few objects.
+/// Pushes a number to each of two columns, and asks beforehand; there are few objects.
 pub fn push_all<S: FarTickets>(
     objects: &mut Objects<Option<i64>, S>,
     columns: &mut [IntColumn],
@@ -56,7 +41,9 @@ pub fn push_all<S: FarTickets>(
     if !are_even(objects, columns, size) || objects.count() >= 32 {
         return Err(WRONG);
     }
-    push_numbers(objects, columns, numbers)
+    let asked = may_push_numbers(objects, columns);
+    let reply = push_numbers(objects, columns, numbers);
+    as_asked(asked, reply)
 }
 
 /// The same, where row groups begin, and takes it back.

@@ -5,47 +5,14 @@ ghost use Rattle.far_vector.specs.Vector.{IsVector};
 ghost use Rattle.far_vector.specs.Vectors.{AreVectors, ChangesVector};
 ghost use Rattle.far_columns.specs.Numbers.{number_lists};
 
-use crate::moving::{bring_numbers_back, send_numbers_away};
-use crate::script::{Call, WRONG};
+use crate::moving::move_numbers;
+use crate::script::{Call, WRONG, as_asked};
 use far_columns::IntColumn;
 use far_scopes::Objects;
 use far_store::{FarStore, FarTickets};
 use far_types::Refusal;
 use far_vector::laws::vectors_stay_together;
 use std::alloc::Global;
-
-fn push<S: FarStore>(
-    objects: &mut Objects<Option<i64>, S>,
-    column: &mut IntColumn,
-    number: Option<i64>,
-) -> Result<(), Refusal>
-    requires is { IsVector (number_lists S.content objects.old) column.old }
-    ensures changes { ChangesVector (number_lists S.content objects.old) (number_lists S.content objects.new) column.old column.new }
-    ensures size { column.new.size ≡ column.old.size }
-    ensures here { (name : List ℕ) → AreHere S.is_of name objects.old → AreHere S.is_of name objects.new }
-{
-    if objects.count() >= 1 << 28 {
-        return Err(Refusal::TableFull);
-    }
-    column.push(objects, number)
-}
-
-// Sets a number, and asks beforehand.
-fn set<S: FarStore>(
-    objects: &mut Objects<Option<i64>, S>,
-    column: &mut IntColumn,
-    place: usize,
-    number: Option<i64>,
-) -> Result<(), Refusal>
-    requires is { IsVector (number_lists S.content objects.old) column.old }
-    ensures changes { ChangesVector (number_lists S.content objects.old) (number_lists S.content objects.new) column.old column.new }
-    ensures size { column.new.size ≡ column.old.size }
-    ensures here { (name : List ℕ) → AreHere S.is_of name objects.old → AreHere S.is_of name objects.new }
-{
-    let due = column.may_set(objects, place);
-    let reply = column.set(objects, place, number);
-    if reply == due { reply } else { Err(WRONG) }
-}
 
 // Takes back the push of the last number, where that made the last object, which is local. Row groups have four places.
 fn unpush<S: FarStore>(
@@ -87,14 +54,14 @@ fn may_unpush<S: FarTickets>(objects: &Objects<Option<i64>, S>, column: &IntColu
     objects.lend(last).is_ok()
 }
 
-// A call on a column whose row groups have so many places.
+// A call on a column whose row groups have so many places. A set is asked for beforehand.
 fn change_column<S: FarStore>(
     alloc: Global,
     objects: &mut Objects<Option<i64>, S>,
     store: &S,
     column: &mut IntColumn,
     size: u32,
-    call: Call,
+    call: &Call<'_>,
 ) -> Result<(), Refusal>
     requires is { IsVector (number_lists S.content objects.old) column.old }
     requires sized { column.old.size ≡ size }
@@ -104,11 +71,16 @@ fn change_column<S: FarStore>(
     ensures here { AreHere S.is_of (S.name store.now) objects.new }
 {
     match call {
-        Call::Push(_, cell) => push(objects, column, cell.number()),
-        Call::Set(_, place, cell) => set(objects, column, place, cell.number()),
+        Call::Push(_, cell) if objects.count() < 1 << 28 => column.push(objects, cell.number()),
+        Call::Set(_, place, cell) => {
+            let asked = column.may_set(objects, *place);
+            let reply = column.set(objects, *place, cell.number());
+            as_asked(asked, reply)
+        }
         Call::Unpush(_) => unpush(objects, column, size),
-        Call::Away(_, group) => send_numbers_away(alloc, objects, store, column, group),
-        Call::Back(_, group) => bring_numbers_back(alloc, objects, store, column, group),
+        Call::Away(_, group) | Call::Back(_, group) => {
+            move_numbers(alloc, objects, store, column, *group, call)
+        }
         _ => Err(WRONG),
     }
 }
@@ -120,7 +92,7 @@ pub fn change<S: FarStore>(
     store: &S,
     columns: &mut [IntColumn],
     size: u32,
-    call: Call,
+    call: &Call<'_>,
 ) -> Result<(), Refusal>
     requires are { AreVectors (number_lists S.content objects.old) columns.old }
     requires sized { All (λ c. c.size ≡ size) columns.old }

@@ -5,7 +5,7 @@ ghost use Rattle.far_texts.specs.Texts.{lists_of};
 ghost use Rattle.far_texts.specs.Columns.{AreTextColumns};
 ghost use Rattle.far_texts.specs.Together.{AreColumns};
 
-use crate::script::WRONG;
+use crate::script::{WRONG, as_asked};
 use far_scopes::Objects;
 use far_store::FarTickets;
 use far_texts::{TextColumn, may_push_texts, push_texts};
@@ -22,23 +22,7 @@ fn are_even<S: FarTickets>(_objects: &Objects<u8, S>, columns: &[TextColumn], _s
     columns.len() == 2 && columns[0].len() == columns[1].len()
 }
 
-/// Whether two columns may get a text each.
-pub fn may_push_all<S: FarTickets>(
-    objects: &Objects<u8, S>,
-    columns: &[TextColumn],
-    size: u32,
-    texts: &[Option<Text>; 2],
-) -> Result<(), Refusal>
-    requires are { AreTextColumns (lists_of S.content objects.now) columns.now }
-    requires sized { All (λ c. c.size ≡ size) columns.now }
-{
-    if !are_even(objects, columns, size) {
-        return Err(WRONG);
-    }
-    may_push_texts(objects, columns, texts)
-}
-
-/// Pushes a text to each of two columns; there are few objects.
+/// Pushes a text to each of two columns, and asks beforehand; there are few objects.
 pub fn push_all<S: FarTickets>(
     alloc: Global,
     objects: &mut Objects<u8, S>,
@@ -55,5 +39,7 @@ pub fn push_all<S: FarTickets>(
     if !are_even(objects, columns, size) || objects.count() >= 32 {
         return Err(WRONG);
     }
-    push_texts(alloc, objects, columns, texts)
+    let asked = may_push_texts(objects, columns, texts);
+    let reply = push_texts(alloc, objects, columns, texts);
+    as_asked(asked, reply)
 }

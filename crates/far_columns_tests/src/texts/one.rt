@@ -4,61 +4,22 @@ ghost use Rattle.far_scopes.specs.Movement.{AreHere};
 ghost use Rattle.far_texts.specs.Texts.{lists_of, IsTextColumn};
 ghost use Rattle.far_texts.specs.Columns.{AreTextColumns, ChangesColumn};
 
-use crate::moving::{bring_texts_back, send_texts_away};
-use crate::script::{Call, WRONG};
+use crate::moving::move_texts;
+use crate::script::{Call, WRONG, as_asked};
 use far_scopes::Objects;
 use far_store::FarStore;
 use far_texts::TextColumn;
 use far_texts::laws::columns_stay_together;
-use far_types::{Refusal, Text};
+use far_types::Refusal;
 use std::alloc::Global;
 
-fn push<S: FarStore>(
-    alloc: Global,
-    objects: &mut Objects<u8, S>,
-    column: &mut TextColumn,
-    text: &Option<Text>,
-) -> Result<(), Refusal>
-    requires is { IsTextColumn (lists_of S.content objects.old) column.old }
-    ensures changes { ChangesColumn (lists_of S.content objects.old) (lists_of S.content objects.new) column.old column.new }
-    ensures size { column.new.size ≡ column.old.size }
-    ensures here { (name : List ℕ) → AreHere S.is_of name objects.old → AreHere S.is_of name objects.new }
-{
-    if objects.count() >= 1 << 28 {
-        return Err(Refusal::TableFull);
-    }
-    column.push(alloc, objects, text)
-}
-
-// Sets a text, and asks beforehand.
-fn set<S: FarStore>(
-    alloc: Global,
-    objects: &mut Objects<u8, S>,
-    column: &TextColumn,
-    place: usize,
-    text: &Option<Text>,
-) -> Result<(), Refusal>
-    requires is { IsTextColumn (lists_of S.content objects.old) column.now }
-    ensures changes { ChangesColumn (lists_of S.content objects.old) (lists_of S.content objects.new) column.now column.now }
-    ensures here { (name : List ℕ) → AreHere S.is_of name objects.old → AreHere S.is_of name objects.new }
-{
-    let due = column.may_set(objects, place, text);
-    let reply = column.set(alloc, objects, place, text);
-    if reply == due || reply == Err(Refusal::NoMemory) {
-        reply
-    } else {
-        Err(WRONG)
-    }
-}
-
-// A call on a column.
+// A call on a column. A set is asked for beforehand.
 fn change_column<S: FarStore>(
     alloc: Global,
     objects: &mut Objects<u8, S>,
     store: &S,
     column: &mut TextColumn,
-    call: Call,
-    text: &Option<Text>,
+    call: &Call<'_>,
 ) -> Result<(), Refusal>
     requires is { IsTextColumn (lists_of S.content objects.old) column.old }
     requires here { AreHere S.is_of (S.name store.now) objects.old }
@@ -67,23 +28,31 @@ fn change_column<S: FarStore>(
     ensures here { AreHere S.is_of (S.name store.now) objects.new }
 {
     match call {
-        Call::Push(_, _) => push(alloc, objects, column, text),
-        Call::Set(_, place, _) => set(alloc, objects, column, place, text),
-        Call::Away(_, group) => send_texts_away(alloc, objects, store, column, group as usize),
-        Call::Back(_, group) => bring_texts_back(alloc, objects, store, column, group as usize),
+        Call::Push(_, cell) if objects.count() < 1 << 28 => {
+            let text = cell.text(alloc)?;
+            column.push(alloc, objects, &text)
+        }
+        Call::Set(_, place, cell) => {
+            let text = cell.text(alloc)?;
+            let asked = column.may_set(objects, *place, &text);
+            let reply = column.set(alloc, objects, *place, &text);
+            as_asked(asked, reply)
+        }
+        Call::Away(_, group) | Call::Back(_, group) => {
+            move_texts(alloc, objects, store, column, *group as usize, call)
+        }
         _ => Err(WRONG),
     }
 }
 
-/// A call on one of several columns, of this text.
+/// A call on one of several columns.
 pub fn change<S: FarStore>(
     alloc: Global,
     objects: &mut Objects<u8, S>,
     store: &S,
     columns: &mut [TextColumn],
     _size: u32,
-    call: Call,
-    text: &Option<Text>,
+    call: &Call<'_>,
 ) -> Result<(), Refusal>
     requires are { AreTextColumns (lists_of S.content objects.old) columns.old }
     requires sized { All (λ c. c.size ≡ _size) columns.old }
@@ -99,5 +68,5 @@ pub fn change<S: FarStore>(
     if k >= columns.len() {
         return Err(Refusal::NoColumn);
     }
-    change_column(alloc, objects, store, &mut columns[k], call, text)
+    change_column(alloc, objects, store, &mut columns[k], call)
 }

@@ -74,7 +74,8 @@ fn change_one<T: Element, S: FarStore>(
     }
     match change {
         Change::Write(list) => write_over(objects, o, list),
-        Change::Replace(list) => replace(objects, o, list),
+        Change::Replace([]) => Err(Refusal::RowWidth),
+        Change::Replace(list) => objects.replace(o, list),
         Change::Pin => objects.pin(o),
         Change::Unpin => objects.unpin(o),
         Change::Touch => {
@@ -100,21 +101,6 @@ fn write_over<T: Element, S: FarStore>(
         lent.copy_from_slice(list);
     }
     Ok(())
-}
-
-fn replace<T: Element, S: FarStore>(
-    objects: &mut Objects<T, S>,
-    o: u32,
-    list: &[T],
-) -> Result<(), Refusal>
-    requires within { o < length objects.old.entries }
-    ensures clean { AreClean T.meaning S.content objects.old → AreClean T.meaning S.content objects.new }
-    ensures store { (name : List ℕ) → AreHere S.is_of name objects.old → AreHere S.is_of name objects.new }
-{
-    if list.is_empty() {
-        return Err(Refusal::RowWidth);
-    }
-    objects.replace(o, list)
 }
 
 // Gives two objects other lists, both or none.

@@ -14,12 +14,12 @@ use std::alloc::Global;
 
 impl<'a, T: Element, S: FarStore> Desk<'a, T, S> {
     // A phase of a job.
-    pub(super) fn move_object(&mut self, alloc: Global, phase: Phase) -> Result<(), Refusal> {
+    pub(super) fn move_object(&mut self, alloc: Global, phase: &Phase) -> Result<(), Refusal> {
         match phase {
-            Phase::Begin(want) => self.begin(alloc, want),
+            Phase::Begin(want) => self.begin(alloc, *want),
             Phase::Carry => self.carry(alloc),
             Phase::Commit => self.commit(),
-            Phase::BeginFetch(o) => self.begin_fetch(o),
+            Phase::BeginFetch(o) => self.begin_fetch(*o),
             Phase::CarryFetch => self.carry_fetch(alloc),
             Phase::Install => self.install(alloc),
         }

@@ -1,15 +1,15 @@
 // Objects that are given over to another store.
 ghost use Rattle.far_scopes.specs.Renewal.{Renews, AreTicketsHere};
 
-use super::{Desk, Limits, no_objects};
+use super::{Desk, no_objects};
 use far_fixtures::Element;
-use far_scopes::{Objects, Renewal};
+use far_scopes::{ObjectLimits, Objects, Renewal};
 use far_store::{FarStore, Meter};
 use far_types::Refusal;
 use std::alloc::Global;
 use std::mem;
 
-const NO_ROOM: Limits = Limits {
+const NO_ROOM: ObjectLimits = ObjectLimits {
     segments: 0,
     size: 0,
     changes: 0,

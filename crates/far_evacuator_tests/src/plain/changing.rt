@@ -1,5 +1,5 @@
 // Plain objects: calls that are no phase of a job.
-use super::{Drawn, Place, Plain, Plains, lower, ranked};
+use super::{Drawn, Place, Plain, Plains};
 use crate::call::{Change, away};
 use crate::desk::Record;
 use far_types::Refusal;
@@ -17,9 +17,7 @@ const NEW: Record = Record {
 
 impl Plains {
     pub(super) fn create(&mut self, list: Drawn) -> Result<u32, Refusal> {
-        let Some(place) = self.room_beside(None, list.len) else {
-            return Err(Refusal::RegionFull);
-        };
+        let place = self.room_beside(None, list.len)?;
         let o = self.count();
         self.objects.push(Plain {
             list,
@@ -32,13 +30,8 @@ impl Plains {
 
     /// Unmakes the last object where it is local and has no pin.
     pub(super) fn uncreate(&mut self) -> Result<(), Refusal> {
-        let Some(object) = self.objects.last() else {
-            return Err(Refusal::NoRow);
-        };
-        if !object.record.local {
-            return Err(away(self.count().saturating_sub(1)));
-        }
-        if object.record.pins > 0 {
+        let last = self.local(self.count().wrapping_sub(1))?;
+        if last.record.pins > 0 {
             return Err(Refusal::Pinned);
         }
         self.objects.pop();
@@ -57,28 +50,28 @@ impl Plains {
     }
 
     fn changed(&self, o: u32, change: &Change<Drawn>) -> Result<Plain, Refusal> {
-        let Some(object) = self.object(o) else {
-            return Err(Refusal::NoRow);
-        };
+        let mut object = self.object(o)?;
         match change {
             Change::Unpin if object.record.pins == 0 => Err(Refusal::NotPinned),
-            Change::Unpin => Ok(object.with_pins(object.record.pins.saturating_sub(1))),
-            Change::Touch if !object.record.local => Ok(*object),
+            Change::Unpin => {
+                object.record.pins = object.record.pins.saturating_sub(1);
+                Ok(object)
+            }
+            Change::Touch if !object.record.local => Ok(object),
             _ if !object.record.local => Err(away(o)),
             Change::Touch => Ok(object.touched(self.now)),
-            Change::Pin => Ok(object.with_pins(object.record.pins.saturating_add(1))),
-            Change::Write(list) if list.len == object.list.len => {
-                self.written(object, *list, object.place)
+            Change::Pin => {
+                object.record.pins = object.record.pins.saturating_add(1);
+                Ok(object)
             }
-            Change::Write(_) => self.written(object, object.list, object.place),
-            Change::Replace(list) => self.replaced(object, *list),
-        }
-    }
-
-    fn replaced(&self, object: &Plain, list: Drawn) -> Result<Plain, Refusal> {
-        match self.room_beside(None, list.len) {
-            Some(place) => self.written(object, list, place),
-            None => Err(Refusal::RegionFull),
+            Change::Write(list) if list.len == object.list.len => {
+                self.written(&object, *list, object.place)
+            }
+            Change::Write(_) => self.written(&object, object.list, object.place),
+            Change::Replace(list) => match self.room_beside(None, list.len) {
+                Ok(place) => self.written(&object, *list, place),
+                Err(refusal) => Err(refusal),
+            },
         }
     }
 
@@ -102,28 +95,17 @@ impl Plains {
         first: Drawn,
         second: Drawn,
     ) -> Result<(), Refusal> {
-        let (Some(one), Some(other)) = (self.objects.get(a as usize), self.objects.get(b as usize))
-        else {
+        if a >= self.count() || b >= self.count() {
             return Err(Refusal::NoRow);
-        };
-        let (one, other) = (*one, *other);
+        }
         if a == b {
             return Err(Refusal::RowWidth);
         }
-        if !one.record.local {
-            return Err(away(a));
-        }
-        if !other.record.local {
-            return Err(away(b));
-        }
-        match self.replaced_both(&one, &other, first, second) {
-            Ok((one, other)) => {
-                self.put(a, one);
-                self.put(b, other.touched(self.now.saturating_add(1)));
-                Ok(())
-            }
-            Err(refusal) => Err(refusal),
-        }
+        let (one, other) = (self.local(a)?, self.local(b)?);
+        let (one, other) = self.replaced_both(&one, &other, first, second)?;
+        self.put(a, one);
+        self.put(b, other.touched(self.now.saturating_add(1)));
+        Ok(())
     }
 
     fn replaced_both(
@@ -133,110 +115,42 @@ impl Plains {
         first: Drawn,
         second: Drawn,
     ) -> Result<(Plain, Plain), Refusal> {
-        let Some(place) = self.room_beside(None, first.len) else {
-            return Err(Refusal::RegionFull);
-        };
+        let place = self.room_beside(None, first.len)?;
         let filled = Place {
             offset: place.offset.saturating_add(first.len),
             ..place
         };
-        let Some(behind) = self.room_beside(Some(filled), second.len) else {
-            return Err(Refusal::RegionFull);
-        };
-        match (
-            self.written(one, first, place),
-            self.written(other, second, behind),
-        ) {
-            (Ok(one), Ok(other)) => Ok((one, other)),
-            (Err(refusal), _) | (_, Err(refusal)) => Err(refusal),
-        }
+        let behind = self.room_beside(Some(filled), second.len)?;
+        let one = self.written(one, first, place)?;
+        Ok((one, self.written(other, second, behind)?))
     }
 
     /// Pins three listings together, unpins the first once, and takes back the pins that are left of the three: how many
-    /// that were.
+    /// that were. So the first loses the pin that it had before, and where it had none, one of the three is taken back already.
     pub(super) fn pin_together(&mut self, listed: &[u32; 3]) -> Result<u32, Refusal> {
         let mut refusal = None;
         for o in listed {
-            refusal = match self.list(*o) {
+            refusal = match self.local(*o) {
                 Err(Refusal::NoRow) => return Err(Refusal::NoRow),
                 Err(other) if refusal.is_none() => Some(other),
                 _ => refusal,
             };
         }
-        if let Some(refusal) = refusal {
-            return Err(refusal);
-        }
-        for o in listed {
-            self.pin(*o);
-        }
-        let mut taken = 0u32;
-        self.unpin(listed[0]);
-        for o in listed {
-            taken = taken.saturating_add(u32::from(self.unpin(*o)));
-        }
-        Ok(taken)
-    }
-
-    fn pin(&mut self, o: u32) {
-        if let Some(object) = self.objects.get_mut(o as usize) {
-            object.record.pins = object.record.pins.saturating_add(1);
+        match refusal {
+            Some(refusal) => Err(refusal),
+            None => Ok(self.unpin_once(listed[0])),
         }
     }
 
-    // Takes back a pin if there is one.
-    fn unpin(&mut self, o: u32) -> bool {
+    // Takes a pin back if the object has one: 3, and else 2.
+    fn unpin_once(&mut self, o: u32) -> u32 {
         match self.objects.get_mut(o as usize) {
             Some(object) if object.record.pins > 0 => {
                 object.record.pins = object.record.pins.saturating_sub(1);
-                true
+                3
             }
-            _ => false,
+            _ => 2,
         }
-    }
-
-    pub(super) fn compact(&mut self, segment: u32) -> Result<(), Refusal> {
-        if segment >= u32::from(self.limits.segments) {
-            return Err(Refusal::OutOfRange);
-        }
-        let Some(target) = self.empty_other(segment) else {
-            return Err(Refusal::RegionFull);
-        };
-        for _ in 0..self.objects.len() {
-            if let Some(o) = self.next_in(segment) {
-                self.carry_over(o, target);
-            }
-        }
-        Ok(())
-    }
-
-    // An object goes behind the others of another segment.
-    fn carry_over(&mut self, o: u32, segment: u32) {
-        let offset = self.fill_of(segment);
-        if let Some(object) = self.objects.get_mut(o as usize) {
-            object.place = Place { segment, offset };
-            object.record.hot = false;
-        }
-    }
-
-    // The lowest other segment without lists.
-    fn empty_other(&self, from: u32) -> Option<u32> {
-        for segment in 0..u32::from(self.limits.segments) {
-            if segment != from && self.fill_of(segment) == 0 {
-                return Some(segment);
-            }
-        }
-        None
-    }
-
-    // The object of a segment that a compaction takes next: the hot ones first, then the others, each by where it lies.
-    fn next_in(&self, segment: u32) -> Option<u32> {
-        let mut next = None;
-        for (o, object) in self.objects.iter().enumerate() {
-            if object.record.local && object.place.segment == segment {
-                next = lower(next, (!object.record.hot, object.place.offset as u64, o));
-            }
-        }
-        ranked(next)
     }
 }
 
@@ -247,11 +161,5 @@ impl Plain {
         touched.record.hot = true;
         touched.used = now;
         touched
-    }
-
-    fn with_pins(&self, pins: u32) -> Plain {
-        let mut pinned = *self;
-        pinned.record.pins = pins;
-        pinned
     }
 }

@@ -1,33 +1,19 @@
-// Plain objects: jobs that are begun, carried and accepted.
-use super::{Job, Plain, Plains, lower, ranked};
-use crate::call::{Phase, away};
+// Plain objects: jobs that are begun, carried and accepted, and objects that are given over to another store.
+use super::{Job, Numbers, Plain, Plains, lower, ranked};
+use crate::call::Phase;
 use far_evacuator::Want;
 use far_types::Refusal;
 
 impl Plains {
     /// A phase of a job.
-    pub(super) fn move_object(&mut self, phase: Phase) -> Result<(), Refusal> {
+    pub(super) fn move_object(&mut self, phase: &Phase) -> Result<(), Refusal> {
         match phase {
-            Phase::Begin(want) => self.begin(want),
+            Phase::Begin(want) => self.begin(*want),
             Phase::Carry => self.carry(),
             Phase::Commit => self.commit(),
-            Phase::BeginFetch(o) => self.begin_fetch(o),
+            Phase::BeginFetch(o) => self.begin_fetch(*o),
             Phase::CarryFetch => self.carry_fetch(),
             Phase::Install => self.install(),
-        }
-    }
-
-    // A job on an object.
-    fn job_on(&self, o: u32) -> Option<Job> {
-        match self.object(o) {
-            Some(object) => Some(Job {
-                number: self.number,
-                object: o,
-                record: object.record,
-                list: object.list,
-                ticket: object.record.ticket,
-            }),
-            None => None,
         }
     }
 
@@ -36,25 +22,20 @@ impl Plains {
             Want::Object(o) => Some(o),
             Want::Coldest => self.coldest(),
         };
-        let Some(o) = wanted else {
+        let Some(object) = wanted else {
             return Err(Refusal::StaleJob);
         };
-        match self.job_on(o) {
-            Some(job) if job.record.local => {
-                self.evac = Some(job);
-                Ok(())
-            }
-            Some(_) => Err(away(o)),
-            None => Err(Refusal::NoRow),
-        }
+        let was = self.local(object)?;
+        self.evac = Some(Job { object, was });
+        Ok(())
     }
 
     fn carry(&mut self) -> Result<(), Refusal> {
         let Some(mut job) = self.evac else {
             return Err(Refusal::StaleJob);
         };
-        if job.record.dirty {
-            job.ticket = Some(self.store.put(job.list.len)?);
+        if job.was.record.dirty {
+            job.was.record.ticket = Some(self.store.put(job.was.list)?);
         }
         self.carried = Some(job);
         self.evac = None;
@@ -66,12 +47,11 @@ impl Plains {
             return Err(Refusal::StaleJob);
         };
         match self.object(job.object) {
-            Some(object) if self.is_committable(&job, object) => {
+            Ok(object) if self.is_committable(&job.was, &object) => {
                 if object.record.pins > 0 {
                     return Err(Refusal::Pinned);
                 }
-                let gone = object.gone(job.ticket);
-                self.put(job.object, gone);
+                self.put(job.object, object.gone(job.was.record.ticket));
                 Ok(())
             }
             _ => Err(Refusal::StaleJob),
@@ -79,29 +59,26 @@ impl Plains {
     }
 
     // A dirty object has to have the list that was carried, and another one its ticket.
-    fn is_committable(&self, job: &Job, object: &Plain) -> bool {
-        let is_still = if job.record.dirty {
-            object.list.index == job.list.index
+    fn is_committable(&self, was: &Plain, object: &Plain) -> bool {
+        let is_still = if was.record.dirty {
+            object.list.index == was.list.index
         } else {
-            !object.record.dirty && object.record.ticket == job.ticket
+            !object.record.dirty && object.record.ticket == was.record.ticket
         };
         object.record.local
-            && job.number == self.number
-            && object.record.version == job.record.version
-            && object.record.leavings == job.record.leavings
+            && object.record.version == was.record.version
+            && object.record.leavings == was.record.leavings
             && object.record.leavings < self.limits.leavings
             && is_still
     }
 
-    fn begin_fetch(&mut self, o: u32) -> Result<(), Refusal> {
-        match self.job_on(o) {
-            Some(job) if !job.record.local => {
-                self.fetch = Some(job);
-                Ok(())
-            }
-            Some(_) => Err(Refusal::StaleJob),
-            None => Err(Refusal::NoRow),
+    fn begin_fetch(&mut self, object: u32) -> Result<(), Refusal> {
+        let was = self.object(object)?;
+        if was.record.local {
+            return Err(Refusal::StaleJob);
         }
+        self.fetch = Some(Job { object, was });
+        Ok(())
     }
 
     fn carry_fetch(&mut self) -> Result<(), Refusal> {
@@ -118,26 +95,18 @@ impl Plains {
         let Some(job) = self.fetched else {
             return Err(Refusal::StaleJob);
         };
-        match self.object(job.object) {
-            Some(object) if self.is_installable(&job, object) => {
-                let Some(place) = self.room_beside(None, object.list.len) else {
-                    return Err(Refusal::RegionFull);
-                };
-                let mut back = object.touched(self.now);
-                back.place = place;
-                back.record.local = true;
-                self.put(job.object, back);
-                Ok(())
-            }
-            _ => Err(Refusal::StaleJob),
+        let Ok(object) = self.object(job.object) else {
+            return Err(Refusal::StaleJob);
+        };
+        let was_away_since = object.record.leavings != job.was.record.leavings;
+        if object.record.local || was_away_since || object.record.ticket != job.was.record.ticket {
+            return Err(Refusal::StaleJob);
         }
-    }
-
-    fn is_installable(&self, job: &Job, object: &Plain) -> bool {
-        !object.record.local
-            && job.number == self.number
-            && object.record.leavings == job.record.leavings
-            && object.record.ticket == job.ticket
+        let mut back = object.touched(self.now);
+        back.place = self.room_beside(None, object.list.len)?;
+        back.record.local = true;
+        self.put(job.object, back);
+        Ok(())
     }
 
     // The object that goes away first.
@@ -149,6 +118,42 @@ impl Plains {
             }
         }
         ranked(coldest)
+    }
+
+    /// Gives the objects over to another store, where there is no job then; refused, they are as they were.
+    pub fn renew(&mut self, store: Numbers) -> Result<(), Refusal> {
+        self.store_all(store)?;
+        self.number_all();
+        self.evac = None;
+        self.carried = None;
+        self.fetch = None;
+        self.fetched = None;
+        Ok(())
+    }
+
+    // What is away is put into another store, by rising object number.
+    fn store_all(&mut self, mut store: Numbers) -> Result<(), Refusal> {
+        for object in &self.objects {
+            if !object.record.local {
+                self.store.get()?;
+                store.put(object.list)?;
+            }
+        }
+        self.store = store;
+        Ok(())
+    }
+
+    // The objects that are away have the first tickets of a store, and the local ones have none and are dirty.
+    fn number_all(&mut self) {
+        let mut number = 0u64;
+        for object in &mut self.objects {
+            object.record.dirty = object.record.local;
+            object.record.ticket = None;
+            if !object.record.local {
+                object.record.ticket = Some(number);
+                number = number.wrapping_add(1);
+            }
+        }
     }
 }
 

@@ -5,4 +5,4 @@ use Rattle.far_columns.specs.Numbers.{Numbers}
 use Rattle.far_columns_tests.proofs.numbers.no_numbers.Given as goal
 
 abbrev pub invariant-loop-k : goal.invariant-loop-k
-invariant-loop-k l = ((lists : ℕ → Option Numbers) → AreVectors lists l.columns.items) × All (λ c. c.size ≡ l.layout.group) l.columns.items
+invariant-loop-k l = ((lists : ℕ → Option Numbers) → AreVectors lists l.columns.items) × All (λ c. c.size ≡ l.layout.now.group) l.columns.items

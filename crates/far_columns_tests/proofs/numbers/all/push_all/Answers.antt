@@ -6,6 +6,6 @@ use Rattle.far_columns_tests.proofs.numbers.all.push_all.Goals as goal
 
 pub returns-clause-sized : goal.returns-clause-sized
 returns-clause-sized g c =
-    either-way c.push_numbers.result c.push_numbers.ensures.pushed c.push_numbers.ensures.err
+    either-way c.push_numbers-reply.result c.push_numbers-reply.ensures.pushed c.push_numbers-reply.ensures.err
     (λ pushed. subst (All (λ (v : Vector (Option ℤ)). v.size ≡ c.args.size)) (sym pushed) (sized-numbers c.args.size _ c.args.columns.now c.requires.sized))
     (λ kept. subst (All (λ (v : Vector (Option ℤ)). v.size ≡ c.args.size)) (sym kept.0) c.requires.sized)

@@ -6,6 +6,6 @@ use Rattle.far_columns_tests.proofs.texts.all.push_all.Goals as goal
 
 pub returns-clause-sized : goal.returns-clause-sized
 returns-clause-sized g c =
-    either-way c.push_texts.result c.push_texts.ensures.pushed c.push_texts.ensures.err
+    either-way c.push_texts-reply.result c.push_texts-reply.ensures.pushed c.push_texts-reply.ensures.err
     (λ pushed. subst (All (λ (t : Texts). t.size ≡ c.args.size)) (sym pushed) (sized-texts c.args.size _ c.args.columns.now c.requires.sized))
     (λ kept. subst (All (λ (t : Texts). t.size ≡ c.args.size)) (sym kept.0) c.requires.sized)

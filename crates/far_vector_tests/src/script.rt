@@ -1,0 +1,62 @@
+// Scripts: calls on a vector, and their replies.
+use far_types::Refusal;
+
+/// A call, and its reply.
+pub type Line = (Call, Result<(), Refusal>);
+
+/// What is played on a vector of numbers without an element, in four segments of four; each object may go away once.
+pub struct Script {
+    /// What it shows, in a sentence.
+    pub name: &'static str,
+    /// How many places a row group has.
+    pub group: u32,
+    /// How often an object may be written.
+    pub changes: u64,
+    pub lines: &'static [Line],
+}
+
+/// A script of no line.
+pub const SCRIPT: Script = Script {
+    name: "",
+    group: 4,
+    changes: 5,
+    lines: &[],
+};
+
+/// A call on a vector, or what is looked for.
+pub enum Call {
+    Push(i64),
+    /// Sets the element at a place.
+    Set(usize, i64),
+    /// Writes over the first element of a part in place.
+    Overwrite(usize, usize, i64),
+    MayWritePart(usize, usize),
+    /// Sends the last object away.
+    LastAway,
+    /// Finds the element at a place.
+    Get(usize, i64),
+    /// Finds these elements in a part.
+    Part(usize, usize, &'static [i64]),
+    /// Finds that the pieces of a part are so long.
+    Pieces(usize, usize, &'static [usize]),
+    /// Finds how many elements there are.
+    Len(usize),
+    /// Finds the object of a row group.
+    Object(u32, Option<u32>),
+}
+
+/// What a call answers that found something else than it should.
+pub const WRONG: Refusal = Refusal::BadSpec;
+
+/// The reply of a call that finds what it should, or not.
+pub fn found(right: bool) -> Result<(), Refusal> {
+    if right { Ok(()) } else { Err(WRONG) }
+}
+
+/// The reply of a call that is refused, or finds what it should, or not.
+pub fn finds<T: PartialEq + Drop>(reply: Result<T, Refusal>, due: T) -> Result<(), Refusal> {
+    match reply {
+        Ok(value) => found(value == due),
+        Err(refusal) => Err(refusal),
+    }
+}
