@@ -21,7 +21,7 @@ const LIMITS: ObjectLimits = ObjectLimits {
 
 /// The least times of a sum, in nanoseconds, with a look at the flags and without, and what keeps the work from being left
 /// out.
-#[derive(Clone, Copy, Debug)]
+#[derive(Drop)]
 pub struct SumTimes {
     pub plain: u128,
     pub lent: u128,
@@ -30,18 +30,14 @@ pub struct SumTimes {
     pub seen: i64,
 }
 
-impl SumTimes {
-    /// No round yet.
-    fn new() -> SumTimes {
-        SumTimes {
-            plain: u128::MAX,
-            lent: u128::MAX,
-            plain_all: u128::MAX,
-            lent_all: u128::MAX,
-            seen: 0,
-        }
-    }
-}
+/// No round yet.
+const NO_TIMES: SumTimes = SumTimes {
+    plain: u128::MAX,
+    lent: u128::MAX,
+    plain_all: u128::MAX,
+    lent_all: u128::MAX,
+    seen: 0,
+};
 
 /// The sum of the values of live places.
 #[inline(never)]
@@ -201,7 +197,7 @@ fn time_rounds<S: FarTickets>(
 {
     let alive = all_alive(rt.alloc(), numbers.len()).map_err(io_error)?;
     let flags = Vec::from_elem(rt.alloc(), true, numbers.len())?;
-    let mut times = SumTimes::new();
+    let mut times = NO_TIMES;
     for _ in 0..rounds {
         time_list(rt, numbers, &flags, &mut times)?;
         time_column(rt, objects, column, &alive, &mut times)?;

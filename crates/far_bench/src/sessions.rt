@@ -12,7 +12,7 @@ use std::thread::{self, Threads};
 use std::time::{Clock, Instant};
 
 /// The nanoseconds of the slowest session, for all its edits and for as many readings of its gauge.
-#[derive(Clone, Copy, Debug)]
+#[derive(Clone, Copy)]
 pub struct Times {
     pub edits: u128,
     pub readings: u128,

@@ -8,11 +8,11 @@ ghost use Rattle.far_rows.specs.Setting.{cell_of, kind_in, set_refusal};
 
 mod values;
 
+use crate::faults::no_clock;
 use far_rows::{LentColumn, NewCell, NewRow, Rows};
 use far_store::FarTickets;
 use far_types::{CellRef, Kind, Limits, Refusal, Schema};
 use std::alloc::Global;
-use std::io;
 use std::time::Instant;
 use values::{four_numbers, four_texts, one_number, one_text, sixteen_numbers};
 
@@ -31,7 +31,7 @@ const LIMITS: Limits = Limits {
 const STRIDE: usize = 4_099;
 
 /// The least times of a round, in nanoseconds, and what keeps the work from being left out.
-#[derive(Clone, Copy, Debug)]
+#[derive(Drop)]
 pub struct RowTimes {
     pub one_number: u128,
     pub four_numbers: u128,
@@ -45,28 +45,19 @@ pub struct RowTimes {
     pub seen: i64,
 }
 
-impl RowTimes {
-    /// No round yet.
-    fn new() -> RowTimes {
-        RowTimes {
-            one_number: u128::MAX,
-            four_numbers: u128::MAX,
-            sixteen_numbers: u128::MAX,
-            one_text: u128::MAX,
-            four_texts: u128::MAX,
-            set: u128::MAX,
-            read: u128::MAX,
-            row: u128::MAX,
-            scan: u128::MAX,
-            seen: 0,
-        }
-    }
-}
-
-/// What a clock that cannot be read is to the rows.
-fn no_clock(_error: io::Error) -> Refusal {
-    Refusal::FarFault
-}
+/// No round yet.
+const NO_TIMES: RowTimes = RowTimes {
+    one_number: u128::MAX,
+    four_numbers: u128::MAX,
+    sixteen_numbers: u128::MAX,
+    one_text: u128::MAX,
+    four_texts: u128::MAX,
+    set: u128::MAX,
+    read: u128::MAX,
+    row: u128::MAX,
+    scan: u128::MAX,
+    seen: 0,
+};
 
 /// A table without a row.
 fn no_rows<S: FarTickets>(
@@ -352,7 +343,7 @@ pub fn measure<S: FarTickets>(
     count: usize,
     rounds: u32,
 ) -> Result<RowTimes, Refusal> {
-    let mut times = RowTimes::new();
+    let mut times = NO_TIMES;
     for _ in 0..rounds {
         time_numbers::<S>(rt, count, &mut times)?;
         time_texts::<S>(rt, count, &mut times)?;

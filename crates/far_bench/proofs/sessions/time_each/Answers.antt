@@ -4,7 +4,7 @@ use denote.Plain.{UInt}
 use mir.Syntax.{w32}
 use Rattle.std.proofs.Crossing as heap
 use Rattle.far_shared.proofs.CrossingLaws.{shared_sync}
-use Rattle.far_bench_threads.proofs.sessions.time_each.Goals as goal
+use Rattle.far_bench.proofs.sessions.time_each.Goals as goal
 
 pub map_vec-requires-sync-F : goal.map_vec-requires-sync-F
 map_vec-requires-sync-F g c κs within =

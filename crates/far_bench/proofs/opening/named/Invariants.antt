@@ -1,6 +1,6 @@
 use Rattle.far_sessions.specs.Rooms.{four}
 use Rattle.std.proofs.Common.{[]}
-use Rattle.far_bench_threads.proofs.opening.named.Given as goal
+use Rattle.far_bench.proofs.opening.named.Given as goal
 
 abbrev pub ghosts-opened-B-Rooms : goal.ghosts-opened-B-Rooms
 ghosts-opened-B-Rooms g a = record { cells = four a.made.zeroth a.made.first a.made.second a.made.third }

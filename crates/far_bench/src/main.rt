@@ -1,0 +1,122 @@
+#![tactic(auto)]
+//! Times of columns and rows, and of a table that threads share.
+//!
+//! - `columns`: sums of a column, lent in place, beside sums of one list of the same values; and calls on rows.
+//! - `threads`: edits of a shared table by one session and by four, each on its home stripe, beside the same edits of a table of
+//!   one's own; and readings of a gauge.
+//!
+//! With one of these arguments the work is done many times, and the times are printed on standard error; with another, as `all`,
+//! both are measured so. Without one the program does all of it once, and only shows that it ends.
+
+mod alone;
+mod faults;
+mod opening;
+mod plan;
+mod rows;
+mod sessions;
+mod shared;
+mod sums;
+
+use far_store::{AgentStore, FarTickets};
+use shared::SharedTimes;
+use std::{env, io};
+
+/// How many calls a round makes of each kind where times are wanted.
+const CALLS: usize = 65_536;
+
+/// How many edits a session makes then.
+const EDITS: u32 = 1_048_576;
+
+fn main(rt: HostRuntime) -> io::Result<()> {
+    let subject = env::args(&rt)?.nth(1);
+    let subject = subject.as_deref();
+    let with_times = subject.is_some();
+    if subject != Some("threads") {
+        show_columns(&rt, with_times)?;
+    }
+    if subject != Some("columns") {
+        let edits = if with_times { EDITS } else { 256 };
+        let times = shared::measure(&rt, rt.alloc(), edits).map_err(faults::io_error)?;
+        show_threads(&rt, &times, with_times)?;
+    }
+    Ok(())
+}
+
+/// Measures the sums and the calls on rows.
+fn show_columns(rt: &HostRuntime, with_times: bool) -> io::Result<()> {
+    let store = AgentStore::new(rt, rt.alloc(), 4_096).map_err(faults::io_error)?;
+    show_sums(rt, &store, with_times)?;
+    show_rows::<AgentStore<&HostRuntime>>(rt, with_times)
+}
+
+/// Measures the sums.
+fn show_sums<S: FarTickets>(rt: &HostRuntime, store: &S, with_times: bool) -> io::Result<()> {
+    let sums = sums::measure(
+        rt,
+        store,
+        if with_times { 1_000_000 } else { 10_000 },
+        if with_times { 200 } else { 1 },
+    )?;
+    println!(rt; "sums: ended")?;
+    if with_times {
+        eprintln!(rt; "sum of a list, by flags: {} ns", sums.plain)?;
+        eprintln!(rt; "sum of a column, by flags: {} ns", sums.lent)?;
+        eprintln!(rt; "sum of a list: {} ns", sums.plain_all)?;
+        eprintln!(rt; "sum of a column: {} ns", sums.lent_all)?;
+        eprintln!(rt; "seen: {}", sums.seen)?;
+    }
+    Ok(())
+}
+
+/// Measures the calls on rows.
+fn show_rows<S: FarTickets>(rt: &HostRuntime, with_times: bool) -> io::Result<()> {
+    let times = rows::measure::<S>(
+        rt,
+        if with_times { CALLS } else { 256 },
+        if with_times { 20 } else { 1 },
+    )
+    .map_err(faults::io_error)?;
+    println!(rt; "rows: ended")?;
+    if with_times {
+        let calls = CALLS as u128;
+        tell(rt, "push of 1 number", times.one_number, calls)?;
+        tell(rt, "push of 4 numbers", times.four_numbers, calls)?;
+        tell(rt, "push of 16 numbers", times.sixteen_numbers, calls)?;
+        tell(rt, "push of 1 text", times.one_text, calls)?;
+        tell(rt, "push of 4 texts", times.four_texts, calls)?;
+        tell(rt, "set of a number", times.set, calls)?;
+        tell(rt, "read of a cell", times.read, calls)?;
+        tell(rt, "read of a row of 4 numbers", times.row, calls)?;
+        tell(rt, "place in a scan of row groups", times.scan, calls)?;
+        eprintln!(rt; "seen: {}", times.seen)?;
+    }
+    Ok(())
+}
+
+/// Tells what was measured of a table that threads share.
+fn show_threads(rt: &HostRuntime, times: &SharedTimes, with_times: bool) -> io::Result<()> {
+    println!(rt; "threads: ended")?;
+    if with_times {
+        let calls = u128::from(EDITS);
+        let alone = "set of a number of a table of one's own";
+        tell(rt, alone, times.alone, calls)?;
+        let one = "the same of a shared table, by one session";
+        tell(rt, one, times.one.edits, calls)?;
+        let four = "the same by each of four sessions at once";
+        tell(rt, four, times.four.edits, calls)?;
+        let after_one = "reading of a gauge after one session";
+        tell(rt, after_one, times.one.readings, calls)?;
+        let beside_three = "reading of a gauge beside three sessions";
+        tell(rt, beside_three, times.four.readings, calls)?;
+    }
+    Ok(())
+}
+
+/// Prints the time of a call, of the time of so many.
+fn tell(rt: &HostRuntime, what: &str, nanoseconds: u128, calls: u128) -> io::Result<()> {
+    let tenths = nanoseconds
+        .saturating_mul(10)
+        .checked_div(calls)
+        .unwrap_or(0);
+    eprintln!(rt; "{what}: {}.{} ns", tenths / 10, tenths % 10)
+}
