@@ -17,9 +17,14 @@ static EDITED: Scene = Scene {
     end: End::LeavesWhatIsTold,
 };
 
+// How often they do. Their calls come in another order each time.
+const RUNS: u32 = 20;
+
 #[test]
 fn the_totals_are_those_of_the_accepted_edits_whatever_moves_meanwhile(rt: HostRuntime) {
-    assert!(rt; comes_out(&rt, rt.alloc(), &EDITED));
+    for _ in 0..RUNS {
+        assert!(rt; comes_out(&rt, rt.alloc(), &EDITED));
+    }
 }
 
 // One session inserts pairs of rows, and one asks.
