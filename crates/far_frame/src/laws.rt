@@ -10,7 +10,7 @@ ghost use Rattle.far_types.specs.declared.refusal.Refusal.TheVariants as refusal
 ghost use Rattle.far_types.specs.Edits.{edited};
 ghost use Rattle.far_types.specs.MayRefuse.{MayRefuse};
 ghost use Rattle.far_types.specs.Bounds.{AreLimits};
-ghost use Rattle.far_types.specs.Table.{Registered, left, answer_now, part};
+ghost use Rattle.far_types.specs.Table.{Registered, Table, left, answer_now, part};
 ghost use Rattle.far_evacuator.specs.Jobs.{CarriedEvacuation};
 ghost use Rattle.far_rows.specs.declared.job.ByKind.{ByKind};
 ghost use Rattle.far_rows.specs.declared.object.Object.{Object};
@@ -19,6 +19,7 @@ ghost use Rattle.far_rows.specs.Moving.{object_at};
 ghost use Rattle.far_rows.specs.Opening.{empty_rows};
 ghost use Rattle.far_table.specs.Edits.{edit_due};
 ghost use Rattle.far_table.specs.Offloading.{Build};
+ghost use Rattle.far_table.specs.Recounting.{IsAnswerNow};
 ghost use Rattle.far_table.specs.Watching.{aggregate_at, scanned_at};
 ghost use Rattle.far_frame.specs.declared.job.Work.TheVariants as work;
 ghost use Rattle.far_frame.specs.declared.step.Reply.{Reply};
@@ -28,6 +29,7 @@ ghost use Rattle.far_frame.specs.declared.step.Step.TheVariants as step;
 ghost use Rattle.far_frame.specs.Jobs.{JobRecord};
 ghost use Rattle.far_frame.specs.Lending.{flags_of, pieces_in};
 ghost use Rattle.far_frame.specs.Pins.{ArePinnedHere, is_here, is_pinning, pins_on};
+ghost use Rattle.far_frame.specs.Renewing.{IsMigratedTo};
 ghost use Rattle.far_frame.specs.Runs.{is_movement, is_refused, plain_rows};
 ghost use Rattle.far_frame.specs.Waiting.{job_at, without_job};
 ghost use Rattle.far_frame.specs.State.{live};
@@ -56,6 +58,17 @@ pub fn an_edit_is_that_of_the_plain_list<S: FarTickets>()
     ensures inserted { (old : World S.Ticket) → (e : Edit) → (place : ℕ) → (new : World S.Ticket) → IsStep S.content S.number_of old (step.Edit e) (reply.Place place) new → new.state.table ≡ edited e old.state.table }
     ensures done { (old : World S.Ticket) → (e : Edit) → (new : World S.Ticket) → IsStep S.content S.number_of old (step.Edit e) reply.Done new → new.state.table ≡ edited e old.state.table }
     ensures refused { (old : World S.Ticket) → (e : Edit) → (given : Refusal) → (new : World S.Ticket) → IsStep S.content S.number_of old (step.Edit e) (reply.Refused given) new → MayRefuse (edit_due (live old.state) e) true given }
+{}
+
+/// A recount that answers gives what folding the aggregate over the table's rows as they are now gives. This is said of every answer of
+/// `Frame::recount`: whichever row groups are left to be built in, whichever objects are away, and for every number of workers.
+pub fn a_recount_is_over_the_rows_now()
+    ensures { (table : Table) → (a : ℕ) → (answer : Answer) → (aggregate : Registered) → aggregate_at table a ≡ Some aggregate → IsAnswerNow table a answer → answer ≡ answer_now aggregate.spec table }
+{}
+
+/// A table that goes on with another store, as by `World::migrate`, keeps its rows and aggregates, and so its answers.
+pub fn a_migration_keeps_the_table<S: FarTickets, N: FarTickets>()
+    ensures { (name : List ℕ) → (old : World S.Ticket) → (new : World N.Ticket) → IsMigratedTo S.content N.content name old new → new.state.table ≡ old.state.table }
 {}
 
 /// A part of a column that is lent is, joined, that part of its column, with the flags of its places; dead places are in it too.

@@ -103,7 +103,7 @@ pub enum Call {
     Prefetch(u32),
     /// Carries a job, and once more if the store failed.
     CarryAtLast(u64),
-    /// Takes one pin off an object, and puts it on again.
+    /// Takes all pins off an object, puts them on again, and tells how many there are.
     Repin(u32, u32),
     /// Looks at the row of a place.
     Row(u32),

@@ -14,6 +14,8 @@ mod moving;
 #[cfg(test)]
 mod opening;
 #[cfg(test)]
+mod over_a_log;
+#[cfg(test)]
 mod random_steps;
 #[cfg(test)]
 mod recounts;

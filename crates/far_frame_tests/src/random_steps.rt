@@ -1,7 +1,7 @@
 //! Random steps of every kind on a world, against plain lists, reply by reply.
 //!
-//! The lists know how long each list and far form is, so where each lies, and when one finds no room. What objects have as pins, and
-//! how old a far copy of a dirty one is, no call tells; so at each look one pin is taken off each object and put on again.
+//! The lists know how long each list and far form is, so where each lies, and when one finds no room. How many pins an
+//! object has no call tells, so at each look all are taken off and put on again. How old a far copy of a dirty one is, none tells either.
 mod aggregates;
 mod drawing;
 mod edits;

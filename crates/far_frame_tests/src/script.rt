@@ -62,7 +62,8 @@ fn play<R: Threads + Wait + Sync>(
     }
 }
 
-fn play_over<S: FarStore, R: Threads + Sync>(
+/// The index of the first call of a script over this store that does not answer what it should.
+pub fn play_over<S: FarStore, R: Threads + Sync>(
     rt: &R,
     alloc: Global,
     store: S,
@@ -178,13 +179,42 @@ fn carried_at_last<S: FarStore>(world: &mut World<S>, n: u64) -> Reply
     }
 }
 
-fn repinned<S: FarStore>(world: &mut World<S>, column: u32, group: u32) -> Reply
-    requires few { world.old.faults < 9 }
-{
-    match world.serve(Step::Unpin { column, group }) {
-        Reply::Done => world.serve(Step::Pin { column, group }),
-        reply => reply,
+// Takes all pins off an object, and says how many it had.
+fn unpinned<S: FarStore>(world: &mut World<S>, column: u32, group: u32) -> u32 {
+    for turn in 0..65_536 {
+        if world.faults() >= 9 {
+            return turn;
+        }
+        let Reply::Done = world.serve(Step::Unpin { column, group }) else {
+            return turn;
+        };
     }
+    65_536
+}
+
+// Puts so many pins on an object.
+fn is_pinned<S: FarStore>(world: &mut World<S>, column: u32, group: u32, count: u32) -> bool {
+    for _ in 0..count {
+        if world.faults() >= 9 {
+            return false;
+        }
+        let Reply::Done = world.serve(Step::Pin { column, group }) else {
+            return false;
+        };
+    }
+    true
+}
+
+// How many pins an object has, told as a place is; or why none is taken off. All are put on again.
+fn repinned<S: FarStore>(world: &mut World<S>, column: u32, group: u32) -> Reply {
+    let count = unpinned(world, column, group);
+    if world.faults() >= 9 || !is_pinned(world, column, group, count) {
+        return Reply::Refused(Refusal::Pinned);
+    }
+    if count > 0 || world.faults() >= 9 {
+        return Reply::Place(count);
+    }
+    world.serve(Step::Unpin { column, group })
 }
 
 // `Done` if a look finds what it asks for, else why not.

@@ -3,19 +3,25 @@ ghost use Rattle.std.specs.Prelude.{◌≡◌};
 
 use far_types::Refusal;
 use std::alloc::{AllocError, AllocFailed};
+use thiserror::Error;
 
 /// What ends a script before its end. What was answered before stands.
-#[derive(Drop, Debug, Clone, Copy, PartialEq, Eq)]
+#[derive(Drop, Debug, Clone, Copy, PartialEq, Eq, Error)]
 pub enum ShellFault {
     /// The first command opens no table.
+    #[error("the first command opens no table")]
     BadStart,
     /// A read failed, the script is too long or no UTF-8, or a load ends before its bytes.
+    #[error("the script could not be read")]
     Input,
     /// A write failed.
+    #[error("the replies could not be written")]
     Output,
     /// The shell itself was refused memory.
+    #[error("the shell is out of memory")]
     Memory,
     /// An edit of sessions on threads was tried as often as it may be, or was refused for what no other try mends.
+    #[error("sessions did not get their edits through")]
     Turns,
 }
 

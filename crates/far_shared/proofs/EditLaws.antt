@@ -1,5 +1,6 @@
 -- Why the plain table refuses an edit that a table over objects refuses.
-use Rattle.std.proofs.Common.{◌≡◌, ◌⊎◌, inl, inr, ℕ, ◌+◌, ◌/◌, ◌≤◌, Bool, true, false, List, [], ◌∷◌, length, Option, None, Some, refl, subst, arith}
+use Rattle.std.proofs.Common.{◌≡◌, ◌⊎◌, inl, inr, ℕ, ◌+◌, ◌/◌, ◌≤◌, Bool, ◌&&◌, true, false, List, [], ◌∷◌, length, slice_get, Option, None, Some, refl, subst, arith}
+use Rattle.far_types.specs.Bounds.{is_text}
 use Rattle.far_types.specs.declared.cell.Cell.{Cell}
 use Rattle.far_types.specs.declared.edit.Edit.{Edit}
 use Rattle.far_types.specs.declared.edit.Edit.TheVariants as edit
@@ -17,18 +18,22 @@ use Rattle.far_frame.specs.State.{State as Whole, live}
 use Rattle.far_frame.specs.declared.step.Reply.{Reply}
 use Rattle.far_frame.specs.declared.step.Reply.TheVariants as reply
 use Rattle.far_frame.specs.declared.step.Step.TheVariants as step
-use Rattle.far_shared.specs.Applying.{IsOfObjects, WhyNot, place_of}
+use Rattle.far_shared.specs.Applying.{IsOfObjects, WhyNot, place_of, places_cells}
 use Rattle.far_shared.proofs.FirstLaws.{AllTell, free-plain, found-plain}
 
-module _ (columns group : ℕ) (long : Bool) where
-  absents-tell : {K : Type 0} (r : Rows K) (n : ℕ) (slots : List Slot) → n + length slots ≤ columns → AllTell (IsOfObjects columns group long) (absents_from r group n slots)
+first-holds : (a b : Bool) → (a && b) ≡ true → a ≡ true
+first-holds true b both = refl
+first-holds false b both = absurd cc
+
+module _ (columns group : ℕ) (some long : Bool) where
+  absents-tell : {K : Type 0} (r : Rows K) (n : ℕ) (slots : List Slot) → n + length slots ≤ columns → AllTell (IsOfObjects columns group some long) (absents_from r group n slots)
   absents-tell r n [] few = tt
-  absents-tell r n (s ∷ slots) few = ((omega (arith, few), refl), absents-tell r (n + 1) slots (omega (arith, few)))
+  absents-tell r n (s ∷ slots) few = ((λ away. (omega (arith, few), refl)), absents-tell r (n + 1) slots (omega (arith, few)))
 
 module _ {K : Type 0} (s : State K) (slots : length s.rows.slots ≡ length s.table.schema) where
-  room-tells : (e : Edit) (columns group : ℕ) (long : Bool) → long ≡ false → AllTell (IsOfObjects columns group long) (no_room s e)
-  room-tells (edit.Insert row) columns group long short = (short, (short, tt))
-  room-tells (edit.Set p c cell) columns group long short = (short, tt)
+  room-tells : (e : Edit) (columns group : ℕ) (long : Bool) → long ≡ false → AllTell (IsOfObjects columns group (places_cells s.table.schema e) long) (no_room s e)
+  room-tells (edit.Insert row) columns group long short = ((λ full. (refl, short)), ((λ full. (refl, short)), tt))
+  room-tells (edit.Set p c cell) columns group long short = ((λ full. (first-holds (is_text (slice_get s.table.schema c)) _ full, short)), tt)
   room-tells (edit.Remove p) columns group long short = tt
 
   same-group : (e : Edit) → group_of s e ≡ place_of s.table e / s.table.limits.group
@@ -47,15 +52,16 @@ module _ {K : Type 0} (s : State K) (slots : length s.rows.slots ≡ length s.ta
       by None is may = inr (inr (plain-accepts e is, may.0))
       by (Some due) is may =
           let found : edit_due s e ≡ Some given = rw may is in
+          let some : Bool = places_cells s.table.schema e in
           let long : Bool = overfills s.table.schema s.table.limits e s.table.places in
-          let of_objects : Refusal → Type 0 = IsOfObjects (length s.table.schema) (group_of s e) long in
+          let of_objects : Refusal → Type 0 = IsOfObjects (length s.table.schema) (group_of s e) some long in
           told (found-plain of_objects (edit_faults s.table.schema s.table.limits s.table.places e) (absents s.rows (group_of s e)) (no_room s e) _ _ given
-          (absents-tell (length s.table.schema) (group_of s e) long s.rows 0 s.rows.slots (omega (arith, slots)))
+          (absents-tell (length s.table.schema) (group_of s e) some long s.rows 0 s.rows.slots (omega (arith, slots)))
           (λ short. room-tells e (length s.table.schema) (group_of s e) long short) found)
         where
-          told : (edit_refusal s.table e ≡ Some given) ⊎ ((first_of (edit_faults s.table.schema s.table.limits s.table.places e) ≡ None) × IsOfObjects (length s.table.schema) (group_of s e) (overfills s.table.schema s.table.limits e s.table.places) given) → WhyNot s.table e given
+          told : (edit_refusal s.table e ≡ Some given) ⊎ ((first_of (edit_faults s.table.schema s.table.limits s.table.places e) ≡ None) × IsOfObjects (length s.table.schema) (group_of s e) (places_cells s.table.schema e) (overfills s.table.schema s.table.limits e s.table.places) given) → WhyNot s.table e given
           told (inl plain) = inl plain
-          told (inr objects) = inr (inl (objects.0, subst (λ g. IsOfObjects (length s.table.schema) g (overfills s.table.schema s.table.limits e s.table.places) given) (same-group e) objects.1))
+          told (inr objects) = inr (inl (objects.0, subst (λ g. IsOfObjects (length s.table.schema) g (places_cells s.table.schema e) (overfills s.table.schema s.table.limits e s.table.places) given) (same-group e) objects.1))
 
 module _ {K : Type 0} (content : K → List ℕ) (old new : Whole K) (slots : length old.rows.slots ≡ length old.table.schema) where
   pub made-free : (e : Edit) (given : Reply) → Accepts content old (step.Edit e) given new → edit_refusal old.table e ≡ None

@@ -3,10 +3,10 @@ use Rattle.std.proofs.Common.{◌≡◌, ◌⊎◌, inl, inr, Bool, true, false,
 use Rattle.far_types.specs.declared.refusal.Refusal.{Refusal}
 use Rattle.far_types.specs.FirstOf.{first_of}
 
--- each of these tests tells a refusal of one sort
+-- each of these tests that holds tells a refusal of one sort
 abbrev pub AllTell : (Refusal → Type 0) → List (Bool × Refusal) → Type 0
 AllTell P [] = Unit {0}
-AllTell P (case ∷ cases) = P case.1 × AllTell P cases
+AllTell P (case ∷ cases) = (case.0 ≡ true → P case.1) × AllTell P cases
 
 free-last : (n : List (Bool × Refusal)) (d : Bool × Refusal) → first_of (n ++ d ∷ []) ≡ None → first_of (d ∷ []) ≡ None
 free-last [] d free = free
@@ -28,13 +28,13 @@ free-plain ((false, e) ∷ xs) a n c d free = free-plain xs a n c d free
 module _ (P : Refusal → Type 0) where
   found-last : (n : List (Bool × Refusal)) (d : Bool × Refusal) (g : Refusal) → AllTell P n → first_of (n ++ d ∷ []) ≡ Some g → (first_of (d ∷ []) ≡ Some g) ⊎ P g
   found-last [] d g all due = inl due
-  found-last ((true, e) ∷ n) d g all due = (let is : e ≡ g = cc in inr (subst P is all.0))
+  found-last ((true, e) ∷ n) d g all due = (let is : e ≡ g = cc in inr (subst P is (all.0 refl)))
   found-last ((false, e) ∷ n) d g all due = found-last n d g all.1 due
 
   found-two : (a n : List (Bool × Refusal)) (c d : Bool × Refusal) (g : Refusal) → AllTell P a → (c.0 ≡ false → AllTell P n) → first_of (a ++ (c ∷ (n ++ d ∷ []))) ≡ Some g → (first_of (c ∷ d ∷ []) ≡ Some g) ⊎ P g
   found-two [] n (true, e) d g of_a of_n due = inl due
   found-two [] n (false, e) d g of_a of_n due = found-last n d g (of_n refl) due
-  found-two ((true, e) ∷ a) n c d g of_a of_n due = (let is : e ≡ g = cc in inr (subst P is of_a.0))
+  found-two ((true, e) ∷ a) n c d g of_a of_n due = (let is : e ≡ g = cc in inr (subst P is (of_a.0 refl)))
   found-two ((false, e) ∷ a) n c d g of_a of_n due = found-two a n c d g of_a.1 of_n due
 
   or_other : (plain : Type 0) {g : Refusal} → plain ⊎ P g → plain ⊎ ((first_of [] ≡ None) × P g)

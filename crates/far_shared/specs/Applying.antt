@@ -1,6 +1,8 @@
 -- What an edit of a stripe does for the session that makes it, and why it is refused.
-use Rattle.std.specs.Prelude.{◌≡◌, ◌⊎◌, ℕ, ◌/◌, ◌<◌, Bool, false, List, [], ◌∷◌, ◌++◌, length, None, Some}
+use Rattle.std.specs.Prelude.{◌≡◌, ◌⊎◌, ℕ, ◌/◌, ◌<◌, Bool, true, false, List, [], ◌∷◌, ◌++◌, length, slice_get, None, Some}
 use mathlib.Core.List.{IsPrefix}
+use Rattle.far_types.specs.Bounds.{is_text}
+use Rattle.far_types.specs.declared.cell.Kind.{Kind}
 use Rattle.far_types.specs.declared.edit.Edit.{Edit}
 use Rattle.far_types.specs.declared.edit.Edit.TheVariants as edit
 use Rattle.far_types.specs.declared.refusal.Refusal.{Refusal}
@@ -25,18 +27,25 @@ place_in places (edit.Remove p) = p
 abbrev pub place_of : Table → Edit → ℕ
 place_of table e = place_in table.places e
 
+-- an edit places something: an insert its cells, a set a text. A number is set in place, and a removal places nothing
+abbrev pub places_cells : List Kind → Edit → Bool
+places_cells schema (edit.Insert row) = true
+places_cells schema (edit.Set p c cell) = is_text (slice_get schema c)
+places_cells schema (edit.Remove p) = false
+
 -- a refusal that the plain table does not know, since none of its objects is ever away and it has room for all: an object of a column
--- of the schema is away, in the row group that the edit writes; or there is no room, where no text object would be too long
-abbrev pub IsOfObjects : (columns group : ℕ) (is_too_long : Bool) → Refusal → Type 0
-IsOfObjects columns group is_too_long (refusal.Absent c g) = (c < columns) × (g ≡ group)
-IsOfObjects columns group is_too_long refusal.RegionFull = is_too_long ≡ false
-IsOfObjects columns group is_too_long _ = ⊥
+-- of the schema is away, in the row group that the edit writes; or there is no room for what the edit places, where no text object
+-- would be too long
+abbrev pub IsOfObjects : (columns group : ℕ) (places_some is_too_long : Bool) → Refusal → Type 0
+IsOfObjects columns group places_some is_too_long (refusal.Absent c g) = (c < columns) × (g ≡ group)
+IsOfObjects columns group places_some is_too_long refusal.RegionFull = (places_some ≡ true) × (is_too_long ≡ false)
+IsOfObjects columns group places_some is_too_long _ = ⊥
 
 -- why an edit of a table over objects is refused: the plain table refuses it so; or it has no fault of its own, and objects stand in
 -- its way; or the plain table accepts it, and memory is wanted
 abbrev pub WhyNot : Table → Edit → Refusal → Type 0
 WhyNot table e given = (edit_refusal table e ≡ Some given)
-    ⊎ (((first_of (edit_faults table.schema table.limits table.places e) ≡ None) × IsOfObjects (length table.schema) (place_of table e / table.limits.group) (overfills table.schema table.limits e table.places) given)
+    ⊎ (((first_of (edit_faults table.schema table.limits table.places e) ≡ None) × IsOfObjects (length table.schema) (place_of table e / table.limits.group) (places_cells table.schema e) (overfills table.schema table.limits e table.places) given)
     ⊎ ((edit_refusal table e ≡ None) × (given ≡ refusal.NoMemory)))
 
 module _ (p : Planned) (before : Told) (e : Edit) (after : Told) where

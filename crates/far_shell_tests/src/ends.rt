@@ -1,5 +1,6 @@
 //! Scripts whose reader or writer ends them. What a script of its own shows stands in examples/.
 use far_shell::{ShellFault, run_script};
+use std::alloc::{AllocError, Global};
 use std::cell::RefCell;
 use std::io::{self, Read, Write};
 use std::sync::Wait;
@@ -204,4 +205,28 @@ fn nothing_is_read_behind_sessions(rt: HostRuntime) {
     let mut given = Vec::new(rt.alloc());
     assert!(rt; run_script(&rt, source, &mut given) == Ok(()));
     assert!(rt; given.as_slice() == ONE_EDIT);
+}
+
+static FAULTS: [(ShellFault, &str); 5] = [
+    (ShellFault::BadStart, "the first command opens no table"),
+    (ShellFault::Input, "the script could not be read"),
+    (ShellFault::Output, "the replies could not be written"),
+    (ShellFault::Memory, "the shell is out of memory"),
+    (
+        ShellFault::Turns,
+        "sessions did not get their edits through",
+    ),
+];
+
+/// Whether a fault is printed so.
+fn is_printed(alloc: Global, fault: ShellFault, text: &str) -> Result<bool, AllocError> {
+    let printed = format!(in alloc; "{fault}")?;
+    Ok(printed.as_str() == text)
+}
+
+#[test]
+fn each_fault_says_what_it_is(rt: HostRuntime) {
+    for (fault, text) in &FAULTS {
+        assert!(rt; is_printed(rt.alloc(), *fault, text) == Ok(true));
+    }
 }

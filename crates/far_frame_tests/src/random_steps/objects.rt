@@ -1,6 +1,7 @@
 //! Objects of a plain table: where each lies, and what is known of it.
 use super::drawing::{COLUMNS, KINDS};
 use super::plain::Plain;
+use crate::answers::Due;
 use far_types::{Kind, Limits, Refusal};
 
 /// A part of a segment.
@@ -197,6 +198,14 @@ impl Plain {
         match self.missing(column, group) {
             None if self.object(column, group).pins == 0 => Some(Refusal::NotPinned),
             refusal => refusal,
+        }
+    }
+
+    /// How many pins an object has, told as a place is; or why none is taken off.
+    pub fn pins(&self, column: u32, group: u32) -> Due<'static> {
+        match self.unpin_refusal(column, group) {
+            None => Due::Place(self.object(column, group).pins),
+            Some(refusal) => Due::Refused(refusal),
         }
     }
 

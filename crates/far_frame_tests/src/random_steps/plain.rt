@@ -205,6 +205,7 @@ impl Plain {
             Call::Fetch(column, group) => self.fetch(column, group),
             Call::Offload(a, group) => self.offload(a, group),
             Call::Row(place) => self.row(place),
+            Call::Repin(column, group) => self.pins(column, group),
             call => done(self.change(call)),
         }
     }
@@ -234,7 +235,6 @@ impl Plain {
             Call::MayEvac(column, group) => self.away(column, group),
             Call::MayScan(a, group) if self.scan_refusal(a, group).is_none() => None,
             Call::MayOffload(a, group) => self.offload_refusal(a, group),
-            Call::Repin(column, group) => self.unpin_refusal(column, group),
             _ => Some(Refusal::StaleJob),
         }
     }

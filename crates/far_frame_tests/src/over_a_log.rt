@@ -1,0 +1,72 @@
+//! A table whose objects go away to one log of bytes, and come back from it.
+use crate::answers::Due;
+use crate::call::Call;
+use crate::call::Value::Int;
+use crate::opening::{NUMBERS, SOUND};
+use crate::script::{Calls, Script, play_over};
+use far_byte_log::ByteLog;
+use far_store::EngineStore;
+use far_types::Refusal;
+use std::alloc::Global;
+use std::thread::Threads;
+
+/// Two row groups go away and come back. One is written then, and the log has no room for its new form, so it stays.
+const COME_AND_GO: Calls = &[
+    (Call::Evac(0, 0), Due::Job(0)),
+    (Call::Carry(0), Due::Done),
+    (Call::Commit(0), Due::Done),
+    (Call::Insert(&[Int(8)]), Due::Place(3)),
+    (Call::Evac(0, 1), Due::Job(1)),
+    (Call::Carry(1), Due::Done),
+    (Call::Commit(1), Due::Done),
+    (Call::Ask(0), Due::Lines(&[(None, 4, 26)])),
+    (Call::Fetch(0, 0), Due::Job(2)),
+    (Call::Carry(2), Due::Done),
+    (Call::Install(2), Due::Done),
+    (Call::Fetch(0, 1), Due::Job(3)),
+    (Call::Carry(3), Due::Done),
+    (Call::Install(3), Due::Done),
+    (
+        Call::Lend(0, 0, 4),
+        Due::Lent(
+            0,
+            &[
+                (Int(5), true),
+                (Int(6), true),
+                (Int(7), true),
+                (Int(8), true),
+            ],
+        ),
+    ),
+    // An object that was not written has its bytes in the log still.
+    (Call::Evac(0, 1), Due::Job(4)),
+    (Call::Carry(4), Due::Done),
+    (Call::Commit(4), Due::Done),
+    (Call::Set(0, 0, Int(9)), Due::Done),
+    (Call::Evac(0, 0), Due::Job(5)),
+    (Call::Carry(5), Due::Refused(Refusal::FarFault)),
+    (Call::Ask(0), Due::Lines(&[(None, 4, 30)])),
+    (Call::Faults(1), Due::Done),
+];
+
+/// Room for two far forms of two numbers, of 22 bytes each.
+const ROOM: usize = 44;
+
+static SCRIPT: Script = Script {
+    name: "objects come and go over one log",
+    opening: NUMBERS,
+    plan: SOUND,
+    calls: COME_AND_GO,
+};
+
+/// The index of the first call that does not answer what it should.
+fn first_wrong<R: Threads + Sync>(rt: &R, alloc: Global) -> Result<Option<usize>, Refusal> {
+    let log = ByteLog::new(alloc, ROOM)?;
+    let store = EngineStore::new(rt, alloc, log, SCRIPT.plan.capacity)?;
+    play_over(rt, alloc, store, &SCRIPT)
+}
+
+#[test]
+fn objects_of_a_table_come_and_go_over_one_log(rt: HostRuntime) {
+    assert!(rt; first_wrong(&rt, rt.alloc()) == Ok(None));
+}
