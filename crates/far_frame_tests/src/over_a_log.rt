@@ -8,6 +8,7 @@ use far_byte_log::ByteLog;
 use far_store::EngineStore;
 use far_types::Refusal;
 use std::alloc::Global;
+use std::sync::Wait;
 use std::thread::Threads;
 
 /// Two row groups go away and come back. One is written then, and the log has no room for its new form, so it stays.
@@ -60,7 +61,7 @@ static SCRIPT: Script = Script {
 };
 
 /// The index of the first call that does not answer what it should.
-fn first_wrong<R: Threads + Sync>(rt: &R, alloc: Global) -> Result<Option<usize>, Refusal> {
+fn first_wrong<R: Threads + Wait + Sync>(rt: &R, alloc: Global) -> Result<Option<usize>, Refusal> {
     let log = ByteLog::new(alloc, ROOM)?;
     let store = EngineStore::new(rt, alloc, log, SCRIPT.plan.capacity)?;
     play_over(rt, alloc, store, &SCRIPT)
