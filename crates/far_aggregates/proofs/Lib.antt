@@ -11,10 +11,12 @@ pub mod ListLaws
 pub mod NumberLaws
 pub mod PairLaws
 pub mod PendingLaws
+pub mod PlainLaws
 pub mod ReadLaws
 pub mod RecountLaws
 pub mod RegisterLaws
 pub mod RoomLaws
 pub mod ScanLaws
 pub mod ServedLaws
+pub mod SpareLaws
 pub mod UntilLaws

@@ -28,7 +28,7 @@ get-set_same [] i x h = cc
 get-set_same (y ∷ xs) zero x h = refl
 get-set_same (y ∷ xs) (suc i) x h = get-set_same xs i x h
 
-get-set_other : {X : Type 0} (xs : List X) (i k : ℕ) (x : X) → k ≢ i → slice_get (slice_set xs i x) k ≡ slice_get xs k
+pub get-set_other : {X : Type 0} (xs : List X) (i k : ℕ) (x : X) → k ≢ i → slice_get (slice_set xs i x) k ≡ slice_get xs k
 get-set_other [] i k x h = refl
 get-set_other (y ∷ xs) zero zero x h = absurd (h refl)
 get-set_other (y ∷ xs) zero (suc k) x h = refl
@@ -45,7 +45,7 @@ changed-cells : (row : List Cell) (column : ℕ) (cell : Cell) → IsSome (slice
 changed-cells row column cell h = λ i k. changed-cell row column cell k h i
 
 -- the slots that were lent to be changed are all that there are
-pub written : (n : ℕ) (new old : List Slot) → length new ≡ n → take n (new ++ drop (length new) old) ≡ new
+pub written : {X : Type 0} (n : ℕ) (new old : List X) → length new ≡ n → take n (new ++ drop (length new) old) ≡ new
 written n new old h = ap (λ k. take k (new ++ drop (length new) old)) (sym h) ∙ take-append_seam new (drop (length new) old)
 
 -- what the table shows depends on what it shows of each slot alone

@@ -35,3 +35,16 @@ MayTake g here (Some a) (Some pair) = KeptMayTake a.spec g here a.kept pair
 
 abbrev pub EachMayTake : ℕ → List Place → List Slot → List Change → Type 0
 EachMayTake g here slots changes = (k : ℕ) (s : Slot) (c : Change) → slice_get slots k ≡ Some s → slice_get changes k ≡ Some c → MayTake g here s c
+
+-- a pair may go without a look at rows: it goes out of totals
+abbrev pub KeptIsPlain : Kept → Type 0
+KeptIsPlain (kept.Totals live) = Unit {0}
+KeptIsPlain (kept.Extrema live) = ⊥
+
+abbrev pub IsPlain : Slot → Change → Type 0
+IsPlain None change = Unit {0}
+IsPlain (Some a) None = Unit {0}
+IsPlain (Some a) (Some pair) = KeptIsPlain a.kept
+
+abbrev pub EachIsPlain : List Slot → List Change → Type 0
+EachIsPlain slots changes = (k : ℕ) (s : Slot) (c : Change) → slice_get slots k ≡ Some s → slice_get changes k ≡ Some c → IsPlain s c

@@ -10,4 +10,5 @@ pub mod Readings
 pub mod Recounting
 pub mod Rooms
 pub mod Scans
+pub mod Sparing
 pub mod Until

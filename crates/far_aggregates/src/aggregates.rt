@@ -1,5 +1,5 @@
 // The aggregates of a table.
-ghost use Rattle.std.specs.Prelude.{◌≡◌, ◌<◌, ◌≤◌, ◌+◌, ◌/◌, ◌^◌, ℕ, List, None, Some, false, true, length, map, replicate, option_map, slice_get, slice_set, IsSome, IfOk, IfErr, IfSome, IfNone, OnOk, OnErr};
+ghost use Rattle.std.specs.Prelude.{◌≡◌, ◌<◌, ◌≤◌, ◌+◌, ◌/◌, ◌^◌, ℕ, List, None, Some, false, true, IsTrue, length, map, replicate, option_map, slice_get, slice_set, IsSome, IfOk, IfErr, IfSome, IfNone, OnOk, OnErr};
 ghost use Rattle.std.specs.Option.{option_copied};
 ghost use Rattle.far_types.specs.declared.cell.Cell.{Cell};
 ghost use Rattle.far_types.specs.declared.edit.Edit.TheVariants as edit;
@@ -14,13 +14,14 @@ use super::answers::answer;
 use super::changed::Changed;
 use super::changes::changes;
 use super::coming::{back_all, come_in};
-use super::going::take_all;
+use super::going::{needs_rows, take_all, take_totals};
 use super::lend_group::LendGroup;
 use super::pending::Pending;
 use super::readings::{first_unbuilt, plain};
 use super::registrations::{aggregate_at, forget, free_number, register};
 use super::rooms::make_rooms;
 use super::scans::build_at;
+use super::sparing::spared;
 use far_types::{Answer, CellRef, LendCells, Refusal, Spec};
 use std::alloc::Global;
 use std::marker::Model;
@@ -54,6 +55,7 @@ impl Model for Aggregates {
 
 impl Aggregates {
     ghost use Rattle.far_aggregates.specs.Aggregates.{free_from, aggregate_in, is_left, ask_refusal, Answers};
+    ghost use Rattle.far_aggregates.specs.Going.{EachIsPlain};
     ghost use Rattle.far_aggregates.specs.Kept.{Keeps, PlacesFit, registered_of};
     ghost use Rattle.far_aggregates.specs.Lending.{SlotIsServed, AreServed};
     ghost use Rattle.far_aggregates.specs.Readings.{plain_in};
@@ -69,6 +71,13 @@ impl Aggregates {
             slots: Vec::new(alloc),
             spare: Pending::nothing(alloc),
         }
+    }
+
+    /// Whether none was ever registered, so that an edit has nothing to keep. Takes no memory.
+    pub fn is_empty(&self) -> bool
+        ensures { IsTrue result → (size : ℕ) → (places : List Place) → Keeps size places self.now }
+    {
+        self.slots.is_empty()
     }
 
     /// The lowest number under which no aggregate is registered, or `None` where 32 are. Takes no memory.
@@ -249,6 +258,7 @@ impl Aggregates {
         let gone = changes(alloc, gone, slots, row, size, place)?;
         let changed = Changed { row, column, cell };
         let came = come_in(alloc, came, slots, &changed, size, place)?;
+        let gone = spared(gone, came.as_slice());
         Ok(Pending { group, came, gone })
     }
 
@@ -310,8 +320,27 @@ impl Aggregates {
             self.slots.as_mut_slice(),
             group,
             pending.group,
+            pending.came.as_slice(),
             pending.gone.as_slice(),
         );
+        self.end(pending);
+    }
+
+    /// Whether `take` may have to look at the rows of the row group: what goes goes out of extrema too. Takes no memory.
+    pub fn needs_rows(&self, pending: &Pending) -> bool
+        ensures { result ≡ false → EachIsPlain self.now pending.now.gone.items }
+    {
+        needs_rows(self.slots.as_slice(), pending.gone.as_slice())
+    }
+
+    /// Does what `take` does, where `needs_rows` says that no rows are needed: none are lent. Takes no memory.
+    pub fn take_totals(&mut self, pending: Pending)
+        requires may { (here : List Place) × MayGoOn here self.old pending }
+        requires plain { EachIsPlain self.old pending.gone.items }
+        ensures taken { (here : List Place) → self.new ≡ gone_on here self.old pending }
+        ensures registered { registered_of self.new ≡ registered_of self.old }
+    {
+        take_totals(self.slots.as_mut_slice(), pending.gone.as_slice());
         self.end(pending);
     }
 }

@@ -165,6 +165,7 @@ pub fn come_in<R: LendCells>(
     requires folds { EachFolds slots.old }
     requires room { HaveRoom (place / size) slots.old }
     ensures ok { OnOk result (slots.new ≡ zip_all (added (place / size)) slots.old (map (come_of size place (row_gives (R.cells row.now))) slots.old)) }
+    ensures comes { IfOk result (λ comes. comes.items ≡ map (come_of size place (row_gives (R.cells row.now))) slots.old) }
     ensures len { IfOk result (λ comes. length comes.items ≡ length slots.new) }
     ensures may_back { IfOk result (λ comes. EachMayBack (place / size) (length slots.new) slots.new comes.items) }
     ensures back { IfOk result (λ comes. zip_all (back (place / size)) slots.new comes.items ≡ slots.old) }

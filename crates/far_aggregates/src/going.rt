@@ -1,5 +1,5 @@
 // Pairs that go out of what is kept. Nothing here takes memory.
-ghost use Rattle.std.specs.Prelude.{◌≡◌, ◌≤◌, Some, length, map, slice_set};
+ghost use Rattle.std.specs.Prelude.{◌≡◌, ◌≤◌, ◌<◌, [], Some, false, length, map, slice_get, slice_set};
 ghost use Rattle.std.specs.FinMap as fin;
 ghost use Rattle.far_types.specs.Answers.{extrema};
 ghost use Rattle.far_types.specs.Changes.{widened};
@@ -7,36 +7,63 @@ ghost use Rattle.far_extrema.specs.Live.{group_at};
 ghost use Rattle.far_extrema.specs.Spans.{put_span};
 ghost use Rattle.far_aggregates.specs.Kept.{pairs_here, registered_in};
 ghost use Rattle.far_aggregates.specs.Lending.{IsServed, SlotIsServed, AreServed};
-ghost use Rattle.far_aggregates.specs.Going.{taken, MayTake, EachMayTake};
+ghost use Rattle.far_aggregates.specs.Going.{taken, MayTake, EachMayTake, IsPlain, EachIsPlain};
 ghost use Rattle.far_aggregates.specs.Until.{zip_all};
 
 use super::aggregate::{Aggregate, Kept};
 use super::changes::Pair;
+use super::coming::Coming;
 use super::lend_group::LendGroup;
 use super::needed::needed_columns;
+use super::sparing::was_looked_up;
 use far_extrema::LiveExtrema;
 use far_offload::span_under;
 use far_types::Spec;
 
-/// One pair less in a row group: the rows that are left are looked at only where its value was the least or the greatest
-/// under its key.
-fn narrow<G: LendGroup>(live: &mut LiveExtrema, spec: &Spec, group: &G, number: u32, pair: &Pair)
+/// One pair less in a row group, whose value may have been the least or the greatest under its key: the rows that are left
+/// are looked at. It stands apart from `narrow`, which so makes no room for columns that mostly are not looked at.
+#[inline(never)]
+fn look<G: LendGroup>(live: &mut LiveExtrema, spec: &Spec, group: &G, number: u32, pair: &Pair)
     requires served { IsServed (G.has group.now) spec.now }
     requires seen { fin.get (group_at live.old.groups number) pair.now.0 ≡ Some (widened pair.now.1 (fin.get (extrema (pairs_here spec.now (G.places group.now))) pair.now.0)) }
     ensures { live.new ≡ record live.old { groups = slice_set live.old.groups number (put_span (group_at live.old.groups number) pair.now.0 (fin.get (extrema (pairs_here spec.now (G.places group.now))) pair.now.0)) } }
 {
-    if let Some(span) = live.span(number, &pair.0) {
-        if span.0 < pair.1 && pair.1 < span.1 {
-            return;
-        }
-    }
-    let columns = needed_columns(spec, group);
-    let span = span_under(spec, &columns, group.alive(), &pair.0);
+    let span = span_under(spec, &needed_columns(spec, group), group.alive(), &pair.0);
     live.put_span(number, &pair.0, span);
 }
 
-/// One pair less, where there is one.
-fn take_one<G: LendGroup>(slot: &mut Option<Aggregate>, group: &G, number: u32, gone: &Option<Pair>)
+/// One pair less in a row group: the rows that are left are looked at only where its value was the least or the greatest
+/// under its key. What stands under the key is not looked up where that is known to tell nothing.
+fn narrow<G: LendGroup>(
+    live: &mut LiveExtrema,
+    spec: &Spec,
+    group: &G,
+    number: u32,
+    pair: &Pair,
+    looked_up: bool,
+)
+    requires served { IsServed (G.has group.now) spec.now }
+    requires seen { fin.get (group_at live.old.groups number) pair.now.0 ≡ Some (widened pair.now.1 (fin.get (extrema (pairs_here spec.now (G.places group.now))) pair.now.0)) }
+    ensures { live.new ≡ record live.old { groups = slice_set live.old.groups number (put_span (group_at live.old.groups number) pair.now.0 (fin.get (extrema (pairs_here spec.now (G.places group.now))) pair.now.0)) } }
+{
+    if !looked_up {
+        if let Some(span) = live.span(number, &pair.0) {
+            if span.0 < pair.1 && pair.1 < span.1 {
+                return;
+            }
+        }
+    }
+    look(live, spec, group, number, pair);
+}
+
+/// One pair less, where there is one. With it comes the pair that an edit brought, where it did.
+fn take_one<G: LendGroup>(
+    slot: &mut Option<Aggregate>,
+    group: &G,
+    number: u32,
+    come: Option<&Option<Coming>>,
+    gone: &Option<Pair>,
+)
     requires served { SlotIsServed (G.has group.now) (registered_in slot.old) }
     requires may { MayTake number (G.places group.now) slot.old gone.now }
     ensures { slot.new ≡ taken number (G.places group.now) slot.old gone.now }
@@ -45,17 +72,21 @@ fn take_one<G: LendGroup>(slot: &mut Option<Aggregate>, group: &G, number: u32, 
         if let Some(pair) = gone {
             match &mut aggregate.kept {
                 Kept::Totals(live) => live.take(&pair.0, pair.1),
-                Kept::Extrema(live) => narrow(live, &aggregate.spec, group, number, pair),
+                Kept::Extrema(live) => {
+                    let looked_up = was_looked_up(come, &pair.0);
+                    narrow(live, &aggregate.spec, group, number, pair, looked_up);
+                }
             }
         }
     }
 }
 
-/// The pairs go that a place of a row group gave before its row changed.
+/// The pairs go that a place of a row group gave before its row changed. With them come those that the edit brought.
 pub fn take_all<G: LendGroup>(
     slots: &mut [Option<Aggregate>],
     group: &G,
     number: u32,
+    comes: &[Option<Coming>],
     gone: &[Option<Pair>],
 )
     requires served { AreServed (G.has group.now) (map registered_in slots.old) }
@@ -64,6 +95,60 @@ pub fn take_all<G: LendGroup>(
     ensures { slots.new ≡ zip_all (taken number (G.places group.now)) slots.old gone.now }
 {
     for i in 0..gone.len() {
-        take_one(&mut slots[i], group, number, &gone[i]);
+        take_one(&mut slots[i], group, number, comes.get(i), &gone[i]);
+    }
+}
+
+/// Whether a pair goes out of extrema, so that rows may have to be looked at.
+fn needs_rows_at(slot: &Option<Aggregate>, gone: &Option<Pair>) -> bool
+    ensures { result ≡ false → IsPlain slot.now gone.now }
+{
+    if let Some(aggregate) = slot {
+        if let Some(_) = gone {
+            if let Kept::Extrema(_) = &aggregate.kept {
+                return true;
+            }
+        }
+    }
+    false
+}
+
+/// Whether a pair goes out of some extrema.
+pub fn needs_rows(slots: &[Option<Aggregate>], gone: &[Option<Pair>]) -> bool
+    ensures { result ≡ false → EachIsPlain slots.now gone.now }
+{
+    let n = slots.len().min(gone.len());
+    for i in 0..n {
+        if needs_rows_at(&slots[i], &gone[i]) {
+            return true;
+        }
+    }
+    false
+}
+
+/// One pair less, where there is one, out of totals.
+fn take_plain(slot: &mut Option<Aggregate>, gone: &Option<Pair>)
+    requires plain { IsPlain slot.old gone.now }
+    requires may { MayTake 0 [] slot.old gone.now }
+    ensures { slot.new ≡ taken 0 [] slot.old gone.now }
+{
+    if let Some(aggregate) = slot {
+        if let Some(pair) = gone {
+            if let Kept::Totals(live) = &mut aggregate.kept {
+                live.take(&pair.0, pair.1);
+            }
+        }
+    }
+}
+
+/// The pairs go that a place gave before its row changed, all of them out of totals.
+pub fn take_totals(slots: &mut [Option<Aggregate>], pairs: &[Option<Pair>])
+    requires len { length pairs.now ≤ length slots.old }
+    requires plain { EachIsPlain slots.old pairs.now }
+    requires may { EachMayTake 0 [] slots.old pairs.now }
+    ensures { slots.new ≡ zip_all (taken 0 []) slots.old pairs.now }
+{
+    for i in 0..pairs.len() {
+        take_plain(&mut slots[i], &pairs[i]);
     }
 }

@@ -18,6 +18,7 @@ mod recounting;
 mod registrations;
 mod rooms;
 mod scans;
+mod sparing;
 mod unbuilt;
 
 pub use aggregates::Aggregates;

@@ -156,7 +156,10 @@ pub fn span_under(
 {
     if let (Some(column), Some(Key::Int(number))) = (key_column(columns, spec.key), key) {
         if let Some(numbers) = column.numbers() {
-            return span_under_number(spec, columns, alive, &numbers, number);
+            // With a number for each place, no turn of the loop looks where the numbers end.
+            if numbers.len() >= alive.len() {
+                return span_under_number(spec, columns, alive, &numbers, number);
+            }
         }
         if let Some(ints) = column.ints() {
             return span_under_number(spec, columns, alive, ints, number);

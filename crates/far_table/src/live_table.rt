@@ -92,6 +92,11 @@ impl<S: FarTickets> LiveTable<S> {
         self.rows.may_insert(row)?;
         let place = self.rows.len();
         let group = self.rows.limits().group;
+        // Without aggregates nothing is kept of the rows.
+        if self.aggregates.is_empty() {
+            self.rows.push(self.alloc)?;
+            return Ok(place as u32);
+        }
         let pending = self
             .aggregates
             .come_in(self.alloc, &self.rows.coming_ref(), group, place)?;
@@ -172,6 +177,11 @@ fn take_out<S: FarTickets>(
     ensures kept { Keeps rows.now.limits.group rows.now.places aggregates.new }
     ensures registered { registered_of aggregates.new ≡ registered_of aggregates.old }
 {
+    // A row group is lent only where rows may have to be looked at.
+    if !aggregates.needs_rows(&pending) {
+        aggregates.take_totals(pending);
+        return;
+    }
     // It tells what the rows are.
     let _held = rows.held();
     let size = rows.limits().group;

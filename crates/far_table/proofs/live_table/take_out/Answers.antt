@@ -1,5 +1,5 @@
 use Rattle.std.proofs.Common.{◌/◌, ◌∙◌, ap, sym, subst, List}
-use Rattle.far_types.specs.Table.{Place}
+use Rattle.far_types.specs.Table.{Place, in_group}
 use Rattle.far_aggregates.specs.Kept.{Slot, Keeps, registered_of}
 use Rattle.far_aggregates.specs.Lending.{AreServed}
 use Rattle.far_aggregates.specs.Pending.{MayGoOn, gone_on}
@@ -31,3 +31,9 @@ returns-clause-kept g c =
     let here = ap (places_here content) lent ∙ places-here content t c.held-held.ensures.places c.held-held.ensures.size (c.args.place / t.limits.group) in
     let gone = c.take.ensures.taken ∙ ap (λ (ps : List Place). gone_on ps c.args.aggregates.now c.args.pending) here in
     subst (λ (slots : List Slot). Keeps t.limits.group t.places slots) (sym gone) c.requires.goes.kept
+
+pub returns-then-not-needs_rows-clause-kept : goal.returns-then-not-needs_rows-clause-kept
+returns-then-not-needs_rows-clause-kept g c =
+    let t = c.args.rows.now in
+    let here = in_group t.limits.group (c.args.place / t.limits.group) t.places in
+    subst (λ (slots : List Slot). Keeps t.limits.group t.places slots) (sym (c.take_totals.ensures.taken here)) c.requires.goes.kept

@@ -10,4 +10,4 @@ returns-clause-registered g c =
     let many : length c.take_all.new.slots ≡ c.self.inside.slots.len = omega arith in
     ap registered_of c.end.ensures.same
     ∙ ap registered_of (written c.self.inside.slots.len c.take_all.new.slots c.self.inside.slots.items many)
-    ∙ shown-alike c.args.self.now c.take_all.new.slots (ap (map registered_in) c.take_all.ensures ∙ all-taken_registered c.args.pending.group (g.G.LendGroup.places c.args.group.now) c.as_mut_slice.result.now c.as_slice.result.now ∙ ap (map registered_in) same)
+    ∙ shown-alike c.args.self.now c.take_all.new.slots (ap (map registered_in) c.take_all.ensures ∙ all-taken_registered c.args.pending.group (g.G.LendGroup.places c.args.group.now) c.as_mut_slice.result.now _ ∙ ap (map registered_in) same)

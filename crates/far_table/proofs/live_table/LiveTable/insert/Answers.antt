@@ -1,4 +1,4 @@
-use Rattle.std.proofs.Common.{◌∙◌, ap, sym, subst, List}
+use Rattle.std.proofs.Common.{◌∙◌, ap, sym, subst, refl, List}
 use Rattle.std.proofs.lemmas.Result.{err_from_is_err_and}
 use Rattle.far_types.specs.declared.edit.Edit.TheVariants as edit
 use Rattle.far_types.specs.declared.limits.Limits.{Limits}
@@ -71,8 +71,8 @@ invariant_of-self-2 g c =
     let before = subst (λ (l : Limits). Keeps l.group t.places slots) (sym c.limits.ensures.same) live.kept in
     let came = e.came t.places c.args.row (sym c.len-place.ensures.len) (ap cells_of (c.coming_ref.ensures ∙ taken.taken)) before in
     let kept = subst (λ (l : Limits). Keeps l.group (places_after (edit.Insert c.args.row) t.places) c.come_in.new.self) c.limits.ensures.same came in
-    subst (λ (now : List Slot). IsLive c.push.new.self n now) (sym c.end.ensures.same)
-    (inserted-live g.S.FarTickets.content rows t c.push.new.self c.args.row taken.stays taken.taken c.in_default.ensures.appended n slots c.come_in.new.self e.registered c.self.invariant kept)
+    subst (λ (now : List Slot). IsLive c.push-2.new.self n now) (sym c.end.ensures.same)
+    (inserted-live g.S.FarTickets.content rows t c.push-2.new.self c.args.row taken.stays taken.taken c.in_default.ensures.appended n slots c.come_in.new.self e.registered c.self.invariant kept)
 
 pub returns-clause-ok : goal.returns-clause-ok
 returns-clause-ok g c =
@@ -80,6 +80,33 @@ returns-clause-ok g c =
     let slots = c.self.inside.aggregates in
     let taken = c.in_ok-may_insert.ensures in
     let content = g.S.FarTickets.content in
-    subst (λ (now : List Slot). IsEdited content c.args.self.now (edit.Insert c.args.row) (state_of c.push.new.self n now)) (sym c.end.ensures.same)
-    (subst (λ (s : State g.row.S-Ticket.Denot). IsEdited content s (edit.Insert c.args.row) (state_of c.push.new.self n c.come_in.new.self)) c.self.view_is
-    (inserted content c.self.inside.rows c.may_insert.new.self c.push.new.self c.args.row taken.stays taken.taken c.in_default.ensures.appended n slots c.come_in.new.self taken.refused c.in_ok-pending.ensures.registered))
+    subst (λ (now : List Slot). IsEdited content c.args.self.now (edit.Insert c.args.row) (state_of c.push-2.new.self n now)) (sym c.end.ensures.same)
+    (subst (λ (s : State g.row.S-Ticket.Denot). IsEdited content s (edit.Insert c.args.row) (state_of c.push-2.new.self n c.come_in.new.self)) c.self.view_is
+    (inserted content c.self.inside.rows c.may_insert.new.self c.push-2.new.self c.args.row taken.stays taken.taken c.in_default.ensures.appended n slots c.come_in.new.self taken.refused c.in_ok-pending.ensures.registered))
+
+pub returns-in_err-push-clause-err : goal.returns-in_err-push-clause-err
+returns-in_err-push-clause-err g c =
+    let p = err_from_is_err_and c.from_residual-in_err-push.result c.from_residual-in_err-push.ensures.1 in
+    let rows = c.self.inside.rows in
+    let n = c.self.inside.registrations in
+    let slots = c.self.inside.aggregates in
+    let e = c.in_err-push.ensures in
+    rw (p.1, p.2) (refuses-memory (state_of rows n slots) c.args.self.now (state_of c.push.new.self n slots) (edit.Insert c.args.row) c.in_err-push.field-0.0 c.self.view_is
+    (ap (λ (t : TableRows g.row.S-Ticket.Denot). state_of t n slots) e.err ∙ taken-state rows c.may_insert.new.self n slots c.in_ok-may_insert.ensures.stays)
+    c.in_ok-may_insert.ensures.refused e.memory)
+
+pub invariant_of-self-then-is_empty : goal.invariant_of-self-then-is_empty
+invariant_of-self-then-is_empty g c =
+    let t = c.may_insert.new.self in
+    let taken = c.in_ok-may_insert.ensures in
+    inserted-live g.S.FarTickets.content c.self.inside.rows t c.push.new.self c.args.row taken.stays taken.taken c.in_ok-push.ensures.appended c.self.inside.registrations c.self.inside.aggregates c.self.inside.aggregates refl c.self.invariant
+    (c.is_empty.ensures c.if-is_empty.true t.limits.group (places_after (edit.Insert c.args.row) t.places))
+
+pub returns-then-is_empty-clause-ok : goal.returns-then-is_empty-clause-ok
+returns-then-is_empty-clause-ok g c =
+    let n = c.self.inside.registrations in
+    let slots = c.self.inside.aggregates in
+    let taken = c.in_ok-may_insert.ensures in
+    let content = g.S.FarTickets.content in
+    subst (λ (s : State g.row.S-Ticket.Denot). IsEdited content s (edit.Insert c.args.row) (state_of c.push.new.self n slots)) c.self.view_is
+    (inserted content c.self.inside.rows c.may_insert.new.self c.push.new.self c.args.row taken.stays taken.taken c.in_ok-push.ensures.appended n slots slots taken.refused refl)
