@@ -274,7 +274,7 @@ pieces-given of pieces (reply.Next found) is = absurd is
 pieces-given of pieces (reply.Refused why) is = absurd is
 
 -- pieces joined are the piece of all their places
-joined : {X : Type 0} (field : Piece → List X) (of : Place → X) (c : ℕ) → ((places : List Place) → field (piece_of c places) ≡ map of places) → (pieces : List (List Place)) → flat_map field (map (piece_of c) pieces) ≡ map of (flat_map (λ p. p) pieces)
+pub joined : {X : Type 0} (field : Piece → List X) (of : Place → X) (c : ℕ) → ((places : List Place) → field (piece_of c places) ≡ map of places) → (pieces : List (List Place)) → flat_map field (map (piece_of c) pieces) ≡ map of (flat_map (λ p. p) pieces)
 joined field of c each [] = refl
 joined field of c each (one ∷ pieces) = (λ i. each one i ++ joined field of c each pieces i) ∙ sym (map-append of one (flat_map (λ p. p) pieces))
 

@@ -7,5 +7,6 @@ mod ViewLaws
 mod FrameLaws
 mod WaitingLaws
 mod WorldLaws
-mod LendingLaws
+pub mod LendingLaws
+mod GivenLaws
 mod SeenLaws

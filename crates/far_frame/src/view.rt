@@ -109,7 +109,7 @@ impl<'a, S: FarTickets> View<'a, S> {
     }
 
     /// How many places a row group has. Takes no memory.
-    pub(crate) fn size(&self) -> usize
+    pub fn size(&self) -> usize
         ensures rows { result ≡ self.now.rows.size }
         ensures limit { result ≡ self.now.table.limits.group }
         ensures some { 0 < result }

@@ -1,6 +1,8 @@
 // A table under lists of steps.
-ghost use Rattle.std.specs.Prelude.{◌≡◌, ◌+◌, ◌<◌, ◌≤◌, ◌^◌, [], length, IfOk, IfErr, OnErr, IsOk};
+ghost use Rattle.std.specs.Prelude.{◌≡◌, ◌+◌, ◌<◌, ◌≤◌, ◌^◌, [], length, slice_get, IfOk, IfErr, OnOk, OnErr, IsOk};
+ghost use Rattle.far_scopes.specs.Refusing.{refusal_in};
 ghost use Rattle.far_rows.specs.Jobs.{AreAt};
+ghost use Rattle.far_frame.specs.Lending.{Gives, lend_refusal, lent_part};
 ghost use Rattle.far_frame.specs.Steps.{IsStep, IsRun};
 
 mod jobs;
@@ -86,6 +88,21 @@ impl<S: FarStore> World<S> {
         ensures faults { self.new.faults ≡ self.old.faults }
     {
         serving::edit(&mut self.frame, edit)
+    }
+
+    /// Records that a part of a column was lent, as serving the step `Lend` records it: for those who read the part in a view of the
+    /// frame, where no value is copied. There is a reply that gives the part, and the world changes as by the step with this reply.
+    /// Takes no memory.
+    ///
+    /// Refused with `NoColumn` (4), `OutOfRange` (14) where `from` is above `to` or `to` is past the places, `Absent` (16) where the
+    /// object of a row group that has some of them is away, naming the first: the first that applies. Then nothing is changed.
+    pub fn record_lending(&mut self, column: u32, from: u32, to: u32) -> Result<(), Refusal>
+        ensures ok { OnOk result ((given : Reply) × Gives (slice_get self.old.state.table.schema column) (lent_part self.old.state.table column from to) given × IsStep S.content S.number_of self.old (Step.Lend column from to) given self.new) }
+        ensures refused { refusal_in result ≡ lend_refusal self.old.state.rows column from to }
+        ensures err { OnErr result (self.new ≡ self.old) }
+        ensures faults { self.new.faults ≡ self.old.faults }
+    {
+        self.frame.record_lending(column, from, to)
     }
 
     /// Serves one step. There is a reply always; where it is a refusal, no row, column, aggregate or object was changed.

@@ -1,15 +1,18 @@
 // The access history of a table, and what to fetch next by it.
-ghost use Rattle.std.specs.Prelude.{◌≡◌, ℕ, List, true, None, [], ◌∷◌, IfOk, IfErr, OnOk, OnErr};
+ghost use Rattle.std.specs.Prelude.{◌≡◌, ℕ, List, true, None, [], ◌∷◌, slice_get, IfOk, IfErr, OnOk, OnErr};
 ghost use Rattle.far_types.specs.MayRefuse.{MayRefuse};
 ghost use Rattle.far_scopes.specs.Refusing.{refusal_in};
 ghost use Rattle.far_vector.specs.Pieces.{touched};
 ghost use Rattle.far_rows.specs.Jobs.{AreAt};
 ghost use Rattle.far_rows.specs.Moving.{object_refusal};
-ghost use Rattle.far_frame.specs.Lending.{AreSeen, next_groups, prefetch_refusal};
+ghost use Rattle.far_frame.specs.declared.step.Reply.{Reply};
+ghost use Rattle.far_frame.specs.declared.step.Step.TheVariants as step;
+ghost use Rattle.far_frame.specs.Changes.{Accepts};
+ghost use Rattle.far_frame.specs.Lending.{AreSeen, Gives, lend_refusal, lent_part, next_groups, prefetch_refusal};
 
 use super::Frame;
 use far_store::FarTickets;
-use far_types::Refusal;
+use far_types::{Kind, Refusal};
 
 impl<S: FarTickets> Frame<S> {
     /// Records an access to a row group of a column, and marks its object as recently used (AIFM's hot bit), if it is local. Allocates
@@ -50,6 +53,44 @@ impl<S: FarTickets> Frame<S> {
             self.see_one(column, group as u32);
             place = (group + 1) * size;
         }
+    }
+
+    /// Whether a part of a column can be lent: then there is a reply that gives it. Takes no memory.
+    fn may_lend(&self, column: u32, from: u32, to: u32) -> Result<(), Refusal>
+        ensures given { OnOk result ((given : Reply) × Gives (slice_get self.now.table.schema column) (lent_part self.now.table column from to) given) }
+        ensures refused { refusal_in result ≡ lend_refusal self.now.rows column from to }
+    {
+        let view = self.scope();
+        // It tells that a row group has a place.
+        let _size = view.size();
+        match view.kind(column) {
+            Some(Kind::Int) => {
+                let _lents = view.ints(column, from, to)?;
+                Ok(())
+            }
+            Some(Kind::Text) => {
+                let _texts = view.texts(column, from, to)?;
+                Ok(())
+            }
+            None => Err(Refusal::NoColumn),
+        }
+    }
+
+    /// Records that a part of a column was lent, as the step `Lend` records it: an access to each row group that has some of it, in
+    /// order, and their objects are marked as recently used. This is for those who read the part in a view, where no value is copied.
+    /// Takes no memory.
+    ///
+    /// Refused with `NoColumn` (4), `OutOfRange` (14) where `from` is above `to` or `to` is past the places, `Absent` (16) where the
+    /// object of a row group that has some of them is away, naming the first: the first that applies. Then nothing is changed.
+    pub fn record_lending(&mut self, column: u32, from: u32, to: u32) -> Result<(), Refusal>
+        ensures ok { OnOk result ((given : Reply) × Gives (slice_get self.old.table.schema column) (lent_part self.old.table column from to) given × Accepts S.content self.old (step.Lend column from to) given self.new) }
+        ensures refused { refusal_in result ≡ lend_refusal self.old.rows column from to }
+        ensures err { OnErr result (self.new ≡ self.old) }
+        ensures here { (name : List ℕ) → AreAt S.is_of name self.old.rows → AreAt S.is_of name self.new.rows }
+    {
+        self.may_lend(column, from, to)?;
+        self.see(column, from, to);
+        Ok(())
     }
 
     /// The row groups of a column to fetch next: where the last three differences of the row groups in its history are equal
