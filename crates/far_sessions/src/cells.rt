@@ -10,7 +10,7 @@ use far_history::{Naming, Reading};
 use far_types::Refusal;
 use std::sync::Wait;
 
-/// The four cells, and no stripe's lock. No two are on one cache line.
+/// The four cells, and no stripe's lock. What holds each is padded, so that no two holders are on one cache line.
 #[derive(Drop)]
 pub struct Cells<N: Naming, B: Rooms> {
     pub(crate) zero: CachePadded<Counter<N, B, 0>>,
