@@ -1,11 +1,16 @@
 -- The live rows, place by place.
-use Rattle.std.proofs.Common.{drop, Option, subst, ◌≡◌, ◌+◌, ℕ, zero, suc, Bool, true, false, List, [], ◌∷◌, ◌++◌, length, take, append_assoc, append-nil, length-append, if◌then◌else◌, ◌∙◌, refl, sym, ap, arith}
+use Rattle.std.proofs.Common.{drop, Option, subst, ◌≡◌, ◌+◌, ◌≤◌, ℕ, zero, suc, Bool, true, false, List, [], ◌∷◌, ◌++◌, length, take, append_assoc, append-nil, length-append, if◌then◌else◌, ◌∙◌, refl, sym, ap, arith, inl, inr}
+use Rattle.std.specs.Prelude.{◌≢◌}
+use Rattle.std.proofs.lemmas.List.{take_all}
 use Rattle.far_types.specs.declared.cell.Cell.{Cell}
 use Rattle.far_types.specs.Table.{Place, rows_of}
+use Rattle.far_script.specs.declared.fault.ShellFault.{ShellFault}
+use Rattle.far_script.specs.declared.fault.ShellFault.TheVariants as fault
 use Rattle.far_script.specs.Printing.{texts_of}
 use Rattle.far_script.specs.Flow.{Prints}
+use Rattle.far_commands.specs.Cuts.{CutOff, IsFront, PrintsCut}
 use Rattle.far_commands.specs.Listings.{cells_at, is_live, row_line}
-use Rattle.far_script.proofs.FlowLaws.{prints, prints-then, prints-then-nothing}
+use Rattle.far_script.proofs.FlowLaws.{prints, prints-then}
 
 rows-first : (b : Bool) (p : Place) (rest : List Place) → p.alive ≡ b → rows_of (p ∷ rest) ≡ (if b then p.cells ∷ rows_of rest else rows_of rest)
 rows-first true p rest h = rw h refl
@@ -44,19 +49,10 @@ texts-more text (r ∷ rs) row = ap (λ (t : List ℕ). text r ++ t) (texts-more
 pub counted-more : (places : List Place) (i n : ℕ) → is_live i places ≡ true → n ≡ length (rows_of (take i places)) → n + 1 ≡ length (rows_of (take (i + 1) places))
 counted-more places i n h e = rw (row-more places i h) (let l = length-append (rows_of (take i places)) (cells_at i places ∷ []) in omega (arith, l, e))
 
--- a row more is printed
-pub dump-row : (u v w : Option (List ℕ)) (held k l left front row : List ℕ) (places : List Place) (i : ℕ) → is_live i places ≡ true
-    → Prints u held (front ++ texts_of row_line (rows_of (take i places))) v k → row ≡ row_line (cells_at i places) → l ≡ k ++ row → Prints v l [] w left
-    → Prints u held (front ++ texts_of row_line (rows_of (take (i + 1) places))) w left
-dump-row u v w held k l left front row places i live p is grown q =
-    let before = texts_of row_line (rows_of (take i places)) in
-    let all = prints-then-nothing u v w held ((front ++ before) ++ row) l left (prints-then u v v held (front ++ before) k row l p (prints v k row l grown)) q in
-    subst (λ (t : List ℕ). Prints u held t w left)
-    (append_assoc front before row ∙ ap (λ (t : List ℕ). front ++ t) (ap (λ (t : List ℕ). before ++ t) is ∙ sym (ap (texts_of row_line) (row-more places i live) ∙ texts-more row_line (rows_of (take i places)) (cells_at i places)))) all
-
-pub dump-skip : (u v : Option (List ℕ)) (held k front : List ℕ) (places : List Place) (i : ℕ) → is_live i places ≡ false
-    → Prints u held (front ++ texts_of row_line (rows_of (take i places))) v k → Prints u held (front ++ texts_of row_line (rows_of (take (i + 1) places))) v k
-dump-skip u v held k front places i dead p = subst (λ (rows : List (List Cell)). Prints u held (front ++ texts_of row_line rows) v k) (sym (row-none places i dead)) p
+-- what is gathered of a listing: what was printed of it, and the reply at hand behind that
+module _ (u : Option (List ℕ)) (held front : List ℕ) (places : List Place) where
+  abbrev pub IsGathered : ℕ → Option (List ℕ) → List ℕ → List ℕ → Type 0
+  IsGathered i v left reply = (text : List ℕ) × Prints u held text v left × (text ++ reply ≡ front ++ texts_of row_line (rows_of (take i places)))
 
 rows-split : (i : ℕ) (places : List Place) → rows_of (take i places) ++ rows_of (drop i places) ≡ rows_of places
 rows-split zero places = refl
@@ -71,8 +67,57 @@ texts-join text [] b = refl
 texts-join text (row ∷ rows) b = ap (λ (t : List ℕ). text row ++ t) (texts-join text rows b) ∙ sym (append_assoc (text row) (texts_of text rows) (texts_of text b))
 
 -- what was printed of a dump, and the rest
-pub dump-rest : (front : List ℕ) (places : List Place) (i : ℕ)
+dump-rest : (front : List ℕ) (places : List Place) (i : ℕ)
     → (front ++ texts_of row_line (rows_of (take i places))) ++ texts_of row_line (rows_of (drop i places)) ≡ front ++ texts_of row_line (rows_of places)
 dump-rest front places i =
     append_assoc front (texts_of row_line (rows_of (take i places))) (texts_of row_line (rows_of (drop i places)))
     ∙ ap (λ (t : List ℕ). front ++ t) (sym (texts-join row_line (rows_of (take i places)) (rows_of (drop i places))) ∙ ap (texts_of row_line) (rows-split i places))
+
+-- a front of a text, behind another
+front-behind : (whole all before text later : List ℕ) → before ++ (whole ++ later) ≡ all → IsFront (λ said. said ≡ whole) text → IsFront (λ said. said ≡ all) (before ++ text)
+front-behind whole all before text later e (inl none) = inr (whole ++ later, ap (λ (t : List ℕ). (before ++ t) ++ (whole ++ later)) none ∙ ap (λ (t : List ℕ). t ++ (whole ++ later)) (append-nil before) ∙ e)
+front-behind whole all before text later e (inr h) =
+    inr (h.0 ++ later, append_assoc before text (h.0 ++ later) ∙ ap (λ (t : List ℕ). before ++ t) (sym (append_assoc text h.0 later) ∙ ap (λ (t : List ℕ). t ++ later) h.1) ∙ e)
+
+cut-behind : (why : ShellFault) (whole all before text later : List ℕ) → why ≢ fault.Input → before ++ (whole ++ later) ≡ all → CutOff why (λ said. said ≡ whole) text → CutOff why (λ said. said ≡ all) (before ++ text)
+cut-behind fault.BadStart whole all before text later other e h = h
+cut-behind fault.Input whole all before text later other e h = absurd (other refl)
+cut-behind fault.Output whole all before text later other e h = front-behind whole all before text later e h
+cut-behind fault.Memory whole all before text later other e h = front-behind whole all before text later e h
+cut-behind fault.Turns whole all before text later other e h = h
+
+module _ (u : Option (List ℕ)) (held front : List ℕ) (places : List Place) where
+  abbrev all : List ℕ
+  all = front ++ texts_of row_line (rows_of places)
+
+  -- no row more
+  pub gather-skip : (v : Option (List ℕ)) (k reply : List ℕ) (i : ℕ) → is_live i places ≡ false → IsGathered u held front places i v k reply → IsGathered u held front places (i + 1) v k reply
+  gather-skip v k reply i dead g = subst (λ (rows : List (List Cell)). (text : List ℕ) × Prints u held text v k × (text ++ reply ≡ front ++ texts_of row_line rows)) (sym (row-none places i dead)) g
+
+  module _ (v : Option (List ℕ)) (k reply : List ℕ) (i : ℕ) (g : IsGathered u held front places i v k reply) where
+    -- memory is wanted for the next row
+    pub gather-memory : PrintsCut fault.Memory (λ said. said ≡ all) u held v k
+    gather-memory =
+        let later = texts_of row_line (rows_of (drop i places)) in
+        (g.0, g.1, inr (reply ++ later, sym (append_assoc g.0 reply later) ∙ ap (λ (t : List ℕ). t ++ later) g.2 ∙ dump-rest front places i))
+
+    -- all rows are gathered, and the reply at hand is added
+    pub gather-end : (left : List ℕ) → length places ≤ i → left ≡ k ++ reply → Prints u held all v left
+    gather-end left past grown = subst (λ (t : List ℕ). Prints u held t v left) (g.2 ∙ ap (λ (ps : List Place). front ++ texts_of row_line (rows_of ps)) (take_all i places past)) (prints-then u v v held g.0 k reply left g.1 (prints v k reply left grown))
+
+    -- a row more
+    module _ (whole row : List ℕ) (live : is_live i places ≡ true) (grown : whole ≡ reply ++ row) (is : row ≡ row_line (cells_at i places)) where
+      gathered : g.0 ++ whole ≡ front ++ texts_of row_line (rows_of (take (i + 1) places))
+      gathered =
+          let before = texts_of row_line (rows_of (take i places)) in
+          ap (λ (t : List ℕ). g.0 ++ t) grown ∙ sym (append_assoc g.0 reply row) ∙ (λ j. g.2 j ++ is j) ∙ append_assoc front before (row_line (cells_at i places))
+          ∙ ap (λ (t : List ℕ). front ++ t) (sym (ap (texts_of row_line) (row-more places i live) ∙ texts-more row_line (rows_of (take i places)) (cells_at i places)))
+
+      -- of which a part may be printed at once
+      pub gather-row : (w : Option (List ℕ)) (left rest : List ℕ) → (text : List ℕ) × Prints v k text w left × (whole ≡ text ++ rest) → IsGathered u held front places (i + 1) w left rest
+      gather-row w left rest p = (g.0 ++ p.0, prints-then u v w held g.0 k p.0 left g.1 p.1, append_assoc g.0 p.0 rest ∙ ap (λ (t : List ℕ). g.0 ++ t) (sym p.2) ∙ gathered)
+
+      pub gather-cut : (why : ShellFault) (w : Option (List ℕ)) (left : List ℕ) → why ≢ fault.Input → PrintsCut why (λ said. said ≡ whole) v k w left → PrintsCut why (λ said. said ≡ all) u held w left
+      gather-cut why w left other p =
+          let later = texts_of row_line (rows_of (drop (i + 1) places)) in
+          (g.0 ++ p.0, prints-then u v w held g.0 k p.0 left g.1 p.1, cut-behind why whole all g.0 p.0 later other (sym (append_assoc g.0 whole later) ∙ ap (λ (t : List ℕ). t ++ later) gathered ∙ dump-rest front places (i + 1)) p.2)

@@ -7,3 +7,4 @@ pub mod PieceLaws
 pub mod LoadLaws
 pub mod RenewLaws
 pub mod LoadLines
+pub mod LendLaws

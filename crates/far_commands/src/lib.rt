@@ -2,6 +2,7 @@
 //! The commands of the script language over a table: each line is read as a command and answered.
 
 mod command;
+mod lending;
 mod listing;
 mod loading;
 mod opening;

@@ -1,5 +1,5 @@
 // The rows of a table as text.
-ghost use Rattle.std.specs.Prelude.{◌≡◌, ◌≢◌, map, drop, length, ◌++◌, OnOk, IfErr};
+ghost use Rattle.std.specs.Prelude.{◌≡◌, ◌≢◌, ℕ, List, map, drop, length, ◌++◌, OnOk, IfErr};
 ghost use Rattle.std.specs.Fmt.{signed_decimal};
 ghost use Rattle.far_types.specs.Lent.{lent_cell};
 ghost use Rattle.csv.specs.Writing.{default_writer, fields_text};
@@ -16,6 +16,9 @@ use far_script::{Output, Page, ShellFault};
 use far_store::FarTickets;
 use far_types::{CellRef, Refusal};
 use std::io::Write;
+
+/// How many bytes of rows are gathered before they are added to what is on its way out.
+const GATHERED: usize = 4_096;
 
 /// A field of a record of one field, or of several.
 fn field(page: &mut Page, is_lone: bool, text: &[u8]) -> Result<(), Refusal>
@@ -106,6 +109,21 @@ fn live_rows<S: FarTickets>(frame: &Frame<S>) -> u64
     count
 }
 
+/// Adds the reply at hand to what is on its way out if it is long, and makes it empty.
+fn add_if_long<W: Write>(output: &mut Output, writer: &mut W) -> Result<(), ShellFault>
+    ensures ok { OnOk result ((text : List ℕ) × Prints (W.contents writer.old) output.old.page text (W.contents writer.new) output.new.page × (output.old.reply ≡ text ++ output.new.reply)) }
+    ensures err { IfErr result (λ fault. PrintsCut fault (λ said. said ≡ output.old.reply) (W.contents writer.old) output.old.page (W.contents writer.new) output.new.page) }
+    ensures fault { IfErr result (λ fault. fault ≢ ShellFault.Input) }
+{
+    if output.reply.len() < GATHERED {
+        return Ok(());
+    }
+    output.add()?;
+    output.flush_if_full(writer)?;
+    output.reply.truncate(0);
+    Ok(())
+}
+
 /// `rows COUNT`, and the live rows in the order of their places, as the csv writer writes them.
 fn dump_rows<S: FarTickets, W: Write>(
     frame: &Frame<S>,
@@ -119,16 +137,14 @@ fn dump_rows<S: FarTickets, W: Write>(
     let view = frame.scope();
     output.reply.truncate(0);
     numbered(&mut output.reply, "rows", live_rows(frame))?;
-    output.add()?;
     for place in 0..frame.places() {
         if is_live(&view, place) {
             let cells = view.row_ref(place)?;
-            output.reply.truncate(0);
             print_row(&mut output.reply, &cells)?;
-            output.add()?;
-            output.flush_if_full(writer)?;
+            add_if_long(output, writer)?;
         }
     }
+    output.add()?;
     Ok(())
 }
 

@@ -14,7 +14,7 @@ use far_script::Page;
 use far_types::{CellRef, Refusal, Text};
 
 /// A value of a piece, which may be missing.
-trait Value {
+pub trait Value {
     /// The cell that it is.
     ghost cell: { Self → Cell };
 
@@ -43,7 +43,7 @@ impl Value for Option<Text> {
 }
 
 /// What stands for a place that is alive, and for one that is not.
-fn mark(alive: bool) -> u8
+pub fn mark(alive: bool) -> u8
     ensures { result ∷ [] ≡ flag_text alive }
 {
     if alive { b'+' } else { b'-' }
@@ -88,7 +88,7 @@ fn row<V: Value>(page: &mut Page, values: &[V]) -> Result<(), Refusal>
 }
 
 /// `piece FLAGS VALUES`
-fn piece<V: Value>(page: &mut Page, values: &[V], flags: &[bool]) -> Result<(), Refusal>
+pub fn piece<V: Value>(page: &mut Page, values: &[V], flags: &[bool]) -> Result<(), Refusal>
     ensures ok { OnOk result (page.new ≡ page.old ++ piece_text record { cells = map V.cell values.now; flags = flags.now }) }
     ensures memory { IfErr result (λ e. e ≡ Refusal.NoMemory) }
 {

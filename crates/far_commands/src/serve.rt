@@ -1,5 +1,5 @@
 // Lines as commands, and their answers.
-ghost use Rattle.std.specs.Prelude.{◌≡◌, ℕ, List, [], ◌++◌, ◌+◌, ◌≤◌, ◌<◌, ◌^◌, IfErr, OnOk, IsUtf8, Some};
+ghost use Rattle.std.specs.Prelude.{◌≡◌, ℕ, List, [], ◌++◌, ◌+◌, ◌≤◌, ◌<◌, ◌^◌, true, false, IfOk, IfErr, OnOk, IsUtf8, Some};
 ghost use Rattle.far_frame.specs.declared.step.Reply.{Reply};
 ghost use Rattle.far_frame.specs.State.{live};
 ghost use Rattle.far_frame.specs.Steps.{IsStep};
@@ -12,6 +12,7 @@ ghost use Rattle.far_commands.specs.Listings.{listing_of};
 ghost use Rattle.far_commands.specs.Replies.{Serves, ServesLine, Takes, done_text, reply_text, AnswersLine};
 
 use super::command::{Command, parse};
+use super::lending::lent;
 use super::listing::dump;
 use super::loading::load;
 use super::pieces::{ints, next, texts};
@@ -67,8 +68,35 @@ fn serve_step<S: FarStore>(world: &mut World<S>, step: Step) -> Reply
     }
 }
 
-/// Takes a step, and prints its reply.
-fn take_step<S: FarStore>(world: &mut World<S>, step: Step, reply: &mut Page) -> Result<(), Refusal>
+/// Takes the step that lends a part of a column, and prints the part where it lies, so that no value is copied. False if it cannot
+/// be lent; then the world is as it was.
+fn take_lending<S: FarStore>(
+    world: &mut World<S>,
+    column: u32,
+    from: u32,
+    to: u32,
+    reply: &mut Page,
+) -> Result<bool, Refusal>
+    ensures lent { IfOk result (λ lent. lent ≡ true → Takes S.FarTickets world.old (Step.Lend column from to) reply.new world.new) }
+    ensures refused { IfOk result (λ lent. lent ≡ false → world.new ≡ world.old) }
+    ensures faults { world.new.faults ≡ world.old.faults }
+    ensures memory { IfErr result (λ e. e ≡ Refusal.NoMemory) }
+{
+    if !lent(reply, world.frame(), column, from, to)? {
+        return Ok(false);
+    }
+    match world.record_lending(column, from, to) {
+        Ok(()) => Ok(true),
+        Err(_) => Ok(false),
+    }
+}
+
+/// Serves a step, and prints its reply.
+fn serve_and_print<S: FarStore>(
+    world: &mut World<S>,
+    step: Step,
+    reply: &mut Page,
+) -> Result<(), Refusal>
     requires few { world.old.faults < 2 ^ 62 }
     ensures ok { OnOk result (Takes S.FarTickets world.old step reply.new world.new) }
     ensures faults { world.new.faults ≤ world.old.faults + 1 }
@@ -78,6 +106,25 @@ fn take_step<S: FarStore>(world: &mut World<S>, step: Step, reply: &mut Page) ->
     let done = done(&step);
     let given = serve_step(world, step);
     print_reply(reply, done, &given)
+}
+
+/// Takes a step, and prints its reply.
+fn take_step<S: FarStore>(world: &mut World<S>, step: Step, reply: &mut Page) -> Result<(), Refusal>
+    requires few { world.old.faults < 2 ^ 62 }
+    ensures ok { OnOk result (Takes S.FarTickets world.old step reply.new world.new) }
+    ensures faults { world.new.faults ≤ world.old.faults + 1 }
+    ensures memory { IfErr result (λ e. e ≡ Refusal.NoMemory) }
+{
+    match step {
+        Step::Lend { column, from, to } => {
+            if take_lending(world, column, from, to, reply)? {
+                return Ok(());
+            }
+            // What cannot be lent is refused by the step itself.
+            serve_and_print(world, Step::Lend { column, from, to }, reply)
+        }
+        other => serve_and_print(world, other, reply),
+    }
 }
 
 /// Answers a command, with the bytes behind its line that belong to it.

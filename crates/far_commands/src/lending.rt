@@ -1,0 +1,158 @@
+// Parts of columns, printed where they lie.
+ghost use Rattle.std.specs.Prelude.{◌≡◌, ◌++◌, true, map, slice_range, OnOk, IfOk, IfErr};
+ghost use Rattle.csv.specs.Writing.{default_writer, fields_text};
+ghost use Rattle.far_types.specs.Lent.{text_cell};
+ghost use Rattle.far_types.specs.Table.{part};
+ghost use Rattle.far_frame.specs.Lending.{flags_of, lent_part};
+ghost use Rattle.far_commands.specs.Listings.{cell_text, row_line};
+ghost use Rattle.far_commands.specs.Pieces.{flag_text, piece_text, pieces_text};
+ghost use Rattle.far_script.specs.Printing.{texts_of};
+
+use super::listing::cell;
+use super::pieces::{mark, piece};
+use far_frame::{Frame, View};
+use far_script::Page;
+use far_store::FarTickets;
+use far_texts::TextCells;
+use far_types::{CellRef, Kind, Refusal};
+
+/// The pieces of a part of a column of numbers. False if it cannot be lent.
+fn lent_ints<S: FarTickets>(
+    page: &mut Page,
+    view: &View<'_, S>,
+    column: u32,
+    from: u32,
+    to: u32,
+) -> Result<bool, Refusal>
+    ensures ok { IfOk result (λ lent. lent ≡ true → page.new ≡ page.old ++ texts_of piece_text (lent_part view.now.table column from to)) }
+    ensures memory { IfErr result (λ e. e ≡ Refusal.NoMemory) }
+{
+    let Ok(mut lents) = view.ints(column, from, to) else {
+        return Ok(false);
+    };
+    while let Some(lent) = lents.next() {
+        piece(page, lent.values, lent.alive)?;
+    }
+    Ok(true)
+}
+
+/// The marks of the places `from` up to `to`.
+fn marks_at<S: FarTickets>(
+    page: &mut Page,
+    view: &View<'_, S>,
+    from: u32,
+    to: u32,
+) -> Result<(), Refusal>
+    ensures ok { OnOk result (page.new ≡ page.old ++ texts_of flag_text (slice_range (flags_of view.now.table.places) from to)) }
+    ensures memory { IfErr result (λ e. e ≡ Refusal.NoMemory) }
+{
+    for place in from..to {
+        let Some(alive) = view.is_alive(place) else {
+            return Ok(());
+        };
+        page.byte(mark(alive))?;
+    }
+    Ok(())
+}
+
+/// The texts of a row behind its first two.
+fn more_texts<S: FarTickets>(page: &mut Page, texts: &mut TextCells<'_, S>) -> Result<(), Refusal>
+    ensures ok { OnOk result (page.new ≡ page.old ++ fields_text default_writer (map cell_text (map (λ it. text_cell it.0) texts.old))) }
+    ensures memory { IfErr result (λ e. e ≡ Refusal.NoMemory) }
+{
+    while let Some(it) = texts.next() {
+        page.byte(b',')?;
+        cell(page, false, CellRef::of_text(it.text))?;
+    }
+    Ok(())
+}
+
+/// Texts as a row, with the end of its line.
+fn text_row<S: FarTickets>(page: &mut Page, texts: &mut TextCells<'_, S>) -> Result<(), Refusal>
+    ensures ok { OnOk result (page.new ≡ page.old ++ row_line (map (λ it. text_cell it.0) texts.old)) }
+    ensures memory { IfErr result (λ e. e ≡ Refusal.NoMemory) }
+{
+    let Some(first) = texts.next() else {
+        return page.text("\"\"\n");
+    };
+    let Some(second) = texts.next() else {
+        cell(page, true, CellRef::of_text(first.text))?;
+        return page.text("\n");
+    };
+    cell(page, false, CellRef::of_text(first.text))?;
+    page.byte(b',')?;
+    cell(page, false, CellRef::of_text(second.text))?;
+    more_texts(page, texts)?;
+    page.text("\n")
+}
+
+/// `piece FLAGS VALUES` of a part of a column of texts, as one piece. False if it cannot be lent.
+fn text_piece<S: FarTickets>(
+    page: &mut Page,
+    view: &View<'_, S>,
+    column: u32,
+    from: u32,
+    to: u32,
+) -> Result<bool, Refusal>
+    ensures ok { IfOk result (λ lent. lent ≡ true → page.new ≡ page.old ++ piece_text record { cells = part column from to view.now.table.places; flags = slice_range (flags_of view.now.table.places) from to }) }
+    ensures memory { IfErr result (λ e. e ≡ Refusal.NoMemory) }
+{
+    let Ok(mut texts) = view.texts(column, from, to) else {
+        return Ok(false);
+    };
+    page.text("piece ")?;
+    marks_at(page, view, from, to)?;
+    page.text(" ")?;
+    text_row(page, &mut texts)?;
+    Ok(true)
+}
+
+/// The pieces of a part of a column of texts, row group by row group. False if one cannot be lent.
+fn lent_texts<S: FarTickets>(
+    page: &mut Page,
+    view: &View<'_, S>,
+    column: u32,
+    from: u32,
+    to: u32,
+) -> Result<bool, Refusal>
+    ensures ok { IfOk result (λ lent. lent ≡ true → page.new ≡ page.old ++ texts_of piece_text (lent_part view.now.table column from to)) }
+    ensures memory { IfErr result (λ e. e ≡ Refusal.NoMemory) }
+{
+    let size = view.size();
+    let mut start = from;
+    while start < to {
+        let end = (to as usize).min((start as usize / size + 1) * size) as u32;
+        if !text_piece(page, view, column, start, end)? {
+            return Ok(false);
+        }
+        start = end;
+    }
+    Ok(true)
+}
+
+/// Makes the reply at hand a part of a column: its pieces, or `empty`, each value read where it lies. False if it cannot be lent.
+#[inline(never)]
+pub fn lent<S: FarTickets>(
+    reply: &mut Page,
+    frame: &Frame<S>,
+    column: u32,
+    from: u32,
+    to: u32,
+) -> Result<bool, Refusal>
+    ensures ok { IfOk result (λ lent. lent ≡ true → reply.new ≡ pieces_text (lent_part frame.now.table column from to)) }
+    ensures memory { IfErr result (λ e. e ≡ Refusal.NoMemory) }
+{
+    let view = frame.scope();
+    // It tells that a row group has a place.
+    let _size = view.size();
+    reply.truncate(0);
+    if from >= to {
+        reply.text("empty\n")?;
+        return Ok(true);
+    }
+    match frame.schema().get(column as usize) {
+        Some(Kind::Int) => lent_ints(reply, &view, column, from, to),
+        Some(Kind::Text) => lent_texts(reply, &view, column, from, to),
+        None => Ok(false),
+    }
+}
