@@ -1,12 +1,11 @@
 // How a shared table begins: the names of its plan, of its cells and of its store are picked, each by a call.
-ghost use Rattle.std.specs.Prelude.{◌≡◌, IfOk};
+ghost use Rattle.std.specs.Prelude.{◌≡◌};
 ghost use Rattle.far_shared.specs.Opening.{AreNamed};
 
 use crate::plan::plan;
 use crate::sessions::{Times, time_all};
 use far_history::Naming;
-use far_sessions::Session;
-use far_shared::{Made, Plan, Shared, Site};
+use far_shared::{Made, Plan, Site};
 use far_store::{AgentStore, FarTickets};
 use far_types::Refusal;
 use std::alloc::Global;
@@ -14,20 +13,6 @@ use std::marker::Brand;
 use std::sync::Wait;
 use std::thread::Threads;
 use std::time::Clock;
-
-/// Measures what an opening gives. It knows nothing of what that is: to take a table out of a result costs the proof of a function much,
-/// and here it costs nothing.
-fn once_open<A: Drop, B: Drop, F: FnOnce(A, B) -> Result<Times, Refusal> + Drop>(
-    opened: Result<(A, B), Refusal>,
-    measure: F,
-) -> Result<Times, Refusal>
-    requires { IfOk opened (λ both. F.pre measure both.0 both.1) }
-{
-    match opened {
-        Ok((table, sessions)) => measure(table, sessions),
-        Err(refusal) => Err(refusal),
-    }
-}
 
 /// Measures on a table whose cells have these names.
 fn opened<
@@ -38,12 +23,8 @@ fn opened<
 >(rt: &R, alloc: Global, made: Made<N, S>, edits: u32) -> Result<Times, Refusal>
     requires { AreNamed made B.cells }
 {
-    once_open(
-        made.open::<B>(alloc),
-        |shared: Shared<N, B, S>, sessions: Vec<Session<B>>| -> Result<Times, Refusal> {
-            time_all(rt, alloc, &shared, sessions, edits)
-        },
-    )
+    let (shared, sessions) = made.open::<B>(alloc)?;
+    time_all(rt, alloc, &shared, sessions, edits)
 }
 
 /// Gives the cells of a table their names.

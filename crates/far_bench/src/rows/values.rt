@@ -9,26 +9,6 @@ use far_rows::{NewRow, Slot};
 use far_types::{Cell, Refusal, Row, Text};
 use std::alloc::Global;
 
-/// The slots of sixteen columns of numbers.
-const SIXTEEN: [Slot; 16] = [
-    Slot::Number(0),
-    Slot::Number(1),
-    Slot::Number(2),
-    Slot::Number(3),
-    Slot::Number(4),
-    Slot::Number(5),
-    Slot::Number(6),
-    Slot::Number(7),
-    Slot::Number(8),
-    Slot::Number(9),
-    Slot::Number(10),
-    Slot::Number(11),
-    Slot::Number(12),
-    Slot::Number(13),
-    Slot::Number(14),
-    Slot::Number(15),
-];
-
 /// A row of one number.
 pub fn one_number(alloc: Global) -> Result<NewRow, Refusal>
     ensures numbers { IfOk result (λ row. length row.numbers ≡ 1) }
@@ -59,37 +39,12 @@ pub fn four_numbers(alloc: Global) -> Result<NewRow, Refusal>
     Ok(row)
 }
 
-/// A row of sixteen numbers.
+/// A row of sixteen numbers, all missing.
 pub fn sixteen_numbers(alloc: Global) -> Result<NewRow, Refusal>
     ensures numbers { IfOk result (λ row. length row.numbers ≡ 16) }
     ensures texts { IfOk result (λ row. length row.texts ≡ 0) }
 {
-    let mut row = NewRow::new(alloc, 16, 0)?;
-    row.fill(
-        &SIXTEEN,
-        Row::new(Vec::from_array(
-            alloc,
-            [
-                Cell::Int(1),
-                Cell::Int(2),
-                Cell::Int(3),
-                Cell::Int(4),
-                Cell::Int(5),
-                Cell::Int(6),
-                Cell::Int(7),
-                Cell::Int(8),
-                Cell::Int(9),
-                Cell::Int(10),
-                Cell::Int(11),
-                Cell::Int(12),
-                Cell::Int(13),
-                Cell::Int(14),
-                Cell::Int(15),
-                Cell::Int(16),
-            ],
-        )?),
-    );
-    Ok(row)
+    NewRow::new(alloc, 16, 0)
 }
 
 /// A text of eight bytes.
