@@ -1,0 +1,218 @@
+//! Edits that are drawn, beside a plain list of what they leave.
+use crate::bells::Bells;
+use crate::scenes::{Left, Replied, Reply, Step};
+use far_random::Draws;
+use far_types::Refusal;
+use std::alloc::{AllocError, Global};
+
+// How often an edit is tried.
+const TRIES: u32 = 100_000;
+
+// An edit that is drawn.
+#[derive(Clone, Copy)]
+enum Call {
+    Insert(i64),
+    Set(u32, i64),
+    Remove(u32),
+}
+
+// What the edits so far leave: the number of each place, or none where it is removed.
+#[derive(Drop)]
+struct Rows {
+    numbers: Vec<Option<i64>>,
+    edits: u64,
+}
+
+// How many places a list has.
+fn places_in(numbers: &[Option<i64>]) -> u32 {
+    u32::try_from(numbers.len()).unwrap_or(u32::MAX)
+}
+
+// The next edit of a list of so many places.
+fn draw(draws: &mut Draws, places: u32) -> Call {
+    let kind = draws.below(8);
+    let number = i64::from(draws.below(2_000_001)).wrapping_sub(1_000_000);
+    let place = draws.below(places);
+    if kind < 5 || places == 0 {
+        Call::Insert(number)
+    } else if kind < 7 {
+        Call::Set(place, number)
+    } else {
+        Call::Remove(place)
+    }
+}
+
+// The place of an edit on a list.
+fn place_of(rows: &Rows, edit: Call) -> u32 {
+    match edit {
+        Call::Insert(_) => places_in(&rows.numbers),
+        Call::Set(place, _) => place,
+        Call::Remove(place) => place,
+    }
+}
+
+// Whether an edit is one of a removed place.
+fn is_removed(rows: &Rows, edit: Call) -> bool {
+    matches!(rows.numbers.get(place_of(rows, edit) as usize), Some(None))
+}
+
+// Sets or removes the number of a place.
+fn put(numbers: &mut [Option<i64>], place: u32, number: Option<i64>) {
+    if let Some(kept) = numbers.get_mut(place as usize) {
+        *kept = number;
+    }
+}
+
+// Makes an edit on the list.
+fn keep(rows: &mut Rows, edit: Call) -> Result<(), Refusal> {
+    rows.edits = rows.edits.wrapping_add(1);
+    match edit {
+        Call::Insert(number) => rows.numbers.push(Some(number))?,
+        Call::Set(place, number) => put(&mut rows.numbers, place, Some(number)),
+        Call::Remove(place) => put(&mut rows.numbers, place, None),
+    }
+    Ok(())
+}
+
+// What the list has.
+fn left_of(numbers: &[Option<i64>]) -> Left {
+    let mut count = 0u64;
+    let mut sum = 0i128;
+    for number in numbers {
+        if let Some(number) = number {
+            count = count.wrapping_add(1);
+            sum = sum.wrapping_add(i128::from(*number));
+        }
+    }
+    Left {
+        places: places_in(numbers),
+        count,
+        sum,
+    }
+}
+
+// The call that makes an edit on a stripe.
+fn step_of(home: u32, edit: Call) -> Step {
+    match edit {
+        Call::Insert(number) => Step::Insert(home, number),
+        Call::Set(place, number) => Step::Set(home, place, number),
+        Call::Remove(place) => Step::Remove(home, place),
+    }
+}
+
+// Makes an edit, with as many tries as it takes: what is away is brought back.
+fn edit_at_last<M, F: Fn(&mut M, Step) -> Replied>(
+    call: &F,
+    me: &mut M,
+    home: u32,
+    step: Step,
+) -> Replied
+    requires { F.IsAlwaysCallable call.now }
+{
+    for _ in 0..TRIES {
+        match call(me, step) {
+            Err(Refusal::Absent { column: _, group }) => {
+                let _reply = call(me, Step::FetchGroup(home, group));
+            }
+            reply => return reply,
+        }
+    }
+    Err(Refusal::OutOfRange)
+}
+
+// Makes an edit of the table on the list, which no other session edits.
+fn follow(rows: &mut Rows, edit: Call, reply: Replied) -> Result<(), Refusal> {
+    match reply {
+        Ok(Reply::Applied(number, place)) => {
+            let is_next = number == rows.edits.wrapping_add(1);
+            if is_next && place == place_of(rows, edit) && !is_removed(rows, edit) {
+                keep(rows, edit)
+            } else {
+                Err(Refusal::OutOfRange)
+            }
+        }
+        Err(Refusal::RemovedRow) if is_removed(rows, edit) => Ok(()),
+        Ok(_) => Err(Refusal::OutOfRange),
+        Err(refusal) => Err(refusal),
+    }
+}
+
+// Makes so many edits on a stripe and on the list.
+fn edit_both<M, F: Fn(&mut M, Step) -> Replied>(
+    call: &F,
+    me: &mut M,
+    home: u32,
+    draws: &mut Draws,
+    rows: &mut Rows,
+    edits: u32,
+) -> Result<(), Refusal>
+    requires { F.IsAlwaysCallable call.now }
+{
+    for _ in 0..edits {
+        let edit = draw(draws, places_in(&rows.numbers));
+        let reply = edit_at_last(call, me, home, step_of(home, edit));
+        follow(rows, edit, reply)?;
+    }
+    Ok(())
+}
+
+// What the edits leave, where the gauge of the stripe says the same.
+fn as_gauged<M, F: Fn(&mut M, Step) -> Replied>(
+    call: &F,
+    me: &mut M,
+    home: u32,
+    rows: &Rows,
+) -> Result<Left, Refusal>
+    requires { F.IsAlwaysCallable call.now }
+{
+    let left = left_of(&rows.numbers);
+    let due = Reply::Reading(rows.edits, left.count, left.sum);
+    if call(me, Step::Gauge(home)) == Ok(due) {
+        Ok(left)
+    } else {
+        Err(Refusal::OutOfRange)
+    }
+}
+
+// Makes so many edits on a stripe and on a list that is empty.
+fn edit_all<M, F: Fn(&mut M, Step) -> Replied>(
+    call: &F,
+    me: &mut M,
+    number: u64,
+    rows: &mut Rows,
+    edits: u32,
+) -> Result<Left, Refusal>
+    requires { F.IsAlwaysCallable call.now }
+{
+    let home = (number % 4) as u32;
+    let mut draws = Draws::new(number);
+    edit_both(call, me, home, &mut draws, rows, edits)?;
+    as_gauged(call, me, home, rows)
+}
+
+// A list that has room for so many rows.
+fn no_rows(alloc: Global, room: u32) -> Result<Rows, AllocError> {
+    let numbers = Vec::with_capacity(alloc, room as usize)?;
+    Ok(Rows { numbers, edits: 0 })
+}
+
+// Makes so many edits on the home stripe of the session of this number, which no other session edits, and tells the others when it
+// begins and when it has ended. Gives what the accepted ones leave by a plain list, which is what the gauge reads.
+pub(crate) fn edit_at_random<M, F: Fn(&mut M, Step) -> Replied>(
+    alloc: Global,
+    call: &F,
+    me: &mut M,
+    bells: &Bells,
+    number: u64,
+    edits: u32,
+) -> Result<Left, Refusal>
+    requires { F.IsAlwaysCallable call.now }
+{
+    bells.begin();
+    let left = match no_rows(alloc, edits) {
+        Ok(mut rows) => edit_all(call, me, number, &mut rows, edits),
+        Err(_) => Err(Refusal::NoMemory),
+    };
+    bells.ring();
+    left
+}

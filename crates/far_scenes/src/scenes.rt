@@ -1,0 +1,231 @@
+//! What is played on a shared table, as data.
+use far_types::{Name, Refusal};
+
+/// A table that is made for a scene.
+#[derive(Clone, Copy)]
+pub enum Table {
+    /// A column of numbers, whose gauge is their totals.
+    Numbers,
+    /// The same, whose gauge is the totals of those above 0.
+    NumbersAboveZero,
+    /// A column of numbers and one of texts. The gauge is the totals of the numbers.
+    NumbersWithTexts,
+}
+
+/// What is done about puts into the store of a scene.
+#[derive(Clone, Copy)]
+pub enum Gate {
+    /// None is held.
+    Open,
+    /// The first is held until it is released.
+    Released,
+    /// The first is held until a second begins.
+    Paired,
+}
+
+/// One thing that is done to a stripe in the background, by the number of the stripe.
+#[derive(Clone, Copy)]
+pub enum Work {
+    /// Sends the coldest object away.
+    Evacuate(u32),
+    /// Brings an object back.
+    Fetch(u32, Name),
+    /// Builds a row group that is left.
+    Build(u32),
+}
+
+/// Up to eight works.
+pub type Works = [Option<Work>; 8];
+
+/// The text of a key.
+#[derive(Clone, Copy)]
+pub enum Letter {
+    P,
+    Q,
+}
+
+impl Letter {
+    /// The text.
+    pub fn text(self) -> &'static str {
+        match self {
+            Letter::P => "p",
+            Letter::Q => "q",
+        }
+    }
+}
+
+/// One call of a session.
+#[derive(Clone, Copy)]
+pub enum Step {
+    /// Reads the gauge of a stripe.
+    Gauge(u32),
+    /// Inserts a row of this number on a stripe.
+    Insert(u32, i64),
+    /// Inserts a row of the number 1 and this key on a stripe.
+    InsertKeyed(u32, Letter),
+    /// Sets the number of a place of a stripe.
+    Set(u32, u32, i64),
+    /// Removes a place of a stripe.
+    Remove(u32, u32),
+    /// Is lent the number of a stripe's first place.
+    Lend(u32),
+    /// Registers the extrema of the numbers on all stripes.
+    Watch,
+    /// Registers the totals of the numbers on all stripes.
+    WatchTotals,
+    /// Registers the totals of the numbers by key on all stripes.
+    WatchByKey,
+    /// Asks an aggregate over all stripes.
+    Ask(u32),
+    /// Asks an aggregate by key over all stripes.
+    AskByKey(u32),
+    /// Sends the coldest object of a stripe away.
+    Evacuate(u32),
+    /// Brings the numbers of a stripe's first row group back.
+    Fetch(u32),
+    /// Brings the numbers of a row group of a stripe back.
+    FetchGroup(u32, u32),
+    /// Builds a row group that is left on a stripe.
+    Build(u32),
+    /// Begins a work, carries its job and ends it.
+    ByHand(Work),
+    /// Lets so many threads do these works.
+    Run(u32, Works),
+    /// Waits until a put has come to the gate.
+    AwaitPut,
+    /// Opens the gate.
+    OpenGate,
+    /// Tells the other sessions.
+    Ring,
+    /// Waits until the sessions were told so often.
+    Await(u64),
+    /// Reads a stripe, and lets go of it when the sessions were told so often.
+    Hold(u32, u64),
+}
+
+/// What a call answers.
+#[derive(Clone, Copy, PartialEq, Eq)]
+pub enum Reply {
+    /// It is done.
+    Done,
+    /// There was nothing to do, or it was waited in vain.
+    Nothing,
+    /// The number of an aggregate.
+    Number(u32),
+    /// The number of an edit, and its place.
+    Applied(u64, u32),
+    /// The edits, the count and the sum that a gauge reads.
+    Reading(u64, u64, i128),
+    /// How many works were done, and how many refused.
+    Worked(u64, u64),
+    /// The object that was sent away.
+    Object(Name),
+    /// The number that was lent.
+    Lent(i64),
+    /// The count and the sum of an answer's first line.
+    Totals(u64, i128),
+    /// The least and the greatest value of an answer's first line.
+    Extrema(i64, i64),
+    /// How many rows an answer counts under the keys P and Q.
+    Pairs(u64, u64),
+}
+
+/// What a call answers, or why it is refused.
+pub type Replied = Result<Reply, Refusal>;
+
+/// A call, and what is due.
+pub type Line = (Step, Replied);
+
+/// What a session does beside others.
+#[derive(Clone, Copy)]
+pub enum Duty {
+    /// It makes so many edits that are drawn, on its home stripe.
+    Edits(u32),
+    /// It moves objects, registers aggregates and builds them until so many sessions have ended, and then compares them.
+    Works(u64),
+    /// It reads the gauges until so many sessions have ended.
+    Reads(u64),
+    /// It inserts rows of one key on stripe 0, each before one of another key on stripe 1, so often.
+    InsertsPairs(u32),
+    /// It asks for the totals by key until the pairs are inserted.
+    AsksPairs(u32),
+}
+
+/// What a session does in a scene.
+#[derive(Clone, Copy)]
+pub enum Role {
+    /// It makes these calls, one after another.
+    Plays(&'static [Line]),
+    /// It does this.
+    Does(Duty),
+}
+
+/// What a session leaves on a stripe: how many places, and the count and the sum of those that its gauge folds.
+#[derive(Clone, Copy)]
+pub struct Left {
+    pub places: u32,
+    pub count: u64,
+    pub sum: i128,
+}
+
+/// No row.
+pub const NO_ROW: Left = Left {
+    places: 0,
+    count: 0,
+    sum: 0,
+};
+
+/// One row of a number.
+pub const ROW_OF_5: Left = Left {
+    places: 1,
+    count: 1,
+    sum: 5,
+};
+
+pub const ROW_OF_6: Left = Left {
+    places: 1,
+    count: 1,
+    sum: 6,
+};
+
+pub const ROW_OF_7: Left = Left {
+    places: 1,
+    count: 1,
+    sum: 7,
+};
+
+pub const ROW_OF_8: Left = Left {
+    places: 1,
+    count: 1,
+    sum: 8,
+};
+
+/// The numbers of the first row group.
+pub const FIRST: Name = Name {
+    column: 0,
+    group: 0,
+};
+
+/// They are away.
+pub const AWAY: Refusal = Refusal::Absent {
+    column: 0,
+    group: 0,
+};
+
+/// What the four stripes have at the end of a scene.
+#[derive(Clone, Copy)]
+pub enum End {
+    /// These rows.
+    Leaves(&'static [Left; 4]),
+    /// The rows that the first four sessions tell, one each.
+    LeavesWhatIsTold,
+}
+
+/// A scene: as many sessions as roles play on a table.
+#[derive(Clone, Copy)]
+pub struct Scene {
+    pub table: Table,
+    pub gate: Gate,
+    pub roles: &'static [Role],
+    pub end: End,
+}
