@@ -10,7 +10,7 @@ use far_history::{Naming, Reading};
 use far_types::Refusal;
 use std::sync::Wait;
 
-/// The four cells, and no lock. No two are on one cache line.
+/// The four cells, and no stripe's lock. No two are on one cache line.
 #[derive(Drop)]
 pub struct Cells<N: Naming, B: Rooms> {
     pub(crate) zero: CachePadded<Counter<N, B, 0>>,
@@ -40,7 +40,7 @@ impl<N: Naming, B: Rooms> Cells<N, B> {
         &self.three
     }
 
-    /// What the history of a stripe so far leaves. Takes no lock, and reads one cell once.
+    /// What the history of a stripe so far leaves. Takes no stripe's lock, and reads one cell once.
     ///
     /// Refused with `OutOfRange` (14) where there is no such stripe; the session is then as it was.
     pub fn gauge<R: Wait>(

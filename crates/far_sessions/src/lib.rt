@@ -1,6 +1,6 @@
 #![tactic(auto)]
 //! Sessions of four histories that threads share: what each session knows of each, what keeps a history beside its table, and the
-//! gauges that are read without a lock.
+//! gauges that are read without a stripe's lock.
 //!
 //! The crate knows no table. Who has a table under a lock puts the [`Keeper`] of its history beside it.
 

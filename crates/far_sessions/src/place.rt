@@ -64,7 +64,7 @@ impl<B: Rooms> Session<B> {
 }
 
 impl<N: Naming, B: Rooms, const I: usize> Counter<N, B, I> {
-    /// What the history so far leaves. Takes no lock.
+    /// What the history so far leaves. Takes no stripe's lock.
     pub fn gauge<R: Wait>(&self, rt: &R, me: &mut Place<B, I>) -> Reading
         ensures reading { result ≡ gauge_of N.plan me.new.seen }
         ensures seen { SeesMore N.plan me.old me.new }
