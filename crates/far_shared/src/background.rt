@@ -127,7 +127,7 @@ impl Background {
     /// refused; a work for which there was nothing to do is done. No row changes.
     ///
     /// Refused with `OutOfRange` (14) unless there are 1 to 8 workers, before any work, and with `NoMemory` (1) where the threads or
-    /// their reports find none.
+    /// their reports find none: some works may be done then, or all.
     pub fn run<
         N: Naming + Send + Sync,
         B: Site + Send + Sync,

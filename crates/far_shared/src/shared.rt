@@ -53,7 +53,7 @@ fn apply_under<N: Naming, B: Site, S: FarTickets, const I: usize, R: Wait>(
 }
 
 impl<N: Naming, B: Site, S: FarTickets> Shared<N, B, S> {
-    /// The four cells, and no lock.
+    /// The four cells, and no stripe's lock.
     pub fn cells(&self) -> &Cells<N, B> {
         &self.cells
     }

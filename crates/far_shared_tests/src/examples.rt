@@ -1,10 +1,9 @@
 // Worked examples of a shared table, as scenes.
-use crate::opening::comes_out;
-use crate::scenes::{
+use far_scenes::{
     AWAY, End, FIRST, Gate, Left, NO_ROW, ROW_OF_5, ROW_OF_6, ROW_OF_7, Reply, Role, Scene, Step,
-    Table,
+    Table, Work,
 };
-use far_shared::Work;
+use far_shared_fixtures::comes_out;
 use far_types::Refusal;
 
 static GAUGED: Scene = Scene {

@@ -1,36 +1,10 @@
 #![tactic(auto)]
-//! Tests of `far_shared`: what no clause says, that is, that calls are served, what threads see of one another, and that worked
-//! examples come out as they should. A test names a scene: a table, a store and what each session does, as data.
+//! Tests of `far_shared`: what no clause says, that is, that calls are served, what sessions see of one another, and that worked examples
+//! come out as they should. A test names a scene: a table, a store and what each session does, as data.
 
-#[cfg(test)]
-mod bells;
-#[cfg(test)]
-mod editing;
-#[cfg(test)]
-mod ending;
 #[cfg(test)]
 mod examples;
 #[cfg(test)]
-mod gates;
-#[cfg(test)]
-mod keyed;
-#[cfg(test)]
-mod opening;
-#[cfg(test)]
-mod plans;
-#[cfg(test)]
-mod playing;
-#[cfg(test)]
 mod refusals;
 #[cfg(test)]
-mod scenes;
-#[cfg(test)]
-mod serving;
-#[cfg(test)]
 mod stripes;
-#[cfg(test)]
-mod together;
-#[cfg(test)]
-mod workers;
-#[cfg(test)]
-mod working;

@@ -1,5 +1,5 @@
 // Plans that are refused.
-use crate::plans::why_no_plan;
+use far_shared_fixtures::why_no_plan;
 use far_types::{Fold, Refusal};
 use std::alloc::Global;
 

@@ -1,10 +1,9 @@
 // Scenes in which each of the four stripes is served: a call that names one finds it, and no other.
-use crate::opening::comes_out;
-use crate::scenes::{
+use far_scenes::{
     AWAY, End, FIRST, Gate, NO_ROW, ROW_OF_5, ROW_OF_6, ROW_OF_7, ROW_OF_8, Reply, Role, Scene,
-    Step, Table,
+    Step, Table, Work,
 };
-use far_shared::Work;
+use far_shared_fixtures::comes_out;
 use far_types::Refusal;
 
 // Objects are sent away and brought back by single calls.

@@ -1,5 +1,5 @@
-// A store whose first put may be held.
-use crate::scenes::Gate;
+//! A store whose first put may be held.
+use far_scenes::Gate;
 use far_store::GateStore;
 use std::thread;
 
@@ -7,7 +7,7 @@ use std::thread;
 const TURNS: u32 = 1_000_000;
 
 // What a session does about a gate.
-pub trait Gated {
+pub(crate) trait Gated {
     // Whether a put has come to the gate.
     fn is_held(&self) -> bool;
 
@@ -26,7 +26,7 @@ impl<S> Gated for GateStore<S> {
 }
 
 // A gate over a store.
-pub fn gate_of<S>(store: S, gate: Gate) -> GateStore<S> {
+pub(crate) fn gate_of<S>(store: S, gate: Gate) -> GateStore<S> {
     match gate {
         Gate::Open => open_gate(store),
         Gate::Released => GateStore::new(store),
@@ -42,7 +42,7 @@ fn open_gate<S>(store: S) -> GateStore<S> {
 }
 
 // Waits until a put has come to the gate. Says whether one came.
-pub fn awaits_put<S: Gated>(store: &S) -> bool {
+pub(crate) fn awaits_put<S: Gated>(store: &S) -> bool {
     for _ in 0..TURNS {
         if store.is_held() {
             return true;

@@ -1,7 +1,7 @@
 use denote.Param.{param}
 use Rattle.far_shared.proofs.CrossingLaws.{shared_sync}
-use Rattle.far_shared_tests.proofs.playing.Stage.TheSendSync as stage
-use Rattle.far_shared_tests.proofs.playing.play_all.Goals as goal
+use Rattle.far_shared_fixtures.proofs.playing.Stage.TheSendSync as stage
+use Rattle.far_shared_fixtures.proofs.playing.play_all.Goals as goal
 
 -- the closure holds a `&` to the runtime, to the four tables, to the store and to what is beside them
 pub map_vec-requires-sync-F : goal.map_vec-requires-sync-F

@@ -1,4 +1,4 @@
-// How a scene begins: the names of its plan, of its cells and of its store are picked, each by a call.
+//! How a scene begins: the names of its plan, of its cells and of its store are picked, each by a call.
 ghost use Rattle.std.specs.Prelude.{◌≡◌};
 ghost use Rattle.far_shared.specs.Opening.{AreNamed};
 
@@ -6,9 +6,10 @@ use crate::ending::ends;
 use crate::gates::{Gated, gate_of};
 use crate::plans::plan_of;
 use crate::playing::play_to_end;
-use crate::scenes::Scene;
 use far_history::Naming;
-use far_shared::{Made, Plan, Site};
+use far_scenes::Scene;
+use far_sessions::Session;
+use far_shared::{Made, Plan, Shared, Site};
 use far_store::{AgentStore, FarStore};
 use far_types::Refusal;
 use std::alloc::Global;
@@ -18,6 +19,26 @@ use std::thread::Threads;
 
 // How many contents a store takes.
 const CAPACITY: u64 = 16_777_216;
+
+// Whether a scene comes out on a table with these sessions.
+fn played<
+    N: Naming + Send + Sync,
+    B: Site + Send + Sync,
+    S: FarStore + Gated,
+    R: Threads + Wait + Sync,
+>(
+    rt: &R,
+    alloc: Global,
+    shared: Shared<N, B, S>,
+    store: &S,
+    sessions: Vec<Session<B>>,
+    scene: &Scene,
+) -> Result<bool, Refusal>
+    requires store { S.name store.now ≡ B.store }
+{
+    let finale = play_to_end(rt, alloc, &shared, store, sessions, scene);
+    ends(rt, shared, finale)
+}
 
 // Whether a scene comes out on a table whose cells and store have these names.
 fn opened<
@@ -32,8 +53,7 @@ fn opened<
     let Ok((shared, sessions)) = made.open::<B>(alloc) else {
         return Err(Refusal::NoMemory);
     };
-    let finale = play_to_end(rt, alloc, &shared, store, sessions, scene);
-    ends(rt, shared, finale)
+    played(rt, alloc, shared, store, sessions, scene)
 }
 
 // Gives the cells of a table and its store their names.
@@ -74,6 +94,17 @@ fn staged<S: FarStore + Gated, R: Threads + Wait + Sync>(
     planned::<Brand, S, R>(rt, alloc, plan, store, scene)
 }
 
+// The same over this store, behind the gate of the scene.
+fn on_store<S: FarStore, R: Threads + Wait + Sync>(
+    rt: &R,
+    alloc: Global,
+    store: S,
+    scene: &Scene,
+) -> Result<bool, Refusal> {
+    let gate = gate_of(store, scene.gate);
+    staged(rt, alloc, &gate, scene)
+}
+
 // The same over a store of its own.
 fn on_agent<R: Threads + Wait + Sync>(
     rt: &R,
@@ -82,11 +113,11 @@ fn on_agent<R: Threads + Wait + Sync>(
 ) -> Result<bool, Refusal> {
     let made = AgentStore::new(rt, alloc, CAPACITY);
     made.and_then(|store: AgentStore<&R>| -> Result<bool, Refusal> {
-        staged(rt, alloc, &gate_of(store, scene.gate), scene)
+        on_store(rt, alloc, store, scene)
     })
 }
 
-// Whether a scene comes out, played a second time where the first found no memory.
+/// Whether a scene comes out, played a second time where the first found no memory.
 pub fn comes_out<R: Threads + Wait + Sync>(rt: &R, alloc: Global, scene: &Scene) -> bool {
     let answer = match on_agent(rt, alloc, scene) {
         Err(Refusal::NoMemory) => on_agent(rt, alloc, scene),

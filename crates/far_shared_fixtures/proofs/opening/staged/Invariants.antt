@@ -1,4 +1,4 @@
-use Rattle.far_shared_tests.proofs.opening.staged.Given as goal
+use Rattle.far_shared_fixtures.proofs.opening.staged.Given as goal
 
 abbrev pub ghosts-planned : goal.ghosts-planned
 ghosts-planned g a = record { plan = a.plan }

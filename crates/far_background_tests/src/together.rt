@@ -1,18 +1,18 @@
 // Sessions that edit at once, beside work in the background and readers.
-use crate::opening::comes_out;
-use crate::scenes::{End, Gate, Left, NO_ROW, Role, Scene, Table};
+use far_scenes::{Duty, End, Gate, Left, NO_ROW, Role, Scene, Table};
+use far_shared_fixtures::comes_out;
 
 // Four sessions edit, one works beside them, and one reads the gauges.
 static EDITED: Scene = Scene {
     table: Table::Numbers,
     gate: Gate::Open,
     roles: &[
-        Role::Edits(10_000),
-        Role::Edits(10_000),
-        Role::Edits(10_000),
-        Role::Edits(10_000),
-        Role::Works(4),
-        Role::Reads(4),
+        Role::Does(Duty::Edits(10_000)),
+        Role::Does(Duty::Edits(10_000)),
+        Role::Does(Duty::Edits(10_000)),
+        Role::Does(Duty::Edits(10_000)),
+        Role::Does(Duty::Works(4)),
+        Role::Does(Duty::Reads(4)),
     ],
     end: End::LeavesWhatIsTold,
 };
@@ -31,7 +31,10 @@ fn the_totals_are_those_of_the_accepted_edits_whatever_moves_meanwhile(rt: HostR
 static PAIRS: Scene = Scene {
     table: Table::NumbersWithTexts,
     gate: Gate::Open,
-    roles: &[Role::InsertsPairs(100), Role::AsksPairs(100)],
+    roles: &[
+        Role::Does(Duty::InsertsPairs(100)),
+        Role::Does(Duty::AsksPairs(100)),
+    ],
     end: End::Leaves(&[HUNDRED, HUNDRED, NO_ROW, NO_ROW]),
 };
 

@@ -1,14 +1,14 @@
-// What the tables of scenes are made for.
-use crate::scenes::Table;
+//! What the tables of scenes are made for.
+use far_scenes::{Letter, Table};
 use far_shared::Plan;
 use far_types::{Cell, Filter, Fold, Kind, Limits, Op, Refusal, Row, Schema, Spec, Test, Text};
 use std::alloc::{AllocError, Global};
 
 // How many places a row group has.
-pub const GROUP: u32 = 64;
+const GROUP: u32 = 64;
 
 // The limits of each stripe. There is room for all objects of a scene.
-pub const LIMITS: Limits = Limits {
+const LIMITS: Limits = Limits {
     group: GROUP,
     places: 1_048_576,
     edits: 1_099_511_627_776,
@@ -46,7 +46,7 @@ fn above_zero() -> Test {
 }
 
 // An aggregate of all numbers, with a key column or without.
-pub fn all_numbers(alloc: Global, fold: Fold, key: Option<u32>) -> Spec {
+pub(crate) fn all_numbers(alloc: Global, fold: Fold, key: Option<u32>) -> Spec {
     Spec {
         fold,
         value: 0,
@@ -66,12 +66,12 @@ fn gauge_of(alloc: Global, table: Table) -> Result<Spec, AllocError> {
 }
 
 // The plan of a table for so many sessions.
-pub fn plan_of(alloc: Global, table: Table, sessions: u64) -> Result<Plan, Refusal> {
+pub(crate) fn plan_of(alloc: Global, table: Table, sessions: u64) -> Result<Plan, Refusal> {
     let schema = Schema::new(kinds_of(alloc, table)?)?;
     Plan::new(schema, LIMITS, gauge_of(alloc, table)?, sessions)
 }
 
-// Why a plan of numbers is refused with such a gauge and so many sessions.
+/// Why a plan of numbers is refused with such a gauge and so many sessions.
 pub fn why_no_plan(
     alloc: Global,
     fold: Fold,
@@ -84,13 +84,13 @@ pub fn why_no_plan(
 }
 
 // The row of a number.
-pub fn row_of(alloc: Global, number: i64) -> Result<Row, AllocError> {
+pub(crate) fn row_of(alloc: Global, number: i64) -> Result<Row, AllocError> {
     Ok(Row::new(Vec::from_array(alloc, [Cell::Int(number)])?))
 }
 
-// The row of a number and a key.
-pub fn keyed_row(alloc: Global, number: i64, key: &str) -> Result<Row, AllocError> {
-    let text = Text::new(String::from_str(alloc, key)?);
-    let cells = [Cell::Int(number), Cell::Text(text)];
+// The row of the number 1 and a key.
+pub(crate) fn keyed_row(alloc: Global, letter: Letter) -> Result<Row, AllocError> {
+    let text = Text::new(String::from_str(alloc, letter.text())?);
+    let cells = [Cell::Int(1), Cell::Text(text)];
     Ok(Row::new(Vec::from_array(alloc, cells)?))
 }

@@ -1,0 +1,114 @@
+//! How a scene ends: the table is closed, first without one of its sessions.
+ghost use Rattle.std.specs.Prelude.{IfErr};
+
+use far_frame::Frame;
+use far_history::Naming;
+use far_scenes::{Finale, Left};
+use far_sessions::Session;
+use far_shared::{Four, Shared, Site};
+use far_store::FarTickets;
+use far_types::Refusal;
+use std::alloc::AllocError;
+use std::sync::Wait;
+
+// What comes back where a session is missing.
+type Refused<N, B, S> = (Refusal, Shared<N, B, S>, Vec<Session<B>>);
+
+// Whether a table has these rows.
+fn has_left<S: FarTickets>(frame: &Frame<S>, left: Left) -> bool {
+    frame.places() == left.places && frame.plain(0) == Some((left.count, left.sum))
+}
+
+// Whether four tables have these rows.
+fn have_left<S: FarTickets>(frames: &Four<Frame<S>>, left: &[Left; 4]) -> bool {
+    has_left(&frames.zero, left[0])
+        && has_left(&frames.one, left[1])
+        && has_left(&frames.two, left[2])
+        && has_left(&frames.three, left[3])
+}
+
+// Whether it went well, and what came is as it should be. It knows nothing of what came: to take four tables out of a result costs the
+// proof of a function minutes, and here it costs none.
+fn is_ok_and<T: Drop, E: Drop, F: FnOnce(&T) -> bool + Drop>(
+    answer: Result<T, E>,
+    is_right: F,
+) -> bool
+    requires { F.IsAlwaysCallable is_right }
+{
+    match answer {
+        Ok(value) => is_right(&value),
+        Err(_) => false,
+    }
+}
+
+// Whether it was refused, and what came back does as it should. It knows nothing of that either.
+fn is_err_and<T: Drop, E: Drop, F: FnOnce(E) -> bool + Drop>(
+    answer: Result<T, E>,
+    does_right: F,
+) -> bool
+    requires { IfErr answer (F.pre does_right) }
+{
+    match answer {
+        Ok(_) => false,
+        Err(error) => does_right(error),
+    }
+}
+
+// Whether a shared table is closed with these sessions, and leaves these rows.
+fn closes<N: Naming, B: Site, S: FarTickets, R: Wait>(
+    rt: &R,
+    shared: Shared<N, B, S>,
+    sessions: Vec<Session<B>>,
+    left: &[Left; 4],
+) -> bool {
+    is_ok_and(
+        shared.close(rt, sessions),
+        |frames: &Four<Frame<S>>| -> bool { have_left(frames, left) },
+    )
+}
+
+// A list with one more.
+fn with_last<P: Drop>(mut list: Vec<P>, last: P) -> Result<Vec<P>, AllocError> {
+    list.push(last)?;
+    Ok(list)
+}
+
+// Whether a shared table that came back with its sessions is closed when the one that was missing is there again.
+fn closes_again<N: Naming, B: Site, S: FarTickets, R: Wait>(
+    rt: &R,
+    refused: Refused<N, B, S>,
+    last: Session<B>,
+    left: &[Left; 4],
+) -> bool {
+    let (refusal, shared, sessions) = refused;
+    let is_closed = with_last(sessions, last).map(|sessions: Vec<Session<B>>| -> bool {
+        closes(rt, shared, sessions, left)
+    });
+    is_closed.unwrap_or(false) && refusal == Refusal::OutOfRange
+}
+
+// Whether a shared table comes back with its sessions where one is missing, and is closed when it is there again.
+fn closes_with_all<N: Naming, B: Site, S: FarTickets, R: Wait>(
+    rt: &R,
+    shared: Shared<N, B, S>,
+    finale: Finale<Session<B>>,
+) -> bool {
+    let Finale {
+        sessions,
+        last,
+        left,
+    } = finale;
+    is_err_and(
+        shared.close(rt, sessions),
+        |refused: Refused<N, B, S>| -> bool { closes_again(rt, refused, last, &left) },
+    )
+}
+
+// The same, once all roles came out.
+pub(crate) fn ends<N: Naming, B: Site, S: FarTickets, R: Wait>(
+    rt: &R,
+    shared: Shared<N, B, S>,
+    finale: Result<Finale<Session<B>>, Refusal>,
+) -> Result<bool, Refusal> {
+    finale.map(|finale: Finale<Session<B>>| -> bool { closes_with_all(rt, shared, finale) })
+}
