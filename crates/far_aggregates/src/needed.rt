@@ -67,9 +67,7 @@ pub fn untested_columns<'a, G: LendGroup>(spec: &Spec, group: &'a G) -> [Column<
     requires untested { spec.now.filter ≡ [] }
     ensures { AreAtHand spec.now result (G.places group.now) }
 {
-    let value = spec.value;
-    [
-        lent(group, Some(value), value),
-        lent(group, spec.key, value),
-    ]
+    let value = lent(group, Some(spec.value), spec.value);
+    let key = lent(group, spec.key, spec.value);
+    [value, key]
 }
