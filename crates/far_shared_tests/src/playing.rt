@@ -121,7 +121,7 @@ fn role_of(scene: &Scene, number: u64) -> Role {
     }
 }
 
-// Plays the role of a session.
+// Plays the role of a session, once all are there: so none waits for one that never comes.
 fn play<
     N: Naming + Send + Sync,
     B: Site + Send + Sync,
@@ -137,7 +137,11 @@ fn play<
     requires store { S.name store.now ≡ B.store }
 {
     let role = role_of(&stage.scene, me.number());
-    let left = play_role(rt, stage.alloc, shared, store, &stage.bells, &mut me, role);
+    let left = if stage.bells.gathers(stage.scene.roles.len() as u64) {
+        play_role(rt, stage.alloc, shared, store, &stage.bells, &mut me, role)
+    } else {
+        Err(Refusal::NoMemory)
+    };
     Played { session: me, left }
 }
 

@@ -2,7 +2,7 @@
 use crate::opening::comes_out;
 use crate::scenes::{End, Gate, Left, NO_ROW, Role, Scene, Table};
 
-// Four sessions edit, one works beside them, and one reads the gauges.
+// Four sessions edit, one works beside them, and two read the gauges.
 static EDITED: Scene = Scene {
     table: Table::Numbers,
     gate: Gate::Open,
@@ -12,6 +12,7 @@ static EDITED: Scene = Scene {
         Role::Edits(10_000),
         Role::Edits(10_000),
         Role::Works(4),
+        Role::Reads(4),
         Role::Reads(4),
     ],
     end: End::LeavesWhatIsTold,
