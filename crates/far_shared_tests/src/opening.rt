@@ -94,3 +94,17 @@ pub fn comes_out<R: Threads + Wait + Sync>(rt: &R, alloc: Global, scene: &Scene)
     };
     answer == Ok(true)
 }
+
+// The name of the first of these scenes that does not come out, or nothing.
+pub fn first_wrong<R: Threads + Wait + Sync>(
+    rt: &R,
+    alloc: Global,
+    scenes: &[Scene],
+) -> &'static str {
+    for scene in scenes {
+        if !comes_out(rt, alloc, scene) {
+            return scene.name;
+        }
+    }
+    ""
+}

@@ -175,6 +175,8 @@ pub enum End {
 // A scene: as many sessions as roles play on a table.
 #[derive(Clone, Copy)]
 pub struct Scene {
+    // What it shows.
+    pub name: &'static str,
     pub table: Table,
     pub gate: Gate,
     pub roles: &'static [Role],

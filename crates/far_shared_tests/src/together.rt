@@ -4,6 +4,7 @@ use crate::scenes::{End, Gate, Left, NO_ROW, Role, Scene, Table};
 
 // Four sessions edit, one works beside them, and two read the gauges.
 static EDITED: Scene = Scene {
+    name: "the_totals_are_those_of_the_accepted_edits_whatever_moves_meanwhile",
     table: Table::Numbers,
     gate: Gate::Open,
     roles: &[
@@ -30,6 +31,7 @@ fn the_totals_are_those_of_the_accepted_edits_whatever_moves_meanwhile(rt: HostR
 
 // One session inserts pairs of rows, and one asks.
 static PAIRS: Scene = Scene {
+    name: "an_answer_over_all_stripes_never_shows_a_later_row_without_the_earlier",
     table: Table::NumbersWithTexts,
     gate: Gate::Open,
     roles: &[Role::InsertsPairs(100), Role::AsksPairs(100)],

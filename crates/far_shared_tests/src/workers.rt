@@ -1,7 +1,7 @@
 // Works that several threads do.
 ghost use Rattle.std.specs.Prelude.{◌≡◌};
 
-use crate::opening::comes_out;
+use crate::opening::first_wrong;
 use crate::scenes::{
     AWAY, End, FIRST, Gate, NO_ROW, ROW_OF_5, Replied, Reply, Role, Scene, Step, Table,
 };
@@ -52,86 +52,79 @@ const EIGHT: &[Work] = &[
     Work::Evacuate(1),
 ];
 
-static SENT_AWAY: Scene = Scene {
-    table: Table::Numbers,
-    gate: Gate::Open,
-    roles: &[Role::Plays(&[
-        (Step::Insert(0, 5), Ok(Reply::Applied(1, 0))),
-        (Step::Insert(1, 5), Ok(Reply::Applied(1, 0))),
-        (Step::Ask(0), Ok(Reply::Totals(2, 10))),
-        (Step::Run(0, EIGHT), Err(Refusal::OutOfRange)),
-        (Step::Run(9, EIGHT), Err(Refusal::OutOfRange)),
-        (Step::Lend(0), Ok(Reply::Lent(5))),
-        (Step::Run(2, EIGHT), Ok(Reply::Worked(8, 0))),
-        (Step::Lend(0), Err(AWAY)),
-        (Step::Lend(1), Err(AWAY)),
-        (Step::Ask(0), Ok(Reply::Totals(2, 10))),
-        (
-            Step::Run(1, &[Work::Fetch(1, FIRST)]),
-            Ok(Reply::Worked(1, 0)),
-        ),
-        (Step::Lend(1), Ok(Reply::Lent(5))),
-        (Step::Lend(0), Err(AWAY)),
-        (Step::Watch, Ok(Reply::Number(1))),
-        (Step::Run(1, &[Work::Build(1)]), Ok(Reply::Worked(1, 0))),
-        (Step::Build(1), Ok(Reply::Nothing)),
-        (Step::Ask(1), Err(Refusal::Building(1))),
-    ])],
-    end: End::Leaves(&[ROW_OF_5, ROW_OF_5, NO_ROW, NO_ROW]),
-};
+static WORKS: &[Scene] = &[
+    Scene {
+        name: "workers_send_objects_away_and_no_row_changes",
+        table: Table::Numbers,
+        gate: Gate::Open,
+        roles: &[Role::Plays(&[
+            (Step::Insert(0, 5), Ok(Reply::Applied(1, 0))),
+            (Step::Insert(1, 5), Ok(Reply::Applied(1, 0))),
+            (Step::Ask(0), Ok(Reply::Totals(2, 10))),
+            (Step::Run(0, EIGHT), Err(Refusal::OutOfRange)),
+            (Step::Run(9, EIGHT), Err(Refusal::OutOfRange)),
+            (Step::Lend(0), Ok(Reply::Lent(5))),
+            (Step::Run(2, EIGHT), Ok(Reply::Worked(8, 0))),
+            (Step::Lend(0), Err(AWAY)),
+            (Step::Lend(1), Err(AWAY)),
+            (Step::Ask(0), Ok(Reply::Totals(2, 10))),
+            (
+                Step::Run(1, &[Work::Fetch(1, FIRST)]),
+                Ok(Reply::Worked(1, 0)),
+            ),
+            (Step::Lend(1), Ok(Reply::Lent(5))),
+            (Step::Lend(0), Err(AWAY)),
+            (Step::Watch, Ok(Reply::Number(1))),
+            (Step::Run(1, &[Work::Build(1)]), Ok(Reply::Worked(1, 0))),
+            (Step::Build(1), Ok(Reply::Nothing)),
+            (Step::Ask(1), Err(Refusal::Building(1))),
+        ])],
+        end: End::Leaves(&[ROW_OF_5, ROW_OF_5, NO_ROW, NO_ROW]),
+    },
+    // The put of the one worker is held until that of the other begins.
+    Scene {
+        name: "two_workers_put_at_once",
+        table: Table::Numbers,
+        gate: Gate::Paired,
+        roles: &[Role::Plays(&[
+            (Step::Insert(0, 5), Ok(Reply::Applied(1, 0))),
+            (Step::Insert(1, 5), Ok(Reply::Applied(1, 0))),
+            (
+                Step::Run(2, &[Work::Evacuate(0), Work::Evacuate(1)]),
+                Ok(Reply::Worked(2, 0)),
+            ),
+            (Step::Set(0, 0, 1), Err(AWAY)),
+            (Step::Set(1, 0, 1), Err(AWAY)),
+        ])],
+        end: End::Leaves(&[ROW_OF_5, ROW_OF_5, NO_ROW, NO_ROW]),
+    },
+    // A fifth stripe, a column that is not there, and nothing to build.
+    Scene {
+        name: "a_report_counts_what_was_refused",
+        table: Table::Numbers,
+        gate: Gate::Open,
+        roles: &[Role::Plays(&[(
+            Step::Run(
+                8,
+                &[
+                    Work::Evacuate(4),
+                    Work::Fetch(
+                        0,
+                        Name {
+                            column: 1,
+                            group: 0,
+                        },
+                    ),
+                    Work::Build(3),
+                ],
+            ),
+            Ok(Reply::Worked(1, 2)),
+        )])],
+        end: End::Leaves(&[NO_ROW; 4]),
+    },
+];
 
 #[test]
-fn workers_send_objects_away_and_no_row_changes(rt: HostRuntime) {
-    assert!(rt; comes_out(&rt, rt.alloc(), &SENT_AWAY));
-}
-
-// The put of the one worker is held until that of the other begins.
-static AT_ONCE: Scene = Scene {
-    table: Table::Numbers,
-    gate: Gate::Paired,
-    roles: &[Role::Plays(&[
-        (Step::Insert(0, 5), Ok(Reply::Applied(1, 0))),
-        (Step::Insert(1, 5), Ok(Reply::Applied(1, 0))),
-        (
-            Step::Run(2, &[Work::Evacuate(0), Work::Evacuate(1)]),
-            Ok(Reply::Worked(2, 0)),
-        ),
-        (Step::Set(0, 0, 1), Err(AWAY)),
-        (Step::Set(1, 0, 1), Err(AWAY)),
-    ])],
-    end: End::Leaves(&[ROW_OF_5, ROW_OF_5, NO_ROW, NO_ROW]),
-};
-
-#[test]
-fn two_workers_put_at_once(rt: HostRuntime) {
-    assert!(rt; comes_out(&rt, rt.alloc(), &AT_ONCE));
-}
-
-// A fifth stripe, a column that is not there, and nothing to build.
-static REFUSED: Scene = Scene {
-    table: Table::Numbers,
-    gate: Gate::Open,
-    roles: &[Role::Plays(&[(
-        Step::Run(
-            8,
-            &[
-                Work::Evacuate(4),
-                Work::Fetch(
-                    0,
-                    Name {
-                        column: 1,
-                        group: 0,
-                    },
-                ),
-                Work::Build(3),
-            ],
-        ),
-        Ok(Reply::Worked(1, 2)),
-    )])],
-    end: End::Leaves(&[NO_ROW; 4]),
-};
-
-#[test]
-fn a_report_counts_what_was_refused(rt: HostRuntime) {
-    assert!(rt; comes_out(&rt, rt.alloc(), &REFUSED));
+fn works_of_several_threads_are_done(rt: HostRuntime) {
+    assert_eq!(rt; first_wrong(&rt, rt.alloc(), WORKS), "");
 }
