@@ -19,6 +19,7 @@ mod shared;
 mod sums;
 
 use far_store::{AgentStore, FarTickets};
+use shared::SharedTimes;
 use std::time::Instant;
 use std::{env, io};
 
@@ -37,7 +38,9 @@ fn main(rt: HostRuntime) -> io::Result<()> {
         show_columns(&rt, with_times)?;
     }
     if subject != Some("columns") {
-        show_threads(&rt, with_times)?;
+        let edits = if with_times { EDITS } else { 256 };
+        let times = shared::measure(&rt, rt.alloc(), edits).map_err(faults::io_error)?;
+        show_threads(&rt, &times, with_times)?;
     }
     Ok(())
 }
@@ -99,10 +102,8 @@ fn show_rows<S: FarTickets>(rt: &HostRuntime, with_times: bool) -> io::Result<()
     eprintln!(rt; "seen: {}", times.seen)
 }
 
-/// Measures a table that threads share.
-fn show_threads(rt: &HostRuntime, with_times: bool) -> io::Result<()> {
-    let edits = if with_times { EDITS } else { 256 };
-    let times = shared::measure(rt, rt.alloc(), edits).map_err(faults::io_error)?;
+/// Tells what was measured of a table that threads share.
+fn show_threads(rt: &HostRuntime, times: &SharedTimes, with_times: bool) -> io::Result<()> {
     println!(rt; "threads: ended")?;
     if !with_times {
         return Ok(());
