@@ -112,7 +112,7 @@ fn edit_at_last<M, F: Fn(&mut M, Step) -> Replied>(
     for _ in 0..TRIES {
         match call(me, step) {
             Err(Refusal::Absent { column: _, group }) => {
-                let _reply = call(me, Step::FetchGroup(home, group));
+                let _reply = call(me, Step::Fetch(home, group));
             }
             reply => return reply,
         }

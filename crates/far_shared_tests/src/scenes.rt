@@ -83,10 +83,8 @@ pub enum Step {
     AskByKey(u32),
     // Sends the coldest object of a stripe away.
     Evacuate(u32),
-    // Brings the numbers of a stripe's first row group back.
-    Fetch(u32),
     // Brings the numbers of a row group of a stripe back.
-    FetchGroup(u32, u32),
+    Fetch(u32, u32),
     // Builds a row group that is left on a stripe.
     Build(u32),
     // Begins a work, carries its job and ends it.

@@ -97,10 +97,7 @@ fn move_or_build<N: Naming, B: Site, S: FarStore, R: Wait>(
     let mut meter = Meter::new();
     match step {
         Step::Evacuate(stripe) => moved(shared.evacuate_once(rt, stripe, store, &mut meter)),
-        Step::Fetch(stripe) => done(shared.fetch(rt, stripe, 0, 0, store, &mut meter)),
-        Step::FetchGroup(stripe, group) => done(shared.fetch(
-            rt, stripe, 0, group, store, &mut meter,
-        )),
+        Step::Fetch(stripe, group) => done(shared.fetch(rt, stripe, 0, group, store, &mut meter)),
         Step::Build(stripe) => built(shared.build_once(rt, stripe, store, &mut meter)),
         Step::ByHand(work) => complete_work(rt, alloc, shared, store, work),
         _ => Ok(Reply::Nothing),
@@ -144,11 +141,9 @@ pub fn serve<
         Step::AwaitPut | Step::OpenGate | Step::Ring | Step::Await(_) => wait_or_tell(
             store, bells, step,
         ),
-        Step::Evacuate(_)
-        | Step::Fetch(_)
-        | Step::FetchGroup(_, _)
-        | Step::Build(_)
-        | Step::ByHand(_) => move_or_build(rt, alloc, shared, store, step),
+        Step::Evacuate(_) | Step::Fetch(_, _) | Step::Build(_) | Step::ByHand(_) => move_or_build(
+            rt, alloc, shared, store, step,
+        ),
         Step::Run(workers, works) => run(rt, alloc, shared, store, workers, works),
         _ => serve_here(rt, alloc, shared, bells, me, step),
     }
