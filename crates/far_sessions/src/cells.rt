@@ -10,13 +10,19 @@ use far_history::{Naming, Reading};
 use far_types::Refusal;
 use std::sync::Wait;
 
-/// The four cells, and no stripe's lock. What holds each is padded, so that no two holders are on one cache line.
+// Blocks with nothing in them, which lie between the blocks of the cells.
+pub(crate) type Spacers = Vec<Vec<u64>>;
+
+/// The four cells, and no stripe's lock. What holds each is padded, so that no two holders are on one cache line. The words of each lie in a
+/// block of their own, and spacers lie between these blocks. So an edit of one stripe does not slow the readings of another stripe's gauge.
 #[derive(Drop)]
 pub struct Cells<N: Naming, B: Rooms> {
     pub(crate) zero: CachePadded<Counter<N, B, 0>>,
     pub(crate) one: CachePadded<Counter<N, B, 1>>,
     pub(crate) two: CachePadded<Counter<N, B, 2>>,
     pub(crate) three: CachePadded<Counter<N, B, 3>>,
+    // They stay as long as the cells: else what a thread writes would soon lie in their place.
+    pub(crate) spacers: Spacers,
 }
 
 impl<N: Naming, B: Rooms> Cells<N, B> {

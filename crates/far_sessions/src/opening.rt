@@ -3,7 +3,7 @@ ghost use Rattle.std.specs.Prelude.{◌≡◌, ◌+◌, [], IfOk};
 ghost use Rattle.far_history.specs.Sessions.{newcomer};
 ghost use Rattle.far_sessions.specs.Known.{newcomers};
 
-use crate::cells::Cells;
+use crate::cells::{Cells, Spacers};
 use crate::keeper::{Keeper, Keepers};
 use crate::place::{Place, Session};
 use crate::rooms::{Counter, Rooms};
@@ -53,8 +53,25 @@ impl<B: Rooms, const I: usize> Model for Giver<B, I> {
     ghost invariant = { λ s. (s.pass.table_id ≡ B.cells I) × IsGiver (cell_view s.pass) };
 }
 
+// How many words a cell has: its four and a version.
+const CELL_WORDS: usize = 5;
+
+// How many spacers lie before a cell. Four have 160 bytes, which is more than two cache lines.
+const SPACERS: u32 = 4;
+
+// Adds spacers. Each is a block of a cell's size, since an allocator hands out blocks of one size side by side: one large block could lie
+// elsewhere, and two cells beside each other.
+fn add_spacers(alloc: Global, spacers: &mut Spacers) -> Result<(), AllocError> {
+    for _ in 0..SPACERS {
+        spacers.push(Vec::with_capacity(alloc, CELL_WORDS)?)?;
+    }
+    Ok(())
+}
+
 impl<N: Naming> Fresh<N> {
-    fn make(alloc: Global) -> Result<Fresh<N>, AllocError> {
+    // A cell, after spacers that keep it off the one before.
+    fn make(alloc: Global, spacers: &mut Spacers) -> Result<Fresh<N>, AllocError> {
+        add_spacers(alloc, spacers)?;
         let (cell, pass) = begin(alloc)?;
         Ok(Fresh { cell, pass })
     }
@@ -111,6 +128,7 @@ pub struct Made<N: Naming> {
     one: Fresh<N>,
     two: Fresh<N>,
     three: Fresh<N>,
+    spacers: Spacers,
 }
 
 /// What four histories begin with.
@@ -127,11 +145,13 @@ pub struct Opened<N: Naming, B: Rooms> {
 impl<N: Naming> Made<N> {
     /// Makes the four cells. Refused where memory is out.
     pub fn make(alloc: Global) -> Result<Made<N>, AllocError> {
+        let mut spacers = Vec::new(alloc);
         Ok(Made {
-            zero: Fresh::make(alloc)?,
-            one: Fresh::make(alloc)?,
-            two: Fresh::make(alloc)?,
-            three: Fresh::make(alloc)?,
+            zero: Fresh::make(alloc, &mut spacers)?,
+            one: Fresh::make(alloc, &mut spacers)?,
+            two: Fresh::make(alloc, &mut spacers)?,
+            three: Fresh::make(alloc, &mut spacers)?,
+            spacers,
         })
     }
 
@@ -147,6 +167,7 @@ impl<N: Naming> Made<N> {
             one,
             two,
             three,
+            spacers,
         } = self;
         let (zero, mut zero_giver) = zero.named::<B, 0>();
         let (one, mut one_giver) = one.named::<B, 1>();
@@ -175,6 +196,7 @@ impl<N: Naming> Made<N> {
                 one: CachePadded::new(one),
                 two: CachePadded::new(two),
                 three: CachePadded::new(three),
+                spacers,
             },
             sessions,
         })

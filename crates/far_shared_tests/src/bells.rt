@@ -5,19 +5,43 @@ use std::thread;
 // For how many turns a session waits at most.
 const TURNS: u32 = 1_000_000;
 
-// How often the sessions were told, and how often an answer was asked for.
+// How many sessions are there, how often they were told, and how often an answer was asked for.
 #[derive(Drop)]
 pub struct Bells {
+    there: AtomicU64,
     rung: AtomicU64,
     asked: AtomicU64,
+}
+
+// How much is counted so far.
+fn count_of(counter: &AtomicU64) -> u64 {
+    counter.load(Ordering::SeqCst)
+}
+
+// Waits until so much is counted. Says whether it was.
+fn reaches(counter: &AtomicU64, least: u64) -> bool {
+    for _ in 0..TURNS {
+        if count_of(counter) >= least {
+            return true;
+        }
+        thread::yield_now();
+    }
+    false
 }
 
 impl Bells {
     pub fn new() -> Bells {
         Bells {
+            there: AtomicU64::new(0),
             rung: AtomicU64::new(0),
             asked: AtomicU64::new(0),
         }
+    }
+
+    // Says that a session is there, and waits until so many are. Says whether they came: where a thread found no memory, some do not.
+    pub fn gathers(&self, sessions: u64) -> bool {
+        self.there.fetch_add(1, Ordering::SeqCst);
+        reaches(&self.there, sessions)
     }
 
     // Tells all sessions.
@@ -27,18 +51,12 @@ impl Bells {
 
     // Whether the sessions were told so often.
     pub fn has_rung(&self, times: u64) -> bool {
-        self.rung.load(Ordering::SeqCst) >= times
+        count_of(&self.rung) >= times
     }
 
     // Waits until the sessions were told so often. Says whether they were.
     pub fn awaits(&self, times: u64) -> bool {
-        for _ in 0..TURNS {
-            if self.has_rung(times) {
-                return true;
-            }
-            thread::yield_now();
-        }
-        false
+        reaches(&self.rung, times)
     }
 
     // Says that an answer is asked for.
@@ -48,17 +66,11 @@ impl Bells {
 
     // How often an answer was asked for.
     pub fn asked(&self) -> u64 {
-        self.asked.load(Ordering::SeqCst)
+        count_of(&self.asked)
     }
 
     // Waits until an answer was asked for more than so often. Says whether it was.
     pub fn awaits_asking(&self, times: u64) -> bool {
-        for _ in 0..TURNS {
-            if self.asked() > times {
-                return true;
-            }
-            thread::yield_now();
-        }
-        false
+        reaches(&self.asked, times.wrapping_add(1))
     }
 }

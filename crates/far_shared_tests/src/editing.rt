@@ -1,19 +1,9 @@
 // Edits that are drawn, beside a plain list of what they leave.
-ghost use Rattle.std.specs.Prelude.{◌≡◌};
-
 use crate::bells::Bells;
-use crate::gates::Gated;
-use crate::plans::row_of;
-use crate::scenes::{Left, Reply};
-use crate::serving::{fetch, gauge};
-use far_history::Naming;
+use crate::scenes::{Left, Replied, Reply, Step};
 use far_random::Draws;
-use far_sessions::{Cells, Session};
-use far_shared::{Applied, Shared, Site};
-use far_store::FarStore;
-use far_types::{Cell, Edit, Refusal};
-use std::alloc::{AllocError, Global};
-use std::sync::Wait;
+use far_types::Refusal;
+use std::alloc::Global;
 
 // How often an edit is tried.
 const TRIES: u32 = 100_000;
@@ -49,18 +39,6 @@ fn draw(draws: &mut Draws, places: u32) -> Call {
         Call::Set(place, number)
     } else {
         Call::Remove(place)
-    }
-}
-
-fn edit_of(alloc: Global, call: Call) -> Result<Edit, AllocError> {
-    match call {
-        Call::Insert(number) => Ok(Edit::Insert(row_of(alloc, number)?)),
-        Call::Set(place, number) => Ok(Edit::Set {
-            place,
-            column: 0,
-            cell: Cell::Int(number),
-        }),
-        Call::Remove(place) => Ok(Edit::Remove(place)),
     }
 }
 
@@ -113,37 +91,28 @@ fn left_of(numbers: &[Option<i64>]) -> Left {
     }
 }
 
-// Tries an edit once.
-fn try_edit<N: Naming, B: Site, S: FarStore, R: Wait>(
-    rt: &R,
-    alloc: Global,
-    shared: &Shared<N, B, S>,
-    me: &mut Session<B>,
-    home: u32,
-    call: Call,
-) -> Result<Applied, Refusal> {
-    match edit_of(alloc, call) {
-        Ok(edit) => shared.apply(rt, me, home, edit),
-        Err(_) => Err(Refusal::NoMemory),
+// The call that makes an edit on a stripe.
+fn step_of(home: u32, edit: Call) -> Step {
+    match edit {
+        Call::Insert(number) => Step::Insert(home, number),
+        Call::Set(place, number) => Step::Set(home, place, number),
+        Call::Remove(place) => Step::Remove(home, place),
     }
 }
 
 // Makes an edit, with as many tries as it takes: what is away is brought back.
-fn edit_at_last<N: Naming, B: Site, S: FarStore, R: Wait>(
-    rt: &R,
-    alloc: Global,
-    shared: &Shared<N, B, S>,
-    store: &S,
-    me: &mut Session<B>,
+fn edit_at_last<M, F: Fn(&mut M, Step) -> Replied>(
+    call: &F,
+    me: &mut M,
     home: u32,
-    call: Call,
-) -> Result<Applied, Refusal>
-    requires store { S.name store.now ≡ B.store }
+    step: Step,
+) -> Replied
+    requires { F.IsAlwaysCallable call.now }
 {
     for _ in 0..TRIES {
-        match try_edit(rt, alloc, shared, me, home, call) {
+        match call(me, step) {
             Err(Refusal::Absent { column: _, group }) => {
-                let _reply = fetch(rt, shared, store, home, group);
+                let _reply = call(me, Step::Fetch(home, group));
             }
             reply => return reply,
         }
@@ -151,91 +120,92 @@ fn edit_at_last<N: Naming, B: Site, S: FarStore, R: Wait>(
     Err(Refusal::OutOfRange)
 }
 
-// Makes an edit of the table on the list, which no other session edits.
-fn follow(rows: &mut Rows, call: Call, applied: Applied) -> Result<(), Refusal> {
-    let is_next = applied.number == rows.edits.wrapping_add(1);
-    if is_next && applied.place == place_of(rows, call) && !is_removed(rows, call) {
-        keep(rows, call)
+// Makes an edit that was accepted on the list, which no other session edits.
+fn follow_applied(rows: &mut Rows, edit: Call, number: u64, place: u32) -> Result<(), Refusal> {
+    let is_next = number == rows.edits.wrapping_add(1);
+    if is_next && place == place_of(rows, edit) && !is_removed(rows, edit) {
+        keep(rows, edit)
     } else {
         Err(Refusal::OutOfRange)
     }
 }
 
-// Makes an edit on the table and on the list.
-fn edit_both<N: Naming, B: Site, S: FarStore, R: Wait>(
-    rt: &R,
-    alloc: Global,
-    shared: &Shared<N, B, S>,
-    store: &S,
-    me: &mut Session<B>,
-    home: u32,
-    call: Call,
-    rows: &mut Rows,
-) -> Result<(), Refusal>
-    requires store { S.name store.now ≡ B.store }
-{
-    match edit_at_last(rt, alloc, shared, store, me, home, call) {
-        Ok(applied) => follow(rows, call, applied),
-        Err(Refusal::RemovedRow) if is_removed(rows, call) => Ok(()),
+// Makes an edit of the table on the list, as it was answered.
+fn follow(rows: &mut Rows, edit: Call, reply: Replied) -> Result<(), Refusal> {
+    match reply {
+        Ok(Reply::Applied(number, place)) => follow_applied(rows, edit, number, place),
+        Err(Refusal::RemovedRow) if is_removed(rows, edit) => Ok(()),
+        Ok(_) => Err(Refusal::OutOfRange),
         Err(refusal) => Err(refusal),
     }
 }
 
-// What the edits leave, where the gauge of the stripe says the same.
-fn as_gauged<N: Naming, B: Site, R: Wait>(
-    rt: &R,
-    cells: &Cells<N, B>,
-    me: &mut Session<B>,
+// Makes so many edits on a stripe and on the list.
+fn edit_both<M, F: Fn(&mut M, Step) -> Replied>(
+    call: &F,
+    me: &mut M,
     home: u32,
-    rows: &Rows,
-) -> Result<Left, Refusal> {
+    draws: &mut Draws,
+    rows: &mut Rows,
+    edits: u32,
+) -> Result<(), Refusal>
+    requires { F.IsAlwaysCallable call.now }
+{
+    for _ in 0..edits {
+        let edit = draw(draws, places_in(&rows.numbers));
+        let reply = edit_at_last(call, me, home, step_of(home, edit));
+        if let Err(refusal) = follow(rows, edit, reply) {
+            return Err(refusal);
+        }
+    }
+    Ok(())
+}
+
+// What the edits leave, where the gauge of the stripe says the same.
+fn as_gauged(rows: &Rows, reading: Replied) -> Result<Left, Refusal> {
     let left = left_of(&rows.numbers);
-    let due = Reply::Reading(rows.edits, left.count, left.sum);
-    if gauge(rt, cells, me, home) == Ok(due) {
+    if reading == Ok(Reply::Reading(rows.edits, left.count, left.sum)) {
         Ok(left)
     } else {
         Err(Refusal::OutOfRange)
     }
 }
 
-// Makes so many edits on the session's home stripe.
-fn edit_all<N: Naming, B: Site, S: FarStore, R: Wait>(
-    rt: &R,
-    alloc: Global,
-    shared: &Shared<N, B, S>,
-    store: &S,
-    me: &mut Session<B>,
+// Makes so many edits on a stripe and on a list that is empty.
+fn edit_all<M, F: Fn(&mut M, Step) -> Replied>(
+    call: &F,
+    me: &mut M,
+    number: u64,
+    rows: &mut Rows,
     edits: u32,
 ) -> Result<Left, Refusal>
-    requires store { S.name store.now ≡ B.store }
+    requires { F.IsAlwaysCallable call.now }
 {
-    let home = (me.number() % 4) as u32;
-    let mut draws = Draws::new(me.number());
-    let mut rows = Rows {
-        numbers: Vec::with_capacity(alloc, edits as usize)?,
-        edits: 0,
-    };
-    for _ in 0..edits {
-        let call = draw(&mut draws, places_in(&rows.numbers));
-        edit_both(rt, alloc, shared, store, me, home, call, &mut rows)?;
+    let home = (number % 4) as u32;
+    let mut draws = Draws::new(number);
+    match edit_both(call, me, home, &mut draws, rows, edits) {
+        Ok(()) => as_gauged(rows, call(me, Step::Gauge(home))),
+        Err(refusal) => Err(refusal),
     }
-    as_gauged(rt, shared.cells(), me, home, &rows)
 }
 
-// Makes so many edits on the session's home stripe, which no other session edits, and tells the others that it has ended. Gives what
-// the accepted ones leave by a plain list, which is what the gauge reads.
-pub fn edit_at_random<N: Naming, B: Site, S: FarStore + Gated, R: Wait>(
-    rt: &R,
+// Makes so many edits on the home stripe of the session of this number, which no other session edits, and tells the others that it has
+// ended. Gives what the accepted ones leave by a plain list, which is what the gauge reads.
+pub fn edit_at_random<M, F: Fn(&mut M, Step) -> Replied>(
     alloc: Global,
-    shared: &Shared<N, B, S>,
-    store: &S,
+    call: &F,
+    me: &mut M,
     bells: &Bells,
-    me: &mut Session<B>,
+    number: u64,
     edits: u32,
 ) -> Result<Left, Refusal>
-    requires store { S.name store.now ≡ B.store }
+    requires { F.IsAlwaysCallable call.now }
 {
-    let left = edit_all(rt, alloc, shared, store, me, edits);
+    let mut rows = Rows {
+        numbers: Vec::new(alloc),
+        edits: 0,
+    };
+    let left = edit_all(call, me, number, &mut rows, edits);
     bells.ring();
     left
 }

@@ -1,5 +1,5 @@
 // How a scene ends: the table is closed, first without one of its sessions.
-ghost use Rattle.std.specs.Prelude.{IfOk, IfErr};
+ghost use Rattle.std.specs.Prelude.{IfErr};
 
 use crate::playing::Played;
 use crate::scenes::{End, Left, NO_ROW};
@@ -36,19 +36,30 @@ fn have_left<S: FarTickets>(frames: &Four<Frame<S>>, left: &[Left; 4]) -> bool {
         && has_left(&frames.three, left[3])
 }
 
-// What is said of a result. It knows nothing of what is in it: to take four tables out of a result costs the proof of a function
-// minutes, and here it costs none.
-fn either<T: Drop, E: Drop, F: FnOnce(T) -> bool + Drop, G: FnOnce(E) -> bool + Drop>(
+// Whether it went well, and what came is as it should be. It knows nothing of what came: to take four tables out of a result costs the
+// proof of a function minutes, and here it costs none.
+fn is_ok_and<T: Drop, E: Drop, F: FnOnce(&T) -> bool + Drop>(
     answer: Result<T, E>,
-    of_ok: F,
-    of_err: G,
+    is_right: F,
 ) -> bool
-    requires ok { IfOk answer (λ x. F.pre of_ok x) }
-    requires err { IfErr answer (λ e. G.pre of_err e) }
+    requires { F.IsAlwaysCallable is_right }
 {
     match answer {
-        Ok(value) => of_ok(value),
-        Err(error) => of_err(error),
+        Ok(value) => is_right(&value),
+        Err(_) => false,
+    }
+}
+
+// Whether it was refused, and what came back does as it should. It knows nothing of that either.
+fn is_err_and<T: Drop, E: Drop, F: FnOnce(E) -> bool + Drop>(
+    answer: Result<T, E>,
+    does_right: F,
+) -> bool
+    requires { IfErr answer (F.pre does_right) }
+{
+    match answer {
+        Ok(_) => false,
+        Err(error) => does_right(error),
     }
 }
 
@@ -59,10 +70,9 @@ fn closes<N: Naming, B: Site, S: FarTickets, R: Wait>(
     sessions: Vec<Session<B>>,
     left: &[Left; 4],
 ) -> bool {
-    either(
+    is_ok_and(
         shared.close(rt, sessions),
-        |frames: Four<Frame<S>>| -> bool { have_left(&frames, left) },
-        |_refused: Refused<N, B, S>| -> bool { false },
+        |frames: &Four<Frame<S>>| -> bool { have_left(frames, left) },
     )
 }
 
@@ -80,12 +90,10 @@ fn closes_again<N: Naming, B: Site, S: FarTickets, R: Wait>(
     left: &[Left; 4],
 ) -> bool {
     let (refusal, shared, sessions) = refused;
-    let is_closed = either(
-        with_last(sessions, last),
-        |sessions: Vec<Session<B>>| -> bool { closes(rt, shared, sessions, left) },
-        |_error: AllocError| -> bool { false },
-    );
-    is_closed && refusal == Refusal::OutOfRange
+    let is_closed = with_last(sessions, last).map(|sessions: Vec<Session<B>>| -> bool {
+        closes(rt, shared, sessions, left)
+    });
+    is_closed.unwrap_or(false) && refusal == Refusal::OutOfRange
 }
 
 // Whether a shared table comes back with its sessions where one is missing, and is closed when it is there again.
@@ -99,9 +107,8 @@ fn closes_with_all<N: Naming, B: Site, S: FarTickets, R: Wait>(
         last,
         left,
     } = finale;
-    either(
+    is_err_and(
         shared.close(rt, sessions),
-        |_frames: Four<Frame<S>>| -> bool { false },
         |refused: Refused<N, B, S>| -> bool { closes_again(rt, refused, last, &left) },
     )
 }
@@ -112,10 +119,7 @@ pub fn ends<N: Naming, B: Site, S: FarTickets, R: Wait>(
     shared: Shared<N, B, S>,
     finale: Result<Finale<Session<B>>, Refusal>,
 ) -> Result<bool, Refusal> {
-    match finale {
-        Ok(finale) => Ok(closes_with_all(rt, shared, finale)),
-        Err(refusal) => Err(refusal),
-    }
+    finale.map(|finale: Finale<Session<B>>| -> bool { closes_with_all(rt, shared, finale) })
 }
 
 // What four sessions at least say that they left, in order.
@@ -158,15 +162,8 @@ fn sessions_of<P: Drop>(alloc: Global, played: Vec<Played<P>>) -> Result<Vec<P>,
     Ok(sessions)
 }
 
-// What comes at the end of a scene, once all roles came out.
-pub fn finale_of<P: Drop>(
-    alloc: Global,
-    played: Vec<Played<P>>,
-    end: End,
-) -> Result<Finale<P>, Refusal> {
-    all_came_out(&played)?;
-    let left = due_of(&played, end);
-    let mut sessions = sessions_of(alloc, played)?;
+// These sessions, of which the last is apart.
+fn parted<P: Drop>(mut sessions: Vec<P>, left: [Left; 4]) -> Result<Finale<P>, Refusal> {
     match sessions.pop() {
         Some(last) => Ok(Finale {
             sessions,
@@ -175,4 +172,16 @@ pub fn finale_of<P: Drop>(
         }),
         None => Err(Refusal::OutOfRange),
     }
+}
+
+// What comes at the end of a scene. Refused as the first session is whose role did not come out.
+pub fn finale_of<P: Drop>(
+    alloc: Global,
+    played: Vec<Played<P>>,
+    end: End,
+) -> Result<Finale<P>, Refusal> {
+    all_came_out(&played)?;
+    let left = due_of(&played, end);
+    let sessions = sessions_of(alloc, played)?;
+    parted(sessions, left)
 }

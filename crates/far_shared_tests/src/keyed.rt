@@ -1,133 +1,112 @@
 // Rows of two keys on two stripes, and an answer over both.
 use crate::bells::Bells;
-use crate::plans::{all_numbers, keyed_row};
-use far_history::Naming;
-use far_sessions::Session;
-use far_shared::{Shared, Site};
-use far_store::FarTickets;
-use far_types::{Answer, Edit, Fold, Key, Refusal};
-use std::alloc::Global;
-use std::sync::Wait;
+use crate::scenes::{Letter, Replied, Reply, Step};
+use far_types::Refusal;
 
 // How many answers are asked for at most.
 const ANSWERS: u32 = 10_000_000;
 
-// Inserts a row of a key on a stripe.
-fn insert_keyed<N: Naming, B: Site, S: FarTickets, R: Wait>(
-    rt: &R,
-    alloc: Global,
-    shared: &Shared<N, B, S>,
-    me: &mut Session<B>,
-    stripe: u32,
-    key: &str,
-) -> Result<(), Refusal> {
-    let row = keyed_row(alloc, 1, key)?;
-    match shared.apply(rt, me, stripe, Edit::Insert(row)) {
-        Ok(_) => Ok(()),
+// Inserts a row of the first key on stripe 0, and then one of the second on stripe 1.
+fn insert_both<M, F: Fn(&mut M, Step) -> Replied>(call: &F, me: &mut M) -> Replied
+    requires { F.IsAlwaysCallable call.now }
+{
+    match call(me, Step::InsertKeyed(0, Letter::P)) {
+        Ok(_) => call(me, Step::InsertKeyed(1, Letter::Q)),
         Err(refusal) => Err(refusal),
     }
 }
 
-// Inserts a row of the first key on stripe 0, and then one of the second on stripe 1. Says whether an answer was asked for meanwhile.
-fn insert_pair<N: Naming, B: Site, S: FarTickets, R: Wait>(
-    rt: &R,
-    alloc: Global,
-    shared: &Shared<N, B, S>,
+// Inserts so many pairs. Says whether an answer was asked for while each was inserted or after.
+fn insert_all<M, F: Fn(&mut M, Step) -> Replied>(
+    call: &F,
+    me: &mut M,
     bells: &Bells,
-    me: &mut Session<B>,
-) -> Result<bool, Refusal> {
-    let asked = bells.asked();
-    insert_keyed(rt, alloc, shared, me, 0, "p")?;
-    insert_keyed(rt, alloc, shared, me, 1, "q")?;
-    Ok(bells.awaits_asking(asked))
-}
-
-// Inserts so many pairs.
-fn insert_all<N: Naming, B: Site, S: FarTickets, R: Wait>(
-    rt: &R,
-    alloc: Global,
-    shared: &Shared<N, B, S>,
-    bells: &Bells,
-    me: &mut Session<B>,
     pairs: u32,
-) -> Result<bool, Refusal> {
+) -> Result<bool, Refusal>
+    requires { F.IsAlwaysCallable call.now }
+{
     for _ in 0..pairs {
-        if !insert_pair(rt, alloc, shared, bells, me)? {
+        let asked = bells.asked();
+        if let Err(refusal) = insert_both(call, me) {
+            return Err(refusal);
+        }
+        if !bells.awaits_asking(asked) {
             return Ok(false);
         }
     }
     Ok(true)
 }
 
+// What inserting so many pairs says, where the aggregate was registered as the first.
+fn if_first(registered: Replied, is_answered: Result<bool, Refusal>) -> Result<bool, Refusal> {
+    match registered {
+        Ok(Reply::Number(1)) => is_answered,
+        Ok(_) => Ok(false),
+        Err(refusal) => Err(refusal),
+    }
+}
+
 // Registers totals by key, tells the others, inserts so many pairs, and tells the others again.
-pub fn insert_pairs<N: Naming, B: Site, S: FarTickets, R: Wait>(
-    rt: &R,
-    alloc: Global,
-    shared: &Shared<N, B, S>,
+pub fn insert_pairs<M, F: Fn(&mut M, Step) -> Replied>(
+    call: &F,
+    me: &mut M,
     bells: &Bells,
-    me: &mut Session<B>,
     pairs: u32,
-) -> Result<bool, Refusal> {
-    let a = shared.watch_all(rt, all_numbers(alloc, Fold::Totals, Some(1)))?;
+) -> Result<bool, Refusal>
+    requires { F.IsAlwaysCallable call.now }
+{
+    let registered = call(me, Step::WatchByKey);
     bells.ring();
-    let is_answered = insert_all(rt, alloc, shared, bells, me, pairs);
+    let is_answered = insert_all(call, me, bells, pairs);
     bells.ring();
-    if a == 1 { is_answered } else { Ok(false) }
+    if_first(registered, is_answered)
 }
 
-fn is_key(key: &Option<Key>, letters: &str) -> bool {
-    match key {
-        Some(Key::Text(text)) => text.as_str() == letters,
-        _ => false,
-    }
-}
-
-// How many rows an answer counts under a key.
-fn count_under(answer: &Answer, letters: &str) -> u64 {
-    let Answer::Totals(lines) = answer else {
-        return 0;
-    };
-    for line in lines.as_slice() {
-        if is_key(&line.0, letters) {
-            return line.1;
+// Whether an answer has no second row of a pair without the first, and at most one first row without its second; and, if it is the
+// last, whether it has all.
+fn is_right(reply: Replied, is_last: bool, pairs: u32) -> Result<bool, Refusal> {
+    match reply {
+        Ok(Reply::Pairs(first, second)) => {
+            let has_all = first == u64::from(pairs) && second == first;
+            Ok(first.wrapping_sub(second) <= 1 && (has_all || !is_last))
         }
+        Ok(_) => Err(Refusal::OutOfRange),
+        Err(refusal) => Err(refusal),
     }
-    0
 }
 
-// How many rows of both keys an answer counts.
-fn counts_now<N: Naming, B: Site, S: FarTickets, R: Wait>(
-    rt: &R,
-    shared: &Shared<N, B, S>,
-    bells: &Bells,
-) -> Result<(u64, u64), Refusal> {
-    bells.ask();
-    let answer = shared.ask_all(rt, 1);
-    answer.map(|answer: Answer| -> (u64, u64) {
-        (count_under(&answer, "p"), count_under(&answer, "q"))
-    })
-}
-
-// Asks for the totals by key until so many pairs are inserted. Says whether no answer had a second row of a pair without the first,
-// and none had more than one first row without its second; and whether the last has all.
-pub fn ask_pairs<N: Naming, B: Site, S: FarTickets, R: Wait>(
-    rt: &R,
-    shared: &Shared<N, B, S>,
+// Asks for the totals by key until so many pairs are inserted. Says whether each answer was right.
+fn ask_until<M, F: Fn(&mut M, Step) -> Replied>(
+    call: &F,
+    me: &mut M,
     bells: &Bells,
     pairs: u32,
-) -> Result<bool, Refusal> {
-    if !bells.awaits(1) {
-        return Ok(false);
-    }
+) -> Result<bool, Refusal>
+    requires { F.IsAlwaysCallable call.now }
+{
     for _ in 0..ANSWERS {
-        let has_ended = bells.has_rung(2);
-        let (first, second) = counts_now(rt, shared, bells)?;
-        if first.wrapping_sub(second) > 1 {
-            return Ok(false);
-        }
-        if has_ended {
-            return Ok(first == u64::from(pairs) && second == first);
+        let is_last = bells.has_rung(2);
+        bells.ask();
+        let answer = is_right(call(me, Step::AskByKey(1)), is_last, pairs);
+        if is_last || answer != Ok(true) {
+            return answer;
         }
     }
     Ok(false)
+}
+
+// The same once the totals are registered.
+pub fn ask_pairs<M, F: Fn(&mut M, Step) -> Replied>(
+    call: &F,
+    me: &mut M,
+    bells: &Bells,
+    pairs: u32,
+) -> Result<bool, Refusal>
+    requires { F.IsAlwaysCallable call.now }
+{
+    if bells.awaits(1) {
+        ask_until(call, me, bells, pairs)
+    } else {
+        Ok(false)
+    }
 }

@@ -13,7 +13,13 @@ mod examples;
 #[cfg(test)]
 mod gates;
 #[cfg(test)]
+mod hand;
+#[cfg(test)]
 mod keyed;
+#[cfg(test)]
+mod lines;
+#[cfg(test)]
+mod looking;
 #[cfg(test)]
 mod opening;
 #[cfg(test)]
@@ -22,6 +28,10 @@ mod plans;
 mod playing;
 #[cfg(test)]
 mod refusals;
+#[cfg(test)]
+mod replies;
+#[cfg(test)]
+mod roles;
 #[cfg(test)]
 mod scenes;
 #[cfg(test)]

@@ -1,5 +1,5 @@
 // What the tables of scenes are made for.
-use crate::scenes::Table;
+use crate::scenes::{Letter, Table};
 use far_shared::Plan;
 use far_types::{Cell, Filter, Fold, Kind, Limits, Op, Refusal, Row, Schema, Spec, Test, Text};
 use std::alloc::{AllocError, Global};
@@ -88,9 +88,9 @@ pub fn row_of(alloc: Global, number: i64) -> Result<Row, AllocError> {
     Ok(Row::new(Vec::from_array(alloc, [Cell::Int(number)])?))
 }
 
-// The row of a number and a key.
-pub fn keyed_row(alloc: Global, number: i64, key: &str) -> Result<Row, AllocError> {
-    let text = Text::new(String::from_str(alloc, key)?);
-    let cells = [Cell::Int(number), Cell::Text(text)];
+// The row of the number 1 and a key.
+pub fn keyed_row(alloc: Global, key: Letter) -> Result<Row, AllocError> {
+    let text = Text::new(String::from_str(alloc, key.text())?);
+    let cells = [Cell::Int(1), Cell::Text(text)];
     Ok(Row::new(Vec::from_array(alloc, cells)?))
 }

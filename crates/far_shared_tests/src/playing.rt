@@ -2,13 +2,11 @@
 ghost use Rattle.std.specs.Prelude.{◌≡◌};
 
 use crate::bells::Bells;
-use crate::editing::edit_at_random;
 use crate::ending::{Finale, finale_of};
 use crate::gates::Gated;
-use crate::keyed::{ask_pairs, insert_pairs};
-use crate::scenes::{End, Left, Line, NO_ROW, Replied, Role, Scene, Step};
+use crate::roles::{Stage, play_role};
+use crate::scenes::{End, Left, Replied, Scene, Step};
 use crate::serving::serve;
-use crate::working::{read_beside, work_beside};
 use far_history::Naming;
 use far_sessions::Session;
 use far_shared::{Shared, Site};
@@ -26,102 +24,31 @@ pub struct Played<P> {
     pub left: Result<Left, Refusal>,
 }
 
-// What all sessions of a scene have beside the table and its store.
-#[derive(Drop)]
-struct Stage {
-    alloc: Global,
-    bells: Bells,
-    scene: Scene,
-}
-
-// What a call answers, made a second time where the first found no memory.
-fn serve_at_last<
+// Plays the role of a session, which its player knows by the answers to its calls.
+fn play_as<
     N: Naming + Send + Sync,
     B: Site + Send + Sync,
     S: FarStore + Gated,
     R: Threads + Wait + Sync,
 >(
     rt: &R,
-    alloc: Global,
     shared: &Shared<N, B, S>,
     store: &S,
-    bells: &Bells,
+    stage: &Stage,
     me: &mut Session<B>,
-    step: Step,
-) -> Replied
-    requires store { S.name store.now ≡ B.store }
-{
-    match serve(rt, alloc, shared, store, bells, me, step) {
-        Err(Refusal::NoMemory) => serve(rt, alloc, shared, store, bells, me, step),
-        reply => reply,
-    }
-}
-
-// Whether calls are answered as is due, one after another.
-fn play_lines<
-    N: Naming + Send + Sync,
-    B: Site + Send + Sync,
-    S: FarStore + Gated,
-    R: Threads + Wait + Sync,
->(
-    rt: &R,
-    alloc: Global,
-    shared: &Shared<N, B, S>,
-    store: &S,
-    bells: &Bells,
-    me: &mut Session<B>,
-    lines: &[Line],
-) -> bool
-    requires store { S.name store.now ≡ B.store }
-{
-    let mut all = true;
-    for line in lines {
-        all &= serve_at_last(rt, alloc, shared, store, bells, me, line.0) == line.1;
-    }
-    all
-}
-
-// What a session leaves on its home stripe. Refused with `OutOfRange` where its role does not come out.
-fn play_role<
-    N: Naming + Send + Sync,
-    B: Site + Send + Sync,
-    S: FarStore + Gated,
-    R: Threads + Wait + Sync,
->(
-    rt: &R,
-    alloc: Global,
-    shared: &Shared<N, B, S>,
-    store: &S,
-    bells: &Bells,
-    me: &mut Session<B>,
-    role: Role,
+    number: u64,
 ) -> Result<Left, Refusal>
     requires store { S.name store.now ≡ B.store }
 {
-    let is_right = match role {
-        Role::Plays(lines) => Ok(play_lines(rt, alloc, shared, store, bells, me, lines)),
-        Role::Edits(edits) => return edit_at_random(rt, alloc, shared, store, bells, me, edits),
-        Role::Works(until) => work_beside(rt, alloc, shared, store, bells, me, until),
-        Role::Reads(until) => read_beside(rt, shared.cells(), bells, me, until),
-        Role::InsertsPairs(pairs) => insert_pairs(rt, alloc, shared, bells, me, pairs),
-        Role::AsksPairs(pairs) => ask_pairs(rt, shared, bells, pairs),
-    };
-    match is_right {
-        Ok(true) => Ok(NO_ROW),
-        Ok(false) => Err(Refusal::OutOfRange),
-        Err(refusal) => Err(refusal),
-    }
+    let alloc = stage.alloc;
+    let bells = &stage.bells;
+    let call = |me: &mut Session<B>, step: Step| -> Replied
+        requires { S.name store.now ≡ B.store }
+    { serve(rt, alloc, shared, store, bells, me, step) };
+    play_role(stage, &call, me, number)
 }
 
-// The role of a session.
-fn role_of(scene: &Scene, number: u64) -> Role {
-    match scene.roles.get(number as usize) {
-        Some(role) => *role,
-        None => Role::Plays(&[]),
-    }
-}
-
-// Plays the role of a session.
+// The same of a session that is handed on.
 fn play<
     N: Naming + Send + Sync,
     B: Site + Send + Sync,
@@ -136,8 +63,8 @@ fn play<
 ) -> Played<Session<B>>
     requires store { S.name store.now ≡ B.store }
 {
-    let role = role_of(&stage.scene, me.number());
-    let left = play_role(rt, stage.alloc, shared, store, &stage.bells, &mut me, role);
+    let number = me.number();
+    let left = play_as(rt, shared, store, stage, &mut me, number);
     Played { session: me, left }
 }
 
@@ -168,7 +95,10 @@ fn ended<P: Drop>(
     played: Result<Vec<Played<P>>, AllocError>,
     end: End,
 ) -> Result<Finale<P>, Refusal> {
-    finale_of(alloc, played?, end)
+    match played {
+        Ok(played) => finale_of(alloc, played, end),
+        Err(_) => Err(Refusal::NoMemory),
+    }
 }
 
 // Plays the roles of all sessions.

@@ -24,13 +24,47 @@ pub enum Gate {
     Paired,
 }
 
-// One call of a session.
+// The text of a key.
+#[derive(Clone, Copy)]
+pub enum Letter {
+    P,
+    Q,
+}
+
+impl Letter {
+    // The text.
+    pub fn text(self) -> &'static str {
+        match self {
+            Letter::P => "p",
+            Letter::Q => "q",
+        }
+    }
+}
+
+// A list of works.
+#[derive(Clone, Copy)]
+pub enum Works {
+    // Each of two threads is given one stripe.
+    Eight,
+    // One of each of the first two stripes.
+    Two,
+    // The numbers of stripe 1 are brought back.
+    Fetch,
+    // Stripe 1 is built.
+    Build,
+    // A fifth stripe, a column that is not there, and nothing to build.
+    Refused,
+}
+
+// One call of a session. It holds no reference: else what plays calls could not be kept apart from the table.
 #[derive(Clone, Copy)]
 pub enum Step {
     // Reads the gauge of a stripe.
     Gauge(u32),
     // Inserts a row of this number on a stripe.
     Insert(u32, i64),
+    // Inserts a row of the number 1 and this key on a stripe.
+    InsertKeyed(u32, Letter),
     // Sets the number of a place of a stripe.
     Set(u32, u32, i64),
     // Removes a place of a stripe.
@@ -39,18 +73,24 @@ pub enum Step {
     Lend(u32),
     // Registers the extrema of the numbers on all stripes.
     Watch,
+    // Registers the totals of the numbers on all stripes.
+    WatchTotals,
+    // Registers the totals of the numbers by key on all stripes.
+    WatchByKey,
     // Asks an aggregate over all stripes.
     Ask(u32),
+    // Asks an aggregate by key over all stripes.
+    AskByKey(u32),
     // Sends the coldest object of a stripe away.
     Evacuate(u32),
-    // Brings the numbers of a stripe's first row group back.
-    Fetch(u32),
+    // Brings the numbers of a row group of a stripe back.
+    Fetch(u32, u32),
     // Builds a row group that is left on a stripe.
     Build(u32),
     // Begins a work, carries its job and ends it.
     ByHand(Work),
     // Lets so many threads do these works.
-    Run(u32, &'static [Work]),
+    Run(u32, Works),
     // Waits until a put has come to the gate.
     AwaitPut,
     // Opens the gate.
@@ -84,6 +124,8 @@ pub enum Reply {
     Lent(i64),
     // The count and the sum of an answer's first line.
     Totals(u64, i128),
+    // How many rows an answer counts under each key.
+    Pairs(u64, u64),
     // The least and the greatest value of an answer's first line.
     Extrema(i64, i64),
 }
@@ -175,6 +217,8 @@ pub enum End {
 // A scene: as many sessions as roles play on a table.
 #[derive(Clone, Copy)]
 pub struct Scene {
+    // What it shows.
+    pub name: &'static str,
     pub table: Table,
     pub gate: Gate,
     pub roles: &'static [Role],

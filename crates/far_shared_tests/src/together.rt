@@ -2,8 +2,9 @@
 use crate::opening::comes_out;
 use crate::scenes::{End, Gate, Left, NO_ROW, Role, Scene, Table};
 
-// Four sessions edit, one works beside them, and one reads the gauges.
+// Four sessions edit, one works beside them, and two read the gauges.
 static EDITED: Scene = Scene {
+    name: "the_totals_are_those_of_the_accepted_edits_whatever_moves_meanwhile",
     table: Table::Numbers,
     gate: Gate::Open,
     roles: &[
@@ -12,6 +13,7 @@ static EDITED: Scene = Scene {
         Role::Edits(10_000),
         Role::Edits(10_000),
         Role::Works(4),
+        Role::Reads(4),
         Role::Reads(4),
     ],
     end: End::LeavesWhatIsTold,
@@ -29,6 +31,7 @@ fn the_totals_are_those_of_the_accepted_edits_whatever_moves_meanwhile(rt: HostR
 
 // One session inserts pairs of rows, and one asks.
 static PAIRS: Scene = Scene {
+    name: "an_answer_over_all_stripes_never_shows_a_later_row_without_the_earlier",
     table: Table::NumbersWithTexts,
     gate: Gate::Open,
     roles: &[Role::InsertsPairs(100), Role::AsksPairs(100)],

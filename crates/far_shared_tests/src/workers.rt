@@ -1,9 +1,10 @@
 // Works that several threads do.
 ghost use Rattle.std.specs.Prelude.{◌≡◌};
 
-use crate::opening::comes_out;
+use crate::opening::first_wrong;
+use crate::replies::worked;
 use crate::scenes::{
-    AWAY, End, FIRST, Gate, NO_ROW, ROW_OF_5, Replied, Reply, Role, Scene, Step, Table,
+    AWAY, End, FIRST, Gate, NO_ROW, ROW_OF_5, Replied, Reply, Role, Scene, Step, Table, Works,
 };
 use far_history::Naming;
 use far_shared::{Background, Shared, Site, Work};
@@ -12,6 +13,36 @@ use far_types::{Name, Refusal};
 use std::alloc::{AllocError, Global};
 use std::sync::Wait;
 use std::thread::Threads;
+
+// The works of a list.
+fn works_in(list: Works) -> &'static [Work] {
+    match list {
+        Works::Eight => &[
+            Work::Evacuate(0),
+            Work::Evacuate(0),
+            Work::Evacuate(0),
+            Work::Evacuate(0),
+            Work::Evacuate(1),
+            Work::Evacuate(1),
+            Work::Evacuate(1),
+            Work::Evacuate(1),
+        ],
+        Works::Two => &[Work::Evacuate(0), Work::Evacuate(1)],
+        Works::Fetch => &[Work::Fetch(1, FIRST)],
+        Works::Build => &[Work::Build(1)],
+        Works::Refused => &[
+            Work::Evacuate(4),
+            Work::Fetch(0, SECOND_COLUMN),
+            Work::Build(3),
+        ],
+    }
+}
+
+// The numbers of a second column.
+const SECOND_COLUMN: Name = Name {
+    column: 1,
+    group: 0,
+};
 
 // A list of these works.
 fn list_of(alloc: Global, works: &[Work]) -> Result<Vec<Work>, AllocError> {
@@ -29,109 +60,67 @@ pub fn run<N: Naming + Send + Sync, B: Site + Send + Sync, S: FarStore, R: Threa
     shared: &Shared<N, B, S>,
     store: &S,
     workers: u32,
-    works: &[Work],
+    works: Works,
 ) -> Replied
     requires store { S.name store.now ≡ B.store }
 {
-    let works = list_of(alloc, works)?;
-    match Background::run(rt, shared, store, workers, works) {
-        Ok(report) => Ok(Reply::Worked(report.done, report.refused)),
-        Err(refusal) => Err(refusal),
+    match list_of(alloc, works_in(works)) {
+        Ok(list) => worked(Background::run(rt, shared, store, workers, list)),
+        Err(_) => Err(Refusal::NoMemory),
     }
 }
 
-// Each of two threads is given one stripe.
-const EIGHT: &[Work] = &[
-    Work::Evacuate(0),
-    Work::Evacuate(0),
-    Work::Evacuate(0),
-    Work::Evacuate(0),
-    Work::Evacuate(1),
-    Work::Evacuate(1),
-    Work::Evacuate(1),
-    Work::Evacuate(1),
+static WORKS: &[Scene] = &[
+    Scene {
+        name: "workers_send_objects_away_and_no_row_changes",
+        table: Table::Numbers,
+        gate: Gate::Open,
+        roles: &[Role::Plays(&[
+            (Step::Insert(0, 5), Ok(Reply::Applied(1, 0))),
+            (Step::Insert(1, 5), Ok(Reply::Applied(1, 0))),
+            (Step::Ask(0), Ok(Reply::Totals(2, 10))),
+            (Step::Run(0, Works::Eight), Err(Refusal::OutOfRange)),
+            (Step::Run(9, Works::Eight), Err(Refusal::OutOfRange)),
+            (Step::Lend(0), Ok(Reply::Lent(5))),
+            (Step::Run(2, Works::Eight), Ok(Reply::Worked(8, 0))),
+            (Step::Lend(0), Err(AWAY)),
+            (Step::Lend(1), Err(AWAY)),
+            (Step::Ask(0), Ok(Reply::Totals(2, 10))),
+            (Step::Run(1, Works::Fetch), Ok(Reply::Worked(1, 0))),
+            (Step::Lend(1), Ok(Reply::Lent(5))),
+            (Step::Lend(0), Err(AWAY)),
+            (Step::Watch, Ok(Reply::Number(1))),
+            (Step::Run(1, Works::Build), Ok(Reply::Worked(1, 0))),
+            (Step::Build(1), Ok(Reply::Nothing)),
+            (Step::Ask(1), Err(Refusal::Building(1))),
+        ])],
+        end: End::Leaves(&[ROW_OF_5, ROW_OF_5, NO_ROW, NO_ROW]),
+    },
+    // The put of the one worker is held until that of the other begins.
+    Scene {
+        name: "two_workers_put_at_once",
+        table: Table::Numbers,
+        gate: Gate::Paired,
+        roles: &[Role::Plays(&[
+            (Step::Insert(0, 5), Ok(Reply::Applied(1, 0))),
+            (Step::Insert(1, 5), Ok(Reply::Applied(1, 0))),
+            (Step::Run(2, Works::Two), Ok(Reply::Worked(2, 0))),
+            (Step::Set(0, 0, 1), Err(AWAY)),
+            (Step::Set(1, 0, 1), Err(AWAY)),
+        ])],
+        end: End::Leaves(&[ROW_OF_5, ROW_OF_5, NO_ROW, NO_ROW]),
+    },
+    // A fifth stripe, a column that is not there, and nothing to build.
+    Scene {
+        name: "a_report_counts_what_was_refused",
+        table: Table::Numbers,
+        gate: Gate::Open,
+        roles: &[Role::Plays(&[(Step::Run(8, Works::Refused), Ok(Reply::Worked(1, 2)))])],
+        end: End::Leaves(&[NO_ROW; 4]),
+    },
 ];
 
-static SENT_AWAY: Scene = Scene {
-    table: Table::Numbers,
-    gate: Gate::Open,
-    roles: &[Role::Plays(&[
-        (Step::Insert(0, 5), Ok(Reply::Applied(1, 0))),
-        (Step::Insert(1, 5), Ok(Reply::Applied(1, 0))),
-        (Step::Ask(0), Ok(Reply::Totals(2, 10))),
-        (Step::Run(0, EIGHT), Err(Refusal::OutOfRange)),
-        (Step::Run(9, EIGHT), Err(Refusal::OutOfRange)),
-        (Step::Lend(0), Ok(Reply::Lent(5))),
-        (Step::Run(2, EIGHT), Ok(Reply::Worked(8, 0))),
-        (Step::Lend(0), Err(AWAY)),
-        (Step::Lend(1), Err(AWAY)),
-        (Step::Ask(0), Ok(Reply::Totals(2, 10))),
-        (
-            Step::Run(1, &[Work::Fetch(1, FIRST)]),
-            Ok(Reply::Worked(1, 0)),
-        ),
-        (Step::Lend(1), Ok(Reply::Lent(5))),
-        (Step::Lend(0), Err(AWAY)),
-        (Step::Watch, Ok(Reply::Number(1))),
-        (Step::Run(1, &[Work::Build(1)]), Ok(Reply::Worked(1, 0))),
-        (Step::Build(1), Ok(Reply::Nothing)),
-        (Step::Ask(1), Err(Refusal::Building(1))),
-    ])],
-    end: End::Leaves(&[ROW_OF_5, ROW_OF_5, NO_ROW, NO_ROW]),
-};
-
 #[test]
-fn workers_send_objects_away_and_no_row_changes(rt: HostRuntime) {
-    assert!(rt; comes_out(&rt, rt.alloc(), &SENT_AWAY));
-}
-
-// The put of the one worker is held until that of the other begins.
-static AT_ONCE: Scene = Scene {
-    table: Table::Numbers,
-    gate: Gate::Paired,
-    roles: &[Role::Plays(&[
-        (Step::Insert(0, 5), Ok(Reply::Applied(1, 0))),
-        (Step::Insert(1, 5), Ok(Reply::Applied(1, 0))),
-        (
-            Step::Run(2, &[Work::Evacuate(0), Work::Evacuate(1)]),
-            Ok(Reply::Worked(2, 0)),
-        ),
-        (Step::Set(0, 0, 1), Err(AWAY)),
-        (Step::Set(1, 0, 1), Err(AWAY)),
-    ])],
-    end: End::Leaves(&[ROW_OF_5, ROW_OF_5, NO_ROW, NO_ROW]),
-};
-
-#[test]
-fn two_workers_put_at_once(rt: HostRuntime) {
-    assert!(rt; comes_out(&rt, rt.alloc(), &AT_ONCE));
-}
-
-// A fifth stripe, a column that is not there, and nothing to build.
-static REFUSED: Scene = Scene {
-    table: Table::Numbers,
-    gate: Gate::Open,
-    roles: &[Role::Plays(&[(
-        Step::Run(
-            8,
-            &[
-                Work::Evacuate(4),
-                Work::Fetch(
-                    0,
-                    Name {
-                        column: 1,
-                        group: 0,
-                    },
-                ),
-                Work::Build(3),
-            ],
-        ),
-        Ok(Reply::Worked(1, 2)),
-    )])],
-    end: End::Leaves(&[NO_ROW; 4]),
-};
-
-#[test]
-fn a_report_counts_what_was_refused(rt: HostRuntime) {
-    assert!(rt; comes_out(&rt, rt.alloc(), &REFUSED));
+fn works_of_several_threads_are_done(rt: HostRuntime) {
+    assert_eq!(rt; first_wrong(&rt, rt.alloc(), WORKS), "");
 }

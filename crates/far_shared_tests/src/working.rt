@@ -1,17 +1,8 @@
 // What is done beside sessions that edit: objects move, aggregates are registered and built, gauges are read.
-ghost use Rattle.std.specs.Prelude.{◌≡◌};
-
 use crate::bells::Bells;
-use crate::gates::Gated;
-use crate::scenes::{Replied, Reply};
-use crate::serving::{ask, build, complete_work, evacuate, watch};
-use far_history::{Naming, Reading};
-use far_sessions::{Cells, Session};
-use far_shared::{Shared, Site, Work};
-use far_store::{FarStore, FarTickets};
-use far_types::{Fold, Refusal};
-use std::alloc::Global;
-use std::sync::Wait;
+use crate::scenes::{Replied, Reply, Step};
+use far_shared::Work;
+use far_types::Refusal;
 use std::thread;
 
 // How many turns a session takes at most beside others.
@@ -25,6 +16,13 @@ const AGGREGATES: u32 = 4;
 
 const EDITS_BETWEEN: u64 = 2_000;
 
+// How many turns a worker has taken, and how many aggregates it has registered.
+#[derive(Clone, Copy)]
+struct Worked {
+    turns: u32,
+    registered: u32,
+}
+
 // Whether a work beside other sessions may answer so. It may be overtaken.
 fn may_answer(reply: Replied) -> Result<(), Refusal> {
     match reply {
@@ -34,94 +32,99 @@ fn may_answer(reply: Replied) -> Result<(), Refusal> {
     }
 }
 
-// Sends an object of a stripe away, and builds a row group that is left there, in turn as `build_once` does and by the far store.
-fn work_once<N: Naming, B: Site, S: FarStore, R: Wait>(
-    rt: &R,
-    alloc: Global,
-    shared: &Shared<N, B, S>,
-    store: &S,
-    turn: u32,
-) -> Result<(), Refusal>
-    requires store { S.name store.now ≡ B.store }
-{
-    let stripe = turn % 4;
-    may_answer(evacuate(rt, shared, store, stripe))?;
-    let reply = if turn % 8 < 4 {
-        build(rt, shared, store, stripe)
-    } else {
-        complete_work(rt, alloc, shared, store, Work::Build(stripe))
-    };
-    may_answer(reply)
+// How many edits a reading has.
+fn edits_in(reply: Replied) -> u64 {
+    match reply {
+        Ok(Reply::Reading(edits, _, _)) => edits,
+        _ => 0,
+    }
 }
 
-// Registers totals of all numbers on all stripes.
-fn register<N: Naming, B: Site, S: FarTickets, R: Wait>(
-    rt: &R,
-    alloc: Global,
-    shared: &Shared<N, B, S>,
-) -> Result<(), Refusal> {
-    match watch(rt, alloc, shared, Fold::Totals) {
-        Ok(_) => Ok(()),
+// Whether a worker has taken its eight turns to each edit.
+fn is_ahead(worked: Worked, edits: u64) -> bool {
+    u64::from(worked.turns) >= edits.saturating_mul(8)
+}
+
+// Whether one more aggregate is to be registered after so many edits.
+fn is_due(worked: Worked, edits: u64) -> bool {
+    worked.registered < AGGREGATES && edits / EDITS_BETWEEN > u64::from(worked.registered)
+}
+
+// What a worker does in a turn: it sends an object of a stripe away, and then builds a row group that is left there, in turn as
+// `build_once` does and by the far store.
+fn step_at(turn: u32) -> Step {
+    let stripe = turn / 2 % 4;
+    if turn % 2 == 0 {
+        Step::Evacuate(stripe)
+    } else if turn % 16 < 8 {
+        Step::Build(stripe)
+    } else {
+        Step::ByHand(Work::Build(stripe))
+    }
+}
+
+// What is done next.
+fn next_step(worked: Worked, edits: u64) -> Step {
+    if is_due(worked, edits) {
+        Step::WatchTotals
+    } else {
+        step_at(worked.turns)
+    }
+}
+
+// What a worker has done after its next step, which is answered so.
+fn after(worked: Worked, edits: u64, reply: Replied) -> Result<Worked, Refusal> {
+    let registers = u32::from(is_due(worked, edits));
+    let next = Worked {
+        turns: worked.turns.wrapping_add(1 - registers),
+        registered: worked.registered.wrapping_add(registers),
+    };
+    match may_answer(reply) {
+        Ok(()) => Ok(next),
         Err(refusal) => Err(refusal),
     }
 }
 
-// How many edits the first stripe has.
-fn edits_so_far<N: Naming, B: Site, R: Wait>(
-    rt: &R,
-    cells: &Cells<N, B>,
-    me: &mut Session<B>,
-) -> u64 {
-    match cells.gauge(rt, me, 0) {
-        Ok(reading) => reading.edits,
-        Err(_) => 0,
-    }
-}
-
-// Works until so many sessions have ended, four turns to an edit of the first stripe. Gives how many aggregates it has registered.
-fn work_until<N: Naming, B: Site, S: FarStore, R: Wait>(
-    rt: &R,
-    alloc: Global,
-    shared: &Shared<N, B, S>,
-    store: &S,
+// Works until so many sessions have ended. Gives how many aggregates it has registered.
+fn work_until<M, F: Fn(&mut M, Step) -> Replied>(
+    call: &F,
+    me: &mut M,
     bells: &Bells,
-    me: &mut Session<B>,
     until: u64,
 ) -> Result<u32, Refusal>
-    requires store { S.name store.now ≡ B.store }
+    requires { F.IsAlwaysCallable call.now }
 {
-    let mut registered = 0u32;
-    let mut turn = 0u32;
+    let mut worked = Worked {
+        turns: 0,
+        registered: 0,
+    };
     for _ in 0..TURNS {
         if bells.has_rung(until) {
-            return Ok(registered);
+            return Ok(worked.registered);
         }
-        let edits = edits_so_far(rt, shared.cells(), me);
-        if u64::from(turn) >= edits.saturating_mul(4) {
+        let edits = edits_in(call(me, Step::Gauge(0)));
+        if is_ahead(worked, edits) {
             thread::yield_now();
             continue;
         }
-        if registered < AGGREGATES && edits / EDITS_BETWEEN > u64::from(registered) {
-            register(rt, alloc, shared)?;
-            registered = registered.wrapping_add(1);
+        match after(worked, edits, call(me, next_step(worked, edits))) {
+            Ok(next) => worked = next,
+            Err(refusal) => return Err(refusal),
         }
-        work_once(rt, alloc, shared, store, turn)?;
-        turn = turn.wrapping_add(1);
     }
     Err(Refusal::OutOfRange)
 }
 
-// Sends all objects of a stripe away.
-fn send_all_away<N: Naming, B: Site, S: FarStore, R: Wait>(
-    rt: &R,
-    shared: &Shared<N, B, S>,
-    store: &S,
-    stripe: u32,
+// Makes a call until there is nothing to do.
+fn until_nothing<M, F: Fn(&mut M, Step) -> Replied>(
+    call: &F,
+    me: &mut M,
+    step: Step,
 ) -> Result<(), Refusal>
-    requires store { S.name store.now ≡ B.store }
+    requires { F.IsAlwaysCallable call.now }
 {
     for _ in 0..STEPS {
-        match evacuate(rt, shared, store, stripe) {
+        match call(me, step) {
             Ok(Reply::Nothing) => return Ok(()),
             Ok(_) => {}
             Err(refusal) => return Err(refusal),
@@ -130,99 +133,125 @@ fn send_all_away<N: Naming, B: Site, S: FarStore, R: Wait>(
     Err(Refusal::OutOfRange)
 }
 
-// Builds all row groups that are left on a stripe, by the far store.
-fn build_all<N: Naming, B: Site, S: FarStore, R: Wait>(
-    rt: &R,
-    alloc: Global,
-    shared: &Shared<N, B, S>,
-    store: &S,
-    stripe: u32,
-) -> Result<(), Refusal>
-    requires store { S.name store.now ≡ B.store }
-{
-    for _ in 0..STEPS {
-        match complete_work(rt, alloc, shared, store, Work::Build(stripe)) {
-            Ok(Reply::Nothing) => return Ok(()),
-            Ok(_) => {}
-            Err(refusal) => return Err(refusal),
-        }
-    }
-    Err(Refusal::OutOfRange)
-}
+// Sends all objects of each stripe away, and builds all that is left there by the far store.
+static SETTLING: [Step; 8] = [
+    Step::Evacuate(0),
+    Step::ByHand(Work::Build(0)),
+    Step::Evacuate(1),
+    Step::ByHand(Work::Build(1)),
+    Step::Evacuate(2),
+    Step::ByHand(Work::Build(2)),
+    Step::Evacuate(3),
+    Step::ByHand(Work::Build(3)),
+];
 
-// Sends all objects away, and builds all that is left by the far store.
-fn settle<N: Naming, B: Site, S: FarStore, R: Wait>(
-    rt: &R,
-    alloc: Global,
-    shared: &Shared<N, B, S>,
-    store: &S,
+// Makes each of these calls until there is nothing to do.
+fn settle<M, F: Fn(&mut M, Step) -> Replied>(
+    call: &F,
+    me: &mut M,
+    steps: &[Step],
 ) -> Result<(), Refusal>
-    requires store { S.name store.now ≡ B.store }
+    requires { F.IsAlwaysCallable call.now }
 {
-    for stripe in 0..4 {
-        send_all_away(rt, shared, store, stripe)?;
-        build_all(rt, alloc, shared, store, stripe)?;
+    for step in steps {
+        if let Err(refusal) = until_nothing(call, me, *step) {
+            return Err(refusal);
+        }
     }
     Ok(())
 }
 
-// Whether all aggregates answer what the gauge does.
-fn are_alike<N: Naming, B: Site, S: FarTickets, R: Wait>(
-    rt: &R,
-    shared: &Shared<N, B, S>,
-) -> Result<bool, Refusal> {
-    let gauge = ask(rt, shared, 0)?;
-    let mut all = true;
-    for a in 0..AGGREGATES {
-        all &= ask(rt, shared, a.wrapping_add(1)) == Ok(gauge);
+// What is said where two answers differ: why the one is refused, or else the other.
+fn differs(one: Replied, other: Replied) -> Result<bool, Refusal> {
+    match (one, other) {
+        (Err(refusal), _) => Err(refusal),
+        (_, Err(refusal)) => Err(refusal),
+        _ => Ok(false),
     }
-    Ok(all)
+}
+
+// Whether all aggregates answer what the gauge does.
+fn are_alike<M, F: Fn(&mut M, Step) -> Replied>(call: &F, me: &mut M) -> Result<bool, Refusal>
+    requires { F.IsAlwaysCallable call.now }
+{
+    let gauge = call(me, Step::Ask(0));
+    for a in 0..AGGREGATES {
+        let reply = call(me, Step::Ask(a.wrapping_add(1)));
+        if reply != gauge {
+            return differs(gauge, reply);
+        }
+    }
+    Ok(gauge.is_ok())
+}
+
+// Registers what is left of the totals.
+fn register_from<M, F: Fn(&mut M, Step) -> Replied>(
+    call: &F,
+    me: &mut M,
+    registered: u32,
+) -> Result<(), Refusal>
+    requires { F.IsAlwaysCallable call.now }
+{
+    for _ in registered..AGGREGATES {
+        if let Err(refusal) = call(me, Step::WatchTotals) {
+            return Err(refusal);
+        }
+    }
+    Ok(())
+}
+
+// Registers what is left, sends all objects away, builds what is left by the far store, and says whether all totals are those of the
+// gauge.
+fn end_work<M, F: Fn(&mut M, Step) -> Replied>(
+    call: &F,
+    me: &mut M,
+    registered: u32,
+) -> Result<bool, Refusal>
+    requires { F.IsAlwaysCallable call.now }
+{
+    let registered = register_from(call, me, registered);
+    match registered.and(settle(call, me, &SETTLING)) {
+        Ok(()) => are_alike(call, me),
+        Err(refusal) => Err(refusal),
+    }
 }
 
 // Moves objects, registers totals and builds them until so many sessions have ended. Then sends all objects away, builds what is left
 // by the far store, and says whether all totals are those of the gauge.
-pub fn work_beside<N: Naming, B: Site, S: FarStore + Gated, R: Wait>(
-    rt: &R,
-    alloc: Global,
-    shared: &Shared<N, B, S>,
-    store: &S,
+pub fn work_beside<M, F: Fn(&mut M, Step) -> Replied>(
+    call: &F,
+    me: &mut M,
     bells: &Bells,
-    me: &mut Session<B>,
     until: u64,
 ) -> Result<bool, Refusal>
-    requires store { S.name store.now ≡ B.store }
+    requires { F.IsAlwaysCallable call.now }
 {
-    let registered = work_until(rt, alloc, shared, store, bells, me, until)?;
-    for _ in registered..AGGREGATES {
-        register(rt, alloc, shared)?;
+    match work_until(call, me, bells, until) {
+        Ok(registered) => end_work(call, me, registered),
+        Err(refusal) => Err(refusal),
     }
-    settle(rt, alloc, shared, store)?;
-    are_alike(rt, shared)
 }
 
 // Whether a reading comes after another of the same stripe, or is the same.
-fn is_later(reading: Reading, before: Reading) -> bool {
-    reading.edits > before.edits || reading == before
+fn is_later(reading: Replied, before: Replied) -> bool {
+    edits_in(reading) > edits_in(before) || reading == before
 }
 
 // Reads the gauges, one after the other, until so many sessions have ended. Says whether none went back.
-pub fn read_beside<N: Naming, B: Site, R: Wait>(
-    rt: &R,
-    cells: &Cells<N, B>,
+pub fn read_beside<M, F: Fn(&mut M, Step) -> Replied>(
+    call: &F,
+    me: &mut M,
     bells: &Bells,
-    me: &mut Session<B>,
     until: u64,
-) -> Result<bool, Refusal> {
-    let mut before = [Reading {
-        edits: 0,
-        count: 0,
-        sum: 0,
-    }; 4];
+) -> Result<bool, Refusal>
+    requires { F.IsAlwaysCallable call.now }
+{
+    let mut before: [Replied; 4] = [Ok(Reply::Reading(0, 0, 0)); 4];
     for turn in 0..TURNS {
         let stripe = turn % 4;
-        let reading = cells.gauge(rt, me, stripe)?;
+        let reading = call(me, Step::Gauge(stripe));
         if !is_later(reading, before[stripe as usize]) {
-            return Ok(false);
+            return differs(reading, before[stripe as usize]);
         }
         before[stripe as usize] = reading;
         if bells.has_rung(until) {
