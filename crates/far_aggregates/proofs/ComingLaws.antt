@@ -1,8 +1,8 @@
 -- A pair that came into what is kept can be taken back, and then it is as it was.
-use Rattle.std.proofs.Common.{◌≡◌, ◌≢◌, ℕ, zero, suc, ◌<◌, ◌/◌, List, [], ◌∷◌, length, map, refl, sym, ap, ◌∙◌, subst, arith, Option, None, Some, slice_get, slice_set}
+use Rattle.std.proofs.Common.{◌≡◌, ◌≢◌, ℕ, zero, suc, ◌<◌, ◌≤◌, ◌/◌, List, [], ◌∷◌, length, map, take, refl, sym, ap, ◌∙◌, subst, arith, Option, None, Some, slice_get, slice_set}
 use Rattle.std.specs.Prelude.{ℤ, option_map}
 use Rattle.std.specs.FinMap as fin
-use Rattle.std.proofs.lemmas.List.{get_or-set_same}
+use Rattle.std.proofs.lemmas.List.{get_or-set_same, length-map, length-take, length-take-le, take-map}
 use Rattle.far_types.specs.Answers.{Totals, Extrema, totals}
 use Rattle.far_types.specs.Changes.{count_in, with_pair, without_pair, with_seen, widened}
 use Rattle.far_types.specs.Pairs.{Pair}
@@ -22,8 +22,8 @@ use Rattle.far_aggregates.specs.Coming.{coming_of, come_of, kept_more, added, ke
 use Rattle.far_aggregates.specs.Rooms.{KeptHasRoom, HasRoom, HaveRoom}
 use Rattle.far_aggregates.specs.Until.{zip_until, zip_all}
 use Rattle.far_aggregates.proofs.CountLaws.{few_under, can_take}
-use Rattle.far_aggregates.proofs.ListLaws.{set-again, set-own, length-written, length-zip_all}
-use Rattle.far_aggregates.proofs.UntilLaws.{zip_until-below, zip_until-undo, zip_until-all}
+use Rattle.far_aggregates.proofs.ListLaws.{set-again, set-own, length-written, length-zip_all, get-take}
+use Rattle.far_aggregates.proofs.UntilLaws.{zip_until-take, zip_until-below, zip_until-undo, zip_until-all}
 
 kept-may_add : (g : ℕ) (k : Kept) (c : Coming) → KeptFits g k c → KeptMayAdd g k c.pair
 kept-may_add g (kept.Totals live) c h =
@@ -119,7 +119,7 @@ kept-fits g a k None f r = tt
 kept-fits g a (kept.Totals live) (Some p) f r = f
 kept-fits g a (kept.Extrema live) (Some p) f r = (r, refl)
 
-slot-fits : (size i : ℕ) (o : Gives) (s : Slot) → Folds s → HasRoom (i / size) s → Fits (i / size) s (come_of size i o s)
+pub slot-fits : (size i : ℕ) (o : Gives) (s : Slot) → Folds s → HasRoom (i / size) s → Fits (i / size) s (come_of size i o s)
 slot-fits size i o None f r = tt
 slot-fits size i o (Some a) f r = kept-fits (i / size) a a.kept (change_of size i o (Some a)) f r
 
@@ -130,6 +130,39 @@ each-fits size i o (t ∷ slots) f r zero s c here there =
     let b : come_of size i o t ≡ c = cc in
     subst (λ u. Fits (i / size) u c) a (subst (Fits (i / size) t) b (slot-fits size i o t (f 0 t refl) r.0))
 each-fits size i o (t ∷ slots) f r (suc k) s c here there = each-fits size i o slots (λ j. f (suc j)) r.1 k s c here there
+
+-- of what came no more than the first is looked at
+may_back-alike : (g n : ℕ) (slots : List Slot) (comes more : List (Option Coming)) → take n more ≡ take n comes → EachMayBack g n slots comes → EachMayBack g n slots more
+may_back-alike g n slots comes more e h k s c l here there = h k s c l here (sym (get-take n k comes l) ∙ ap (λ (cs : List (Option Coming)). slice_get cs k) (sym e) ∙ get-take n k more l ∙ there)
+
+-- a row comes into one after the other: what came into the first n is listed, and perhaps one more
+module _ (size i : ℕ) (o : Gives) (slots : List Slot) (folds : EachFolds slots) (room : HaveRoom (i / size) slots) (n : ℕ) (within : n < length slots) (comes more : List (Option Coming)) (is : comes ≡ map (come_of size i o) (take n slots)) (before : take (length comes) more ≡ comes) where
+  abbrev all : List (Option Coming)
+  all = map (come_of size i o) slots
+
+  abbrev mid : List Slot
+  mid = zip_until (added (i / size)) n slots all
+
+  alike : take n more ≡ take n all
+  alike =
+      let many : length comes ≡ n = ap length is ∙ length-map (take n slots) (come_of size i o) ∙ length-take-le n slots (omega arith) in
+      ap (λ m. take m more) (sym many) ∙ before ∙ is ∙ sym (take-map (come_of size i o) n slots)
+
+  pub next-many : n ≤ length more
+  next-many =
+      let some = length-take n more in
+      let same : length (take n more) ≡ n = ap length alike ∙ ap length (take-map (come_of size i o) n slots) ∙ length-map (take n slots) (come_of size i o) ∙ length-take-le n slots (omega arith) in
+      omega arith
+
+  pub next-may_back : EachMayBack (i / size) n mid more
+  next-may_back = may_back-alike (i / size) n mid all more alike (until-may_back (i / size) n slots all (each-fits size i o slots folds room))
+
+  pub next-undone : zip_until (back (i / size)) n mid more ≡ slots
+  next-undone =
+      sym (zip_until-take (back (i / size)) n mid more)
+      ∙ ap (zip_until (back (i / size)) n mid) alike
+      ∙ zip_until-take (back (i / size)) n mid all
+      ∙ zip_until-undo (added (i / size)) (back (i / size)) n slots all (λ k s d h j. fits-undo (i / size) s d (each-fits size i o slots folds room k s d h j))
 
 -- what came of a place into all can be taken back, and then all are as they were
 module _ (size i : ℕ) (o : Gives) (slots mid : List Slot) (comes : List (Option Coming)) (is : comes ≡ map (come_of size i o) slots) (came : mid ≡ zip_all (added (i / size)) slots comes) (folds : EachFolds slots) (room : HaveRoom (i / size) slots) where

@@ -109,6 +109,26 @@ at_hand spec here value key one two three four few is_value is_key is_one is_two
         | inr h ↦ or_left (is_number c value) (is_number c key || behind) (is_it c value (is_value.0 ∙ eqb-true spec.value c h))
       ]
 
+-- without tests no more than two are lent
+pub untested-at_hand : (spec : Spec) (here : List Place) (value key : ℕ × List Cell) → spec.filter ≡ [] → IsLent here spec.value (Some spec.value) value → IsLent here spec.value spec.key key → AreAtHand spec (value ∷ key ∷ []) here
+untested-at_hand spec here value key untested is_value is_key = λ c i place needed at. first here value (key ∷ []) c i place is_value.1 (is_here here spec.value value.0 spec.key key is_value.0 is_key, tt) (there c needed) at where
+  there : (c : ℕ) → needs spec c ≡ true → list_any (is_number c) (value ∷ key ∷ []) ≡ true
+  there c needed =
+      let test = list_any (λ t. bounds.column_of t == c) spec.filter in
+      let keyed = option_map_or (λ k. k == c) spec.key false in
+      let behind = list_any (is_number c) (key ∷ []) in
+      elim (or-cases (test || keyed) (spec.value == c) needed) [
+        | inl h ↦ elim (or-cases test keyed h) [
+          | inl t ↦
+              let none : list_any (λ (u : Test). bounds.column_of u == c) [] ≡ true = subst (λ (tests : List Test). list_any (λ u. bounds.column_of u == c) tests ≡ true) untested t in
+              absurd (cc none)
+          | inr k ↦
+              let lent = subst (λ o. IsLent here spec.value o key) (keyed-is spec.key c k) is_key in
+              or_right (is_number c value) behind (or_left (is_number c key) false (is_it c key lent.0))
+        ]
+        | inr h ↦ or_left (is_number c value) behind (is_it c value (is_value.0 ∙ eqb-true spec.value c h))
+      ]
+
 -- the column of a test is needed
 
 nth-any : (tests : List Test) (i n : ℕ) → nth_test tests i ≡ Some n → list_any (λ t. bounds.column_of t == n) tests ≡ true

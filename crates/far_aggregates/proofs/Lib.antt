@@ -6,6 +6,7 @@ pub mod EditLaws
 pub mod ExtremaLaws
 pub mod GroupLaws
 pub mod KeepLaws
+pub mod KnownLaws
 pub mod LendLaws
 pub mod ListLaws
 pub mod NumberLaws

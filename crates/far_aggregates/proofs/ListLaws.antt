@@ -101,3 +101,18 @@ pub set_same : {X : Type 0} (xs : List X) (i : ℕ) (x : X) → slice_get xs i �
 set_same [] i x h = refl
 set_same (y ∷ xs) zero x h = let e : x ≡ y = cc in rw e refl
 set_same (y ∷ xs) (suc i) x h = ap (λ l. y ∷ l) (set_same xs i x h)
+
+pub get-take : {X : Type 0} (n k : ℕ) (xs : List X) → k < n → slice_get (take n xs) k ≡ slice_get xs k
+get-take zero k xs h = absurd (omega arith)
+get-take (suc n) k [] h = refl
+get-take (suc n) zero (x ∷ xs) h = refl
+get-take (suc n) (suc k) (x ∷ xs) h = get-take n k xs (omega arith)
+
+pub get-last : {X : Type 0} (xs : List X) (x : X) → slice_get (xs ++ x ∷ []) (length xs) ≡ Some x
+get-last [] x = refl
+get-last (y ∷ xs) x = get-last xs x
+
+pub get-map : {X Y : Type 0} (f : X → Y) (xs : List X) (i : ℕ) (x : X) → slice_get xs i ≡ Some x → slice_get (map f xs) i ≡ Some (f x)
+get-map f [] i x h = cc
+get-map f (y ∷ xs) zero x h = let e : y ≡ x = cc in ap (λ z. Some (f z)) e
+get-map f (y ∷ xs) (suc i) x h = get-map f xs i x h

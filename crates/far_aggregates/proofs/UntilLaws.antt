@@ -1,5 +1,5 @@
 -- Lists whose first elements have been changed.
-use Rattle.std.proofs.Common.{◌≡◌, ℕ, zero, suc, ◌+◌, ◌<◌, ◌≤◌, List, [], ◌∷◌, length, refl, sym, ap, ◌∙◌, arith, add-one, Some, slice_get, slice_set}
+use Rattle.std.proofs.Common.{◌≡◌, ℕ, zero, suc, ◌+◌, ◌<◌, ◌≤◌, List, [], ◌∷◌, length, take, refl, sym, ap, ◌∙◌, arith, add-one, Some, slice_get, slice_set}
 use Rattle.far_aggregates.specs.Until.{zip_until, zip_all}
 
 module _ {X C : Type 0} (f : X → C → X) where
@@ -21,6 +21,13 @@ module _ {X C : Type 0} (f : X → C → X) where
 
   pub zip_until-next : (n : ℕ) (xs : List X) (cs : List C) (x : X) (c : C) → slice_get xs n ≡ Some x → slice_get cs n ≡ Some c → slice_set (zip_until f n xs cs) n (f x c) ≡ zip_until f (n + 1) xs cs
   zip_until-next n xs cs x c h k = next n xs cs x c h k ∙ ap (λ m. zip_until f m xs cs) (sym (add-one n))
+
+  -- no more than the first of what changes them is looked at
+  pub zip_until-take : (n : ℕ) (xs : List X) (cs : List C) → zip_until f n xs (take n cs) ≡ zip_until f n xs cs
+  zip_until-take zero xs cs = refl
+  zip_until-take (suc n) [] cs = refl
+  zip_until-take (suc n) (x ∷ xs) [] = refl
+  zip_until-take (suc n) (x ∷ xs) (c ∷ cs) = ap (λ l. f x c ∷ l) (zip_until-take n xs cs)
 
   pub zip_until-below : (n k : ℕ) (xs : List X) (cs : List C) (x : X) (c : C) → k < n → slice_get xs k ≡ Some x → slice_get cs k ≡ Some c → slice_get (zip_until f n xs cs) k ≡ Some (f x c)
   zip_until-below zero k xs cs x c l h i = absurd (omega arith)

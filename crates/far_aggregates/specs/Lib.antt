@@ -4,6 +4,7 @@ pub mod Changes
 pub mod Coming
 pub mod Going
 pub mod Kept
+pub mod Known
 pub mod Lending
 pub mod Pending
 pub mod Readings

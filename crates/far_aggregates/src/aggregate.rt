@@ -1,6 +1,6 @@
 // One aggregate that is kept up to date.
+use super::known::KnownExtrema;
 use super::unbuilt::Unbuilt;
-use far_extrema::LiveExtrema;
 use far_groups::LiveTotals;
 use far_types::Spec;
 
@@ -8,7 +8,7 @@ use far_types::Spec;
 #[derive(Drop)]
 pub enum Kept {
     Totals(LiveTotals),
-    Extrema(LiveExtrema),
+    Extrema(KnownExtrema),
 }
 
 /// An aggregate under its number.

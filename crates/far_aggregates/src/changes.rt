@@ -1,33 +1,84 @@
 // What a row gives to each aggregate.
-ghost use Rattle.std.specs.Prelude.{◌≡◌, ◌<◌, IfOk, IfErr, map};
+ghost use Rattle.std.specs.Prelude.{◌≡◌, ◌<◌, ◌/◌, Some, IfOk, IfErr, map, option_map};
+ghost use Rattle.far_types.specs.Cells.{key_in, number_in};
+ghost use Rattle.far_types.specs.Lent.{lent_cell};
+ghost use Rattle.far_types.specs.Pairs.{paired, pair_of};
 ghost use Rattle.far_aggregates.specs.Changes.{change_of, row_gives};
 
 use super::aggregate::Aggregate;
-use far_types::{Key, LendCells, Refusal};
+use far_types::{CellRef, Key, LendCells, Refusal, Spec};
 use std::alloc::Global;
 
 /// A folded row: its key, none in an aggregate without key column, and its value.
 pub type Pair = (Option<Key>, i64);
 
+/// The number of a row in the column of an aggregate's values, or `None` where there is none.
+#[inline(always)]
+fn value_in<R: LendCells>(spec: &Spec, row: &R) -> Option<i64>
+    ensures { result ≡ number_in (R.cells row.now spec.now.value) }
+{
+    match row.cell(spec.value) {
+        Some(cell) => cell.number(),
+        None => None,
+    }
+}
+
+/// A value under the key that a cell gives, where it gives one. It stands apart from `pair_of`, which so stays short.
+#[inline(never)]
+fn pair_under(alloc: Global, cell: CellRef<'_>, value: i64) -> Result<Option<Pair>, Refusal>
+    ensures pair { IfOk result (λ pair. pair ≡ paired (option_map Some (key_in (Some (lent_cell cell.entry)))) (Some value)) }
+    ensures memory { IfErr result (λ e. e ≡ Refusal.NoMemory) }
+{
+    match cell.key(alloc, None)? {
+        Some(key) => Ok(Some((Some(key), value))),
+        None => Ok(None),
+    }
+}
+
+/// The pair of a row, as `Spec::pair_of` makes it. A pair without key and one whose key is a number are made with no call.
+#[inline(always)]
+fn pair_of<R: LendCells>(alloc: Global, spec: &Spec, row: &R) -> Result<Option<Pair>, Refusal>
+    ensures pair { IfOk result (λ pair. pair ≡ pair_of spec.now (R.cells row.now)) }
+    ensures memory { IfErr result (λ e. e ≡ Refusal.NoMemory) }
+{
+    if !spec.filter.keeps_cells(row) {
+        return Ok(None);
+    }
+    let Some(value) = value_in(spec, row) else {
+        return Ok(None);
+    };
+    let Some(column) = spec.key else {
+        return Ok(Some((None, value)));
+    };
+    match row.cell(column) {
+        Some(CellRef::Int(number)) => Ok(Some((Some(Key::Int(number)), value))),
+        Some(cell) => pair_under(alloc, cell, value),
+        None => Ok(None),
+    }
+}
+
 /// What a row that is alive at a place gives to an aggregate, where its row group is built in.
+#[inline(always)]
 pub fn change<R: LendCells>(
     alloc: Global,
     slot: &Option<Aggregate>,
     row: &R,
     size: u32,
     place: usize,
+    group: usize,
 ) -> Result<Option<Pair>, Refusal>
     requires size { 0 < size }
+    requires group { group ≡ place / size }
     ensures ok { IfOk result (λ change. change ≡ change_of size place (row_gives (R.cells row.now)) slot.now) }
     ensures memory { IfErr result (λ e. e ≡ Refusal.NoMemory) }
 {
     match slot {
         None => Ok(None),
         Some(aggregate) => {
-            if aggregate.unbuilt.has(place / size as usize) {
+            if aggregate.unbuilt.has(group) {
                 return Ok(None);
             }
-            aggregate.spec.pair_of(alloc, row)
+            pair_of(alloc, &aggregate.spec, row)
         }
     }
 }
@@ -45,11 +96,12 @@ pub fn changes<R: LendCells>(
     ensures ok { IfOk result (λ changes. changes.items ≡ map (change_of size place (row_gives (R.cells row.now))) slots.now) }
     ensures memory { IfErr result (λ e. e ≡ Refusal.NoMemory) }
 {
+    let group = place / size as usize;
     let mut changes = list;
     changes.clear();
     changes.reserve(slots.len())?;
     for slot in slots {
-        changes.push(change(alloc, slot, row, size, place)?)?;
+        changes.push(change(alloc, slot, row, size, place, group)?)?;
     }
     Ok(changes)
 }

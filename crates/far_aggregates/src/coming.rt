@@ -1,14 +1,14 @@
 // Pairs that come into what is kept, and how they are taken back where a later growth is refused.
-ghost use Rattle.std.specs.Prelude.{◌≡◌, ◌/◌, ◌^◌, ◌<◌, ◌≤◌, Some, OnOk, OnErr, IfErr, IfOk, length, map};
-ghost use Rattle.far_aggregates.specs.Changes.{EachFolds, row_gives};
-ghost use Rattle.far_aggregates.specs.Coming.{stood_in, come_of, added, back, MayAdd, MayBack, Fits, EachFits, EachMayBack};
-ghost use Rattle.far_aggregates.specs.Rooms.{HaveRoom};
+ghost use Rattle.std.specs.Prelude.{◌≡◌, ◌/◌, ◌^◌, ◌<◌, ◌≤◌, ◌∷◌, ◌++◌, [], Some, OnOk, OnErr, IfErr, IfOk, length, map, take};
+ghost use Rattle.far_aggregates.specs.Changes.{Folds, EachFolds, row_gives};
+ghost use Rattle.far_aggregates.specs.Coming.{stood_in, come_of, added, back, MayAdd, MayBack, Fits, EachMayBack};
+ghost use Rattle.far_aggregates.specs.Rooms.{HasRoom, HaveRoom};
 ghost use Rattle.far_aggregates.specs.Until.{zip_until, zip_all};
 
 use super::aggregate::{Aggregate, Kept};
 use super::changes::{Pair, change};
 use far_extrema::Span;
-use far_types::{LendCells, Refusal};
+use far_types::{Key, LendCells, Refusal};
 use std::alloc::Global;
 
 /// A pair that comes, and where extrema are kept what stood under its key in the row group, which takes it back.
@@ -18,65 +18,48 @@ pub struct Coming {
     pub stood: Option<Span>,
 }
 
-/// What stands under a pair's key in a row group, where extrema are kept.
-fn with_stood(kept: &Kept, group: u32, pair: Pair) -> Coming
-    ensures pair { result.pair ≡ pair }
-    ensures stood { result.stood ≡ stood_in group pair.0 kept.now }
+/// What stands under a key in a row group, where extrema are kept. The span is taken apart and made anew, so that its numbers
+/// are passed on in registers.
+#[inline(always)]
+fn stood(kept: &Kept, group: u32, key: &Option<Key>) -> Option<Span>
+    ensures { result ≡ stood_in group key.now kept.now }
 {
-    let stood = match kept {
+    match kept {
         Kept::Totals(_) => None,
-        Kept::Extrema(live) => live.span(group, &pair.0),
-    };
-    Coming { pair, stood }
+        Kept::Extrema(live) => match live.span(group, key) {
+            Some((least, greatest)) => Some((least, greatest)),
+            None => None,
+        },
+    }
 }
 
 /// What comes of a row that is alive at a place into an aggregate.
+#[inline(always)]
 fn come<R: LendCells>(
     alloc: Global,
     slot: &Option<Aggregate>,
     row: &R,
     size: u32,
     place: usize,
+    group: usize,
 ) -> Result<Option<Coming>, Refusal>
     requires size { 0 < size }
     requires few { place ≤ 2 ^ 24 }
+    requires group { group ≡ place / size }
+    requires groups { group < 2 ^ 32 }
     ensures ok { IfOk result (λ come. come ≡ come_of size place (row_gives (R.cells row.now)) slot.now) }
     ensures memory { IfErr result (λ e. e ≡ Refusal.NoMemory) }
 {
     match slot {
         None => Ok(None),
-        Some(aggregate) => match change(alloc, slot, row, size, place)? {
+        Some(aggregate) => match change(alloc, slot, row, size, place, group)? {
             None => Ok(None),
-            Some(pair) => Ok(Some(with_stood(
-                &aggregate.kept,
-                (place / size as usize) as u32,
-                pair,
-            ))),
+            Some(pair) => {
+                let stood = stood(&aggregate.kept, group as u32, &pair.0);
+                Ok(Some(Coming { pair, stood }))
+            }
         },
     }
-}
-
-/// What comes of a row that is alive at a place into each aggregate, in a list that may have been made for an edit before.
-fn comings<R: LendCells>(
-    alloc: Global,
-    list: Vec<Option<Coming>>,
-    slots: &[Option<Aggregate>],
-    row: &R,
-    size: u32,
-    place: usize,
-) -> Result<Vec<Option<Coming>>, Refusal>
-    requires size { 0 < size }
-    requires few { place ≤ 2 ^ 24 }
-    ensures ok { IfOk result (λ comes. comes.items ≡ map (come_of size place (row_gives (R.cells row.now))) slots.now) }
-    ensures memory { IfErr result (λ e. e ≡ Refusal.NoMemory) }
-{
-    let mut comes = list;
-    comes.clear();
-    comes.reserve(slots.len())?;
-    for slot in slots {
-        comes.push(come(alloc, slot, row, size, place)?)?;
-    }
-    Ok(comes)
 }
 
 /// One pair more, where there is one. What stood under its key is known, so it is not looked up again.
@@ -125,29 +108,32 @@ fn back_until(slots: &mut [Option<Aggregate>], group: u32, comes: &[Option<Comin
     }
 }
 
-/// A pair more for each, or none where memory is refused.
-fn add_all(
-    slots: &mut [Option<Aggregate>],
-    group: u32,
-    comes: &[Option<Coming>],
+/// What comes of a row that is alive at a place into an aggregate comes in, and stands behind what came into those before.
+#[inline(always)]
+fn come_next<R: LendCells>(
+    alloc: Global,
+    comes: &mut Vec<Option<Coming>>,
+    slot: &mut Option<Aggregate>,
+    row: &R,
+    size: u32,
+    place: usize,
+    group: usize,
 ) -> Result<(), Refusal>
-    requires len { length slots.old ≡ length comes.now }
-    requires fits { EachFits group slots.old comes.now }
-    ensures ok { OnOk result (slots.new ≡ zip_all (added group) slots.old comes.now) }
-    ensures err { OnErr result (slots.new ≡ slots.old) }
+    requires size { 0 < size }
+    requires few { place ≤ 2 ^ 24 }
+    requires group { group ≡ place / size }
+    requires groups { group < 2 ^ 32 }
+    requires folds { Folds slot.old }
+    requires room { HasRoom (place / size) slot.old }
+    ensures ok { OnOk result (slot.new ≡ added (place / size) slot.old (come_of size place (row_gives (R.cells row.now)) slot.old)) }
+    ensures comes { OnOk result (comes.new.items ≡ comes.old.items ++ come_of size place (row_gives (R.cells row.now)) slot.old ∷ []) }
+    ensures err { OnErr result (slot.new ≡ slot.old) }
+    ensures before { OnErr result (take (length comes.old.items) comes.new.items ≡ comes.old.items) }
     ensures memory { IfErr result (λ e. e ≡ Refusal.NoMemory) }
 {
-    let n = slots.len();
-    for i in 0..n {
-        match add_one(&mut slots[i], group, &comes[i]) {
-            Ok(()) => {}
-            Err(refusal) => {
-                back_until(slots, group, comes, i);
-                return Err(refusal);
-            }
-        }
-    }
-    Ok(())
+    let at = comes.len();
+    comes.push(come(alloc, slot, row, size, place, group)?)?;
+    add_one(slot, group as u32, &comes[at])
 }
 
 /// The pairs of a row that is alive at a place come into what is kept for each aggregate, or none where memory is refused. What
@@ -172,8 +158,19 @@ pub fn come_in<R: LendCells>(
     ensures err { OnErr result (slots.new ≡ slots.old) }
     ensures memory { IfErr result (λ e. e ≡ Refusal.NoMemory) }
 {
-    let comes = comings(alloc, list, slots, row, size, place)?;
-    add_all(slots, (place / size as usize) as u32, comes.as_slice())?;
+    let group = place / size as usize;
+    let mut comes = list;
+    comes.clear();
+    comes.reserve(slots.len())?;
+    for i in 0..slots.len() {
+        match come_next(alloc, &mut comes, &mut slots[i], row, size, place, group) {
+            Ok(()) => {}
+            Err(refusal) => {
+                back_until(slots, group as u32, comes.as_slice(), i);
+                return Err(refusal);
+            }
+        }
+    }
     Ok(comes)
 }
 

@@ -13,29 +13,43 @@ ghost use Rattle.far_aggregates.specs.Until.{zip_all};
 use super::aggregate::{Aggregate, Kept};
 use super::changes::Pair;
 use super::coming::Coming;
+use super::known::KnownExtrema;
 use super::lend_group::LendGroup;
-use super::needed::needed_columns;
+use super::needed::{has_no_test, needed_columns, untested_columns};
 use super::sparing::was_looked_up;
-use far_extrema::LiveExtrema;
+use far_extrema::Span;
 use far_offload::span_under;
-use far_types::Spec;
+use far_types::{Key, Spec};
+
+/// The least and the greatest value of the rows of a row group that stand under a key, where there is one. An aggregate without
+/// tests, of which there are many, is lent no columns for them.
+#[inline(always)]
+fn span_left<G: LendGroup>(spec: &Spec, group: &G, key: &Option<Key>) -> Option<Span>
+    requires { IsServed (G.has group.now) spec.now }
+    ensures { result ≡ fin.get (extrema (pairs_here spec.now (G.places group.now))) key.now }
+{
+    if has_no_test(spec) {
+        return span_under(spec, &untested_columns(spec, group), group.alive(), key);
+    }
+    span_under(spec, &needed_columns(spec, group), group.alive(), key)
+}
 
 /// One pair less in a row group, whose value may have been the least or the greatest under its key: the rows that are left
 /// are looked at. It stands apart from `narrow`, which so makes no room for columns that mostly are not looked at.
 #[inline(never)]
-fn look<G: LendGroup>(live: &mut LiveExtrema, spec: &Spec, group: &G, number: u32, pair: &Pair)
+fn look<G: LendGroup>(live: &mut KnownExtrema, spec: &Spec, group: &G, number: u32, pair: &Pair)
     requires served { IsServed (G.has group.now) spec.now }
     requires seen { fin.get (group_at live.old.groups number) pair.now.0 ≡ Some (widened pair.now.1 (fin.get (extrema (pairs_here spec.now (G.places group.now))) pair.now.0)) }
     ensures { live.new ≡ record live.old { groups = slice_set live.old.groups number (put_span (group_at live.old.groups number) pair.now.0 (fin.get (extrema (pairs_here spec.now (G.places group.now))) pair.now.0)) } }
 {
-    let span = span_under(spec, &needed_columns(spec, group), group.alive(), &pair.0);
+    let span = span_left(spec, group, &pair.0);
     live.put_span(number, &pair.0, span);
 }
 
 /// One pair less in a row group: the rows that are left are looked at only where its value was the least or the greatest
 /// under its key. What stands under the key is not looked up where that is known to tell nothing.
 fn narrow<G: LendGroup>(
-    live: &mut LiveExtrema,
+    live: &mut KnownExtrema,
     spec: &Spec,
     group: &G,
     number: u32,

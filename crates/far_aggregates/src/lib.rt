@@ -9,6 +9,7 @@ mod changed;
 mod changes;
 mod coming;
 mod going;
+mod known;
 pub mod laws;
 pub mod lend_group;
 mod needed;

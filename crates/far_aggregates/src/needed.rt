@@ -1,5 +1,5 @@
 // The columns that an aggregate needs of a row group.
-ghost use Rattle.std.specs.Prelude.{◌≡◌, true, IfSome, option_map, slice_get};
+ghost use Rattle.std.specs.Prelude.{◌≡◌, [], true, IfSome, IsTrue, option_map, slice_get};
 ghost use Rattle.far_offload.specs.AtHand.{AreAtHand};
 ghost use Rattle.far_types.specs.Bounds.{column_of};
 ghost use Rattle.far_aggregates.specs.Lending.{IsLent, IsServed};
@@ -49,4 +49,25 @@ pub fn needed_columns<'a, G: LendGroup>(spec: &Spec, group: &'a G) -> [Column<'a
         lent(group, test_column(spec, 2), value),
         lent(group, test_column(spec, 3), value),
     ]
+}
+
+/// Whether an aggregate has no test.
+#[inline(always)]
+pub fn has_no_test(spec: &Spec) -> bool
+    ensures { IsTrue result → spec.now.filter ≡ [] }
+{
+    spec.filter.as_slice().is_empty()
+}
+
+/// The columns that an aggregate without tests needs: that of its value and that of its key. What is left without a key has
+/// the number of the value's column, so that it is never found. Takes no memory.
+#[inline(always)]
+pub fn untested_columns<'a, G: LendGroup>(spec: &Spec, group: &'a G) -> [Column<'a>; 2]
+    requires served { IsServed (G.has group.now) spec.now }
+    requires untested { spec.now.filter ≡ [] }
+    ensures { AreAtHand spec.now result (G.places group.now) }
+{
+    let value = lent(group, Some(spec.value), spec.value);
+    let key = lent(group, spec.key, spec.value);
+    [value, key]
 }

@@ -6,8 +6,8 @@ ghost use Rattle.far_aggregates.specs.Kept.{Keeps, KeepsSlot, KeepsNothing, fold
 ghost use Rattle.far_aggregates.specs.Aggregates.{free_from, joined};
 
 use super::aggregate::{Aggregate, Kept};
+use super::known::KnownExtrema;
 use super::unbuilt::Unbuilt;
-use far_extrema::LiveExtrema;
 use far_groups::LiveTotals;
 use far_types::{Fold, Refusal, Spec};
 use std::alloc::Global;
@@ -57,7 +57,7 @@ fn nothing_kept(alloc: Global, fold: Fold, left: u32) -> Kept
 {
     match fold {
         Fold::Totals => Kept::Totals(LiveTotals::new(alloc, left)),
-        Fold::Extrema => Kept::Extrema(LiveExtrema::new(alloc, left)),
+        Fold::Extrema => Kept::Extrema(KnownExtrema::new(alloc, left)),
     }
 }
 

@@ -9,6 +9,7 @@ use far_extrema::Span;
 use far_types::Key;
 
 /// Whether two keys are one.
+#[inline(always)]
 fn are_same(key: &Option<Key>, other: &Option<Key>) -> bool
     ensures { IsTrue result → key.now ≡ other.now }
 {

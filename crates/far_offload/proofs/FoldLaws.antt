@@ -21,10 +21,11 @@ use Rattle.far_types.specs.Changes.{widened, joined_totals, joined_extrema}
 use Rattle.far_types.proofs.ByKeyMaps.{grouped-one}
 use Rattle.far_types.proofs.Values.{tally-among, span-among, span-cons}
 use Rattle.far_types.proofs.TotalLaws.{totals-cons, totals-among, totals-append, extrema-cons, extrema-among, extrema-append}
+use Rattle.far_extrema.proofs.HolderLaws.{widened_within}
 use Rattle.far_groups.proofs.PairLaws.{counted}
 use Rattle.far_offload.specs.declared.partial.PartialDone.TheVariants.{Totals, Extrema}
 use Rattle.far_offload.specs.Columns.{Columns, cells_at}
-use Rattle.far_offload.specs.Partials.{pair_at, pairs_over, value_at, values_over, span_in, partial_of, with_folded, CanFold}
+use Rattle.far_offload.specs.Partials.{pair_at, pairs_over, value_at, values_over, span_in, partial_of, with_folded, CanFold, IsWithin}
 
 enumerate-more : (n : ℕ) (flags : List Bool) (i : ℕ) → i < length flags → enumerate_from n (take i flags ++ get_or flags i false ∷ []) ≡ enumerate_from n (take i flags) ++ (n + i, get_or flags i false) ∷ []
 enumerate-more n [] i h = absurd (omega arith)
@@ -82,6 +83,17 @@ values-same spec columns flags i flag within is none =
     over-more (value_at spec columns) flags i flag within is
     ∙ ap (λ (o : Option ℤ). values_over spec columns (take i flags) ++ cons_option o []) (sym none)
     ∙ append-nil (values_over spec columns (take i flags))
+
+-- a value that is within what there is leaves it as it is
+pub within-kept : (value : ℤ) (span there : Option (ℤ × ℤ)) → span ≡ there → IsWithin span (Some value) → Some (widened value there) ≡ there
+within-kept value None there stood h = absurd h
+within-kept value (Some s) there stood h = ap (λ o. Some (widened value o)) (sym stood) ∙ ap Some (widened_within value s h.0 h.1) ∙ stood
+
+pub values-within : (spec : Spec) (columns : Columns) (flags : List Bool) (i : ℕ) (flag : Bool) (seen : Option (ℤ × ℤ)) → i < length flags → get_or flags i false ≡ flag → seen ≡ span_in (values_over spec columns (take i flags)) → IsWithin seen (value_at spec columns (i, flag)) → span_in (values_over spec columns (take (i + 1) flags)) ≡ span_in (values_over spec columns (take i flags))
+values-within spec columns flags i flag seen within is stood = elim (value_at spec columns (i, flag)) as (λ (o : Option ℤ). o ≡ value_at spec columns (i, flag) → IsWithin seen o → span_in (values_over spec columns (take (i + 1) flags)) ≡ span_in (values_over spec columns (take i flags))) [
+  | None ↦ λ e h. ap span_in (values-same spec columns flags i flag within is e)
+  | Some value ↦ λ e h. ap span_in (values-with spec columns flags i flag value within is e) ∙ span-more (values_over spec columns (take i flags)) value ∙ within-kept value seen (span_in (values_over spec columns (take i flags))) stood h
+] refl
 
 -- a place with a value gives a pair where it has a key
 paired-is : (under : Option (Option Key)) (number : Option ℤ) → paired under number ≡ option_and_then (λ value. option_map (λ key. (key, value)) under) number

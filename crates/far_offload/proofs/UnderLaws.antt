@@ -23,8 +23,8 @@ use Rattle.far_types.proofs.Grouping.{same_key}
 use Rattle.far_types.proofs.ByKeyMaps.{get_inserted}
 use Rattle.far_types.proofs.TotalLaws.{extrema-cons, extrema-among}
 use Rattle.far_offload.specs.Columns.{Columns, column_of, cell_of, cells_at, AreKeys}
-use Rattle.far_offload.specs.Partials.{pairs_over, value_at}
-use Rattle.far_offload.proofs.FoldLaws.{pair-is, pairs-next}
+use Rattle.far_offload.specs.Partials.{pairs_over, value_at, IsWithin}
+use Rattle.far_offload.proofs.FoldLaws.{within-kept, pair-is, pairs-next, pairs-valueless}
 
 extrema-more : (pairs : List Pair) (pair : Pair) → extrema (pairs ++ pair ∷ []) ≡ with_seen (extrema pairs) pair
 extrema-more pairs pair = extrema-among pairs pair [] ∙ ap (λ l. extrema (pair ∷ l)) (append-nil pairs) ∙ extrema-cons pair pairs
@@ -65,6 +65,13 @@ module _ (spec : Spec) (columns : Columns) (flags : List Bool) (i : ℕ) (flag :
       ∙ ap (λ (u : Option (Option Key)). fin.get (extrema (pairs ++ cons_option (option_map {U = Pair} (λ k. (k, value)) u) [])) key) under
       ∙ ap (λ m. fin.get m key) (extrema-more pairs (key, value))
       ∙ get_inserted (extrema pairs) key (widened value (fin.get (extrema pairs) key))
+
+  -- or one whose value is within what stands there
+  pub span-within : (span : Option (ℤ × ℤ)) → span ≡ fin.get (extrema pairs) key → key_under spec.key (cells_at columns i) ≡ Some key → IsWithin span (value_at spec columns (i, flag)) → fin.get (extrema (pairs_over spec columns (take (i + 1) flags))) key ≡ fin.get (extrema pairs) key
+  span-within span stood under = elim (value_at spec columns (i, flag)) as (λ (o : Option ℤ). o ≡ value_at spec columns (i, flag) → IsWithin span o → fin.get (extrema (pairs_over spec columns (take (i + 1) flags))) key ≡ fin.get (extrema pairs) key) [
+    | None ↦ λ e h. ap (λ l. fin.get (extrema l) key) (pairs-valueless spec columns flags i flag within is e)
+    | Some value ↦ λ e h. span-there value under e ∙ within-kept value span (fin.get (extrema pairs) key) stood h
+  ] refl
 
 -- a cell that gives a number as its key is that number
 number_key : (c : Cell) (n : ℤ) → option_map {U = Option Key} Some (key_in (Some c)) ≡ Some (Some (keys.Int n)) → c ≡ cell.Int n

@@ -1,5 +1,5 @@
 -- What the live places of a row group come to.
-use Rattle.std.specs.Prelude.{ℕ, ◌^◌, ◌<◌, ℤ, Bool, cond, List, [], ◌∷◌, Option, None, Some, IfSome, FitsSigned}
+use Rattle.std.specs.Prelude.{ℕ, ◌^◌, ◌<◌, ℤ, ◌≤ℤ◌, Bool, cond, List, [], ◌∷◌, Option, None, Some, IfSome, FitsSigned}
 use Rattle.std.specs.Int.{w64}
 use Rattle.std.specs.List.{filter_map, enumerate_from}
 use Rattle.std.specs.FinMap as fin
@@ -40,6 +40,12 @@ span_in (value ∷ values) = Some (span (value ∷ values))
 -- they are numbers of 64 bits
 abbrev pub SpanFits : Option (ℤ × ℤ) → Type 0
 SpanFits span = IfSome span (λ s. FitsSigned w64 s.0 × FitsSigned w64 s.1)
+
+-- a value is within the least and the greatest, which it leaves as they are; where there is none there is nothing to leave
+abbrev pub IsWithin : Option (ℤ × ℤ) → Option ℤ → Type 0
+IsWithin span None = Unit {0}
+IsWithin None (Some value) = ⊥
+IsWithin (Some span) (Some value) = (span.0 ≤ℤ value) × (value ≤ℤ span.1)
 
 -- what pairs come to; no row group is left to a partial
 abbrev pub partial_of : Fold → List Pair → PartialDone

@@ -1,10 +1,10 @@
 // Which places a filter keeps, and the values that they have.
-ghost use Rattle.std.specs.Prelude.{◌≡◌, IfSome, FitsSigned, option_map};
+ghost use Rattle.std.specs.Prelude.{◌≡◌, Some, None, IsTrue, IfSome, IfNone, FitsSigned, option_map, cond};
 ghost use Rattle.std.specs.Int.{w64};
 ghost use Rattle.std.specs.Option.{option_copied};
 ghost use Rattle.far_types.specs.Cells.{number_in};
 ghost use Rattle.far_offload.specs.Columns.{column_of, cell_of};
-ghost use Rattle.far_offload.specs.Partials.{value_at};
+ghost use Rattle.far_offload.specs.Partials.{value_at, IsWithin};
 
 use crate::column::{Column, find};
 use far_types::{CellRef, LendCells, Spec};
@@ -60,4 +60,57 @@ pub(crate) fn value_at(
         return None;
     }
     number_in(values, place)
+}
+
+/// The number of a place in the column of the values, where the place is alive and has one.
+#[inline(always)]
+fn number_alive(values: Option<&Column<'_>>, place: usize, alive: bool) -> Option<i64>
+    ensures number { result ≡ cond alive (number_in (option_map (cell_of place) (option_copied values.entry))) None }
+    ensures fits { IfSome result (FitsSigned w64) }
+{
+    if alive {
+        number_in(values, place)
+    } else {
+        None
+    }
+}
+
+/// Whether a value is within a span, so that it changes nothing there.
+#[inline(always)]
+fn is_within(span: Option<(i64, i64)>, value: i64) -> bool
+    ensures { IsTrue result → IsWithin span (Some value) }
+{
+    match span {
+        Some((least, greatest)) => least <= value && value <= greatest,
+        None => false,
+    }
+}
+
+/// The value of a place as `value_at` says, where it is not within a span. The filter is asked last: of the values of a row
+/// group most are within the span of those before them.
+#[inline(always)]
+pub(crate) fn value_beyond(
+    spec: &Spec,
+    columns: &[Column<'_>],
+    values: Option<&Column<'_>>,
+    place: usize,
+    alive: bool,
+    span: Option<(i64, i64)>,
+) -> Option<i64>
+    requires { option_copied values ≡ column_of columns.now spec.now.value }
+    ensures beyond { IfSome result (λ value. Some value ≡ value_at spec.now columns.now (place, alive)) }
+    ensures within { IfNone result (IsWithin span (value_at spec.now columns.now (place, alive))) }
+    ensures fits { IfSome result (FitsSigned w64) }
+{
+    let Some(value) = number_alive(values, place, alive) else {
+        return None;
+    };
+    if is_within(span, value) {
+        return None;
+    }
+    if spec.filter.keeps_cells(&PlaceCells { columns, place }) {
+        Some(value)
+    } else {
+        None
+    }
 }

@@ -7,7 +7,7 @@ ghost use Rattle.far_groups.specs.Tallies.{IsSumOf};
 ghost use Rattle.far_offload.specs.Partials.{values_over, span_in, SpanFits};
 
 use crate::column::{Column, find};
-use crate::kept::value_at;
+use crate::kept::{value_at, value_beyond};
 use far_types::Spec;
 
 /// A count and a sum with one value more.
@@ -60,7 +60,7 @@ pub(crate) fn span_of(spec: &Spec, columns: &[Column<'_>], alive: &[bool]) -> Op
     let values = find(columns, spec.value);
     let mut span = None;
     for place in 0..alive.len() {
-        if let Some(value) = value_at(spec, columns, values, place, alive[place]) {
+        if let Some(value) = value_beyond(spec, columns, values, place, alive[place], span) {
             span = Some(widened(span, value));
         }
     }

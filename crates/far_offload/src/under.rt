@@ -13,7 +13,7 @@ ghost use Rattle.far_offload.specs.Columns.{column_of, cell_of, cells_at, AreKey
 ghost use Rattle.far_offload.specs.Partials.{pairs_over, SpanFits};
 
 use crate::column::{Column, find};
-use crate::kept::value_at;
+use crate::kept::{value_at, value_beyond};
 use crate::plain::widened;
 use far_codec::LentInts;
 use far_types::{CellRef, Key, Spec};
@@ -135,7 +135,7 @@ fn span_under_key(
     let mut span = None;
     for place in 0..alive.len() {
         if stands_under(spec, columns, keys, place, key) {
-            if let Some(value) = value_at(spec, columns, values, place, alive[place]) {
+            if let Some(value) = value_beyond(spec, columns, values, place, alive[place], span) {
                 span = Some(widened(span, value));
             }
         }

@@ -1,10 +1,7 @@
 use Rattle.std.proofs.Common.{Option, slice_set, ap, ◌∙◌}
 use Rattle.std.specs.Prelude.{ℤ}
-use Rattle.std.specs.FinMap as fin
 use Rattle.far_extrema.specs.Live.{Live, group_at}
 use Rattle.far_extrema.specs.Spans.{put_span}
-use Rattle.far_types.specs.Answers.{extrema}
-use Rattle.far_aggregates.proofs.ScanLaws.{pairs-lent}
 use Rattle.far_aggregates.proofs.ExtremaLaws.{has-room}
 use Rattle.far_aggregates.proofs.going.look.Goals as goal
 
@@ -13,8 +10,6 @@ put_span-requires-clause-room g c = has-room c.args.number c.args.live.now.group
 
 pub returns : goal.returns
 returns g c =
-    let here = g.G.LendGroup.places c.args.group.now in
     let live = c.args.live.now in
-    let is = pairs-lent c.args.spec.now here c.needed_columns.result c.alive.result.now c.needed_columns.ensures c.alive.ensures in
     let put : Option (ℤ × ℤ) → Live = λ span. record live { groups = slice_set live.groups c.args.number (put_span (group_at live.groups c.args.number) c.args.pair.now.0 span) } in
-    c.put_span.ensures ∙ ap put (c.span_under-span.ensures.span ∙ ap (λ pairs. fin.get (extrema pairs) c.args.pair.now.0) is)
+    c.put_span.ensures ∙ ap put c.span_left-span.ensures

@@ -3,7 +3,7 @@ use Rattle.std.specs.Int.{w64}
 use Rattle.std.proofs.lemmas.Int.{to_z-of_z}
 use Rattle.far_types.specs.Changes.{widened}
 use Rattle.far_offload.specs.Partials.{values_over, span_in, SpanFits}
-use Rattle.far_offload.proofs.FoldLaws.{values-with, values-same, span-more}
+use Rattle.far_offload.proofs.FoldLaws.{values-with, values-within, span-more}
 use Rattle.far_offload.proofs.plain.span_of.Goals as goal
 use Rattle.far_offload.proofs.plain.span_of.Goals.{in-Some, in_default}
 
@@ -15,7 +15,7 @@ loop-place-preserved c =
     let place = c.loop-place.place in
     let flag = get_or alive place false in
     let values = values_over spec columns (take place alive) in
-    elim c.match-value_at.branch [
+    elim c.match-value_beyond.branch [
       | in-Some w ↦
           record {
             span =
@@ -24,7 +24,7 @@ loop-place-preserved c =
                 ∙ ap (λ (v : ℤ). widened v c.loop-place.span) (to_z-of_z w64 w.in-Some.value w.in-Some.ensures.fits)
                 ∙ ap (λ (s : Option (ℤ × ℤ)). widened w.in-Some.value s) c.loop-place.invariant.span)
                 ∙ sym (span-more values w.in-Some.value)
-                ∙ ap span_in (sym (values-with spec columns alive place flag w.in-Some.value (omega arith) refl w.in-Some.ensures.value));
+                ∙ ap span_in (sym (values-with spec columns alive place flag w.in-Some.value (omega arith) refl w.in-Some.ensures.beyond));
             fits = subst SpanFits (sym w.span-is) w.widened.ensures.fits;
           }
       | in_default w ↦
@@ -32,7 +32,7 @@ loop-place-preserved c =
             span =
                 w.span-is
                 ∙ c.loop-place.invariant.span
-                ∙ ap span_in (sym (values-same spec columns alive place flag (omega arith) refl w.in_default.ensures.value));
+                ∙ sym (values-within spec columns alive place flag c.loop-place.span (omega arith) refl c.loop-place.invariant.span w.in_default.ensures.within);
             fits = subst SpanFits (sym w.span-is) c.loop-place.invariant.fits;
           }
     ]

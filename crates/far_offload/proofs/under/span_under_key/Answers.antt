@@ -4,11 +4,9 @@ use Rattle.std.specs.FinMap as fin
 use Rattle.std.proofs.lemmas.Int.{to_z-of_z}
 use Rattle.std.proofs.lemmas.Bool.{false≢true}
 use Rattle.far_types.specs.Keys.{line_cmp}
-use Rattle.far_types.specs.Answers.{extrema}
 use Rattle.far_types.specs.Changes.{widened}
 use Rattle.far_offload.specs.Partials.{SpanFits}
-use Rattle.far_offload.proofs.FoldLaws.{pairs-valueless}
-use Rattle.far_offload.proofs.UnderLaws.{span-there, span-elsewhere}
+use Rattle.far_offload.proofs.UnderLaws.{span-there, span-elsewhere, span-within}
 use Rattle.far_offload.proofs.under.span_under_key.Goals as goal
 use Rattle.far_offload.proofs.under.span_under_key.Goals.{then-stands_under+in-Some, then-stands_under+in_default, else-stands_under}
 
@@ -31,7 +29,7 @@ loop-place-preserved c =
                 ∙ ap Some (w.widened.ensures.value
                 ∙ ap (λ (v : ℤ). widened v c.loop-place.span) (to_z-of_z w64 w.in-Some.value w.in-Some.ensures.fits)
                 ∙ ap (λ (s : Option (ℤ × ℤ)). widened w.in-Some.value s) c.loop-place.invariant.span)
-                ∙ sym (span-there spec columns alive place flag key (omega arith) refl w.in-Some.value (c.stands_under.ensures.0 w.if-stands_under.true) w.in-Some.ensures.value);
+                ∙ sym (span-there spec columns alive place flag key (omega arith) refl w.in-Some.value (c.stands_under.ensures.0 w.if-stands_under.true) w.in-Some.ensures.beyond);
             fits = subst SpanFits (sym w.span-is) w.widened.ensures.fits;
           }
       | then-stands_under+in_default w ↦
@@ -39,7 +37,7 @@ loop-place-preserved c =
             span =
                 w.span-is
                 ∙ c.loop-place.invariant.span
-                ∙ ap (λ pairs. fin.get (extrema pairs) key) (sym (pairs-valueless spec columns alive place flag (omega arith) refl w.in_default.ensures.value));
+                ∙ sym (span-within spec columns alive place flag key (omega arith) refl c.loop-place.span c.loop-place.invariant.span (c.stands_under.ensures.0 w.if-stands_under.true) w.in_default.ensures.within);
             fits = subst SpanFits (sym w.span-is) c.loop-place.invariant.fits;
           }
       | else-stands_under w ↦

@@ -1,0 +1,26 @@
+use Rattle.std.proofs.Common.{◌<◌, length, sym, ap, subst}
+use Rattle.far_extrema.specs.Live.{Live, group_at}
+use Rattle.far_extrema.specs.Spans.{put_span}
+use Rattle.far_aggregates.specs.Known.{AreKnown}
+use Rattle.far_aggregates.proofs.KnownLaws.{known-beside, known-noted, put-plain, put-beside}
+use Rattle.far_aggregates.proofs.known.KnownExtrema.put_span.Goals as goal
+
+pub invariant_of-self : goal.invariant_of-self
+invariant_of-self c =
+    let plain = c.self.inside.plain.items in
+    let groups = c.self.inside.live.groups in
+    let m = group_at groups c.args.group in
+    let key = c.args.key.now in
+    let room : c.args.group < length groups = subst (λ (live : Live). c.args.group < length live.groups) (sym c.self.view_is) c.requires.room in
+    let is = ap (λ (live : Live). live.groups) c.put_span.ensures in
+    subst (AreKnown c.note.new.plain.items) (sym is) (known-noted plain c.note.new.plain.items groups c.args.group (put_span m key c.args.span) c.args.span room (put-plain m key c.args.span c.if-is_none.ensures) c.self.invariant c.note.ensures)
+
+pub invariant_of-self-else-is_none : goal.invariant_of-self-else-is_none
+invariant_of-self-else-is_none c =
+    let plain = c.self.inside.plain.items in
+    let groups = c.self.inside.live.groups in
+    let m = group_at groups c.args.group in
+    let key = c.args.key.now in
+    let room : c.args.group < length groups = subst (λ (live : Live). c.args.group < length live.groups) (sym c.self.view_is) c.requires.room in
+    let is = ap (λ (live : Live). live.groups) c.put_span.ensures in
+    subst (AreKnown plain) (sym is) (known-beside plain groups c.args.group (put_span m key c.args.span) room (put-beside m key c.args.span c.if-is_none.ensures) c.self.invariant)

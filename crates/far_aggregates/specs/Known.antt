@@ -1,0 +1,13 @@
+-- What is known without a look-up of what stands under no key.
+use Rattle.std.specs.Prelude.{◌≡◌, ◌≢◌, ◌⊎◌, ℕ, ℤ, List, Option, None, Some, slice_get}
+use Rattle.std.specs.FinMap as fin
+use Rattle.far_types.specs.Answers.{Extrema}
+use Rattle.far_extrema.specs.Live.{group_at}
+
+-- what is noted of a row group stands there
+abbrev pub AreKnown : List (Option (ℤ × ℤ)) → List Extrema → Type 0
+AreKnown plain groups = (g : ℕ) (span : ℤ × ℤ) → slice_get plain g ≡ Some (Some span) → fin.get (group_at groups g) None ≡ Some span
+
+-- what is noted of this row group is this, and of the others what was
+abbrev pub IsNoted : List (Option (ℤ × ℤ)) → ℕ → Option (ℤ × ℤ) → List (Option (ℤ × ℤ)) → Type 0
+IsNoted plain group noted new = (g : ℕ) (span : ℤ × ℤ) → slice_get new g ≡ Some (Some span) → ((g ≡ group) × (noted ≡ Some span)) ⊎ ((g ≢ group) × (slice_get plain g ≡ Some (Some span)))
