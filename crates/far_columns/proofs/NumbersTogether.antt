@@ -1,8 +1,9 @@
 -- Columns of numbers that get a number each.
 use Rattle.std.proofs.Common.{◌≡◌, ◌≢◌, inl, inr, ℕ, suc, ℤ, ◌+◌, ◌*◌, ◌/◌, ◌<◌, Bool, true, false, not, cond, List, [], ◌∷◌, ◌++◌, length, Option, None, Some, refl, sym, ap, ◌∙◌, arith, mul-le-mul_right}
 use Rattle.std.specs.Prelude.{All, AllPairs, slice_get, nat_lt, is_some, ◌⊎◌}
+use Rattle.std.specs.List.{list_any}
 use Rattle.std.specs.Option.{option_and_then, option_map_or, option_or}
-use Rattle.std.proofs.lemmas.Bool.{eqb-true, eq-eqb, cases_lt, cases_eq, cases_Bool}
+use Rattle.std.proofs.lemmas.Bool.{eqb-true, eq-eqb, cases_lt, cases_eq, cases_Bool, or_parts}
 use Rattle.std.proofs.lemmas.List.Elements.{All-nil, All-cons, All-head, All-tail}
 use Rattle.std.proofs.lemmas.List.Kept.{AllPairs-cons}
 use Rattle.std.proofs.lemmas.Nat.{div_below}
@@ -13,12 +14,12 @@ use Rattle.far_types.specs.FirstOf.{first_of}
 use Rattle.far_scopes.specs.declared.entry.Entry.{Entry}
 use Rattle.far_scopes.specs.Memory.{at_of}
 use Rattle.far_scopes.specs.Movement.{Movement, ChangesObject}
-use Rattle.far_scopes.specs.Refusing.{write_refusal, no_room}
+use Rattle.far_scopes.specs.Refusing.{absent, written_out, write_refusal, no_room}
 use Rattle.far_scopes.proofs.Pins.{length-with}
 use Rattle.far_vector.specs.Vector.{Vector, IsShaped, AreApart, object_at}
 use Rattle.far_vector.specs.Effects.{is_full, pushed, pushed_in}
 use Rattle.far_vector.specs.Refusing.{push_refusal}
-use Rattle.far_scopes.proofs.FirstCases.{first-append}
+use Rattle.far_scopes.proofs.FirstCases.{first-append, two-free}
 use Rattle.far_scopes.proofs.Alike.{none-pass}
 use Rattle.far_columns.specs.NumbersTogether.{NumberLists, NumberColumns, AreNumberColumns, all_begin, all_pushed, absents, some_written_out, no_room_for_groups, push_numbers_refusal}
 
@@ -138,3 +139,31 @@ pub due-begun : {K : Type 0} (m : Movement (Option ℤ) K) (columns : NumberColu
 due-begun m columns begun =
     ap (λ (b : Bool). first_of (cond b (no_room_for_groups m columns ∷ []) (absents m columns ++ some_written_out m columns ∷ []))) begun
     ∙ first-append (absents m columns) (some_written_out m columns ∷ [])
+
+-- where no number is refused and the row groups are begun, no push is
+or-none : (a b : Option Refusal) → option_or a b ≡ None → (None ≡ a) × (None ≡ b)
+or-none (Some e) b is = absurd cc
+or-none None b is = (refl, sym is)
+
+not-due : (b : Bool) (e : Refusal) → None ≡ first_of ((b, e) ∷ []) → b ≡ false
+not-due true e free = absurd cc
+not-due false e free = refl
+
+neither-due : (here used : Bool × Refusal) → None ≡ first_of (here ∷ []) → used.0 ≡ false → None ≡ first_of (here ∷ used ∷ [])
+neither-due (true, e) used free unused = absurd cc
+neither-due (false, e) (true, f) free unused = absurd cc
+neither-due (false, e) (false, f) free unused = refl
+
+each-free : {K : Type 0} (m : Movement (Option ℤ) K) (columns : NumberColumns) → All (λ c. is_full c ≡ false) columns → None ≡ first_of (absents m columns) → list_any (λ c. (written_out m (object_at c c.len)).0) columns ≡ false → All (λ c. push_refusal m c ≡ None) columns
+each-free m [] begun here free = All-nil (λ c. push_refusal m c ≡ None)
+each-free m (c ∷ rest) begun here free =
+    let first = two-free (absent m (object_at c c.len)) (absents m rest) here in
+    let parts = or_parts (written_out m (object_at c c.len)).0 (list_any (λ d. (written_out m (object_at d d.len)).0) rest) free in
+    All-cons (λ d. push_refusal m d ≡ None) c rest
+    (push-free m c (All-head (λ d. is_full d ≡ false) c rest begun) (neither-due (absent m (object_at c c.len)) (written_out m (object_at c c.len)) first.0 parts.0))
+    (each-free m rest (All-tail (λ d. is_full d ≡ false) c rest begun) first.1 parts.1)
+
+pub all-free : {K : Type 0} (m : Movement (Option ℤ) K) (columns : NumberColumns) → All (λ c. is_full c ≡ false) columns → all_begin columns ≡ false → push_numbers_refusal m columns ≡ None → All (λ c. push_refusal m c ≡ None) columns
+all-free m columns each begun free =
+    let both = or-none (first_of (absents m columns)) (first_of (some_written_out m columns ∷ [])) (sym (due-begun m columns begun) ∙ free) in
+    each-free m columns each both.0 (not-due (some_written_out m columns).0 (some_written_out m columns).1 both.1)

@@ -22,7 +22,7 @@ use far_types::Refusal;
 use far_vector::FarVector;
 use std::alloc::Global;
 use std::marker::Model;
-pub use together::{may_push_numbers, push_numbers, unpush_numbers};
+pub use together::{fill_numbers, may_push_numbers, push_numbers, unpush_numbers};
 
 /// A column of numbers, each of which may be missing. The numbers of a row group are the list of one object of the
 /// `Objects<Option<i64>, S>` that each call names; in places that are not yet used stands 0.

@@ -6,5 +6,5 @@ mod int_column;
 mod lent;
 
 pub use alive::Alive;
-pub use int_column::{IntColumn, may_push_numbers, push_numbers, unpush_numbers};
+pub use int_column::{IntColumn, fill_numbers, may_push_numbers, push_numbers, unpush_numbers};
 pub use lent::{Lent, Lents};

@@ -4,6 +4,7 @@ pub mod WritingLaws
 pub mod GroupLaws
 pub mod Apart
 pub mod InUse
+pub mod LastGroup
 pub mod Checked
 pub mod RangeLaws
 pub mod Listed

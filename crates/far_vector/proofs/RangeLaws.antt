@@ -61,9 +61,13 @@ module _ {X K : Type 0} (meaning : List ℕ → List X) (content : K → List �
     pub written-is : (i o size : ℕ) (range now : List X) → o ≡ object_at v i → size ≡ v.size → range ≡ now → overwritten (written m o) o (i % size) range ≡ range_written m v i now
     written-is i o size range now object same is = rw (object, same, is) refl
 
-    -- what a range that is lent changes: the list of object o, from the place of i on
+    -- what a range that is lent changes: the list of object o, from there on
+    abbrev pub ChangesFrom : ℕ → ℕ → ℕ → Type 0
+    ChangesFrom at o n = IsSomeAnd (list_in m.memory o) (λ list. (range : List X) → length range ≡ at + n - at → ChangesList (list_of meaning content m) (list_of meaning content (overwritten (written m o) o at range)) o (Some (take at list ++ (range ++ drop (at + n) list))))
+
+    -- and from the place of i on
     abbrev pub Changes : ℕ → ℕ → ℕ → ℕ → Type 0
-    Changes i o size n = IsSomeAnd (list_in m.memory o) (λ list. (range : List X) → length range ≡ i % size + n - i % size → ChangesList (list_of meaning content m) (list_of meaning content (overwritten (written m o) o (i % size) range)) o (Some (take (i % size) list ++ (range ++ drop (i % size + n) list))))
+    Changes i o size n = ChangesFrom (i % size) o n
 
     pub changes-is : (i o size n : ℕ) → o ≡ object_at v i → size ≡ v.size → Changes i o size n → Changes i (object_at v i) v.size n
     changes-is i o size n object same changes = subst (λ k. Changes i (object_at v i) k n) same (subst (λ p. Changes i p size n) object changes)

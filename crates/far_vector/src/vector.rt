@@ -1,5 +1,5 @@
 // Lists of elements, one object a row group.
-ghost use Rattle.std.specs.Prelude.{◌≡◌, ℕ, ◌-◌, ◌*◌, ◌<◌, List, [], length, replicate, Option, IfOk, IfErr, IsSomeAnd, slice_get};
+ghost use Rattle.std.specs.Prelude.{◌≡◌, ℕ, ◌-◌, ◌*◌, ◌/◌, ◌%◌, ◌<◌, List, [], length, replicate, Option, IfOk, IfErr, IsSomeAnd, slice_get};
 ghost use Rattle.far_scopes.specs.Movement.{list_of};
 ghost use Rattle.far_vector.specs.Vector.{IsShaped, IsVector, object_at};
 
@@ -93,7 +93,33 @@ impl<T: Elem> FarVector<T> {
         ensures list { IsSomeAnd (list_of T.meaning S.content objects.now result) (λ list. length list ≡ self.now.size) }
     {
         let _ = objects.number();
-        self.objects[i / self.size]
+        self.objects[self.group_of(i)]
+    }
+
+    // The row group of a place. A push or an append reaches the last one, which a product finds: a division takes longer.
+    fn group_of(&self, i: usize) -> usize
+        requires { i < length self.now.objects * self.now.size }
+        ensures { result ≡ i / self.now.size }
+    {
+        let last = self.objects.len() - 1;
+        if i < last * self.size {
+            return i / self.size;
+        }
+        last
+    }
+
+    // Where a place stands in its row group, found likewise.
+    fn index_of(&self, i: usize) -> usize
+        requires { i < length self.now.objects * self.now.size }
+        ensures index { result ≡ i % self.now.size }
+        ensures below { result < self.now.size }
+        ensures shaped { IsShaped self.now }
+    {
+        let begin = (self.objects.len() - 1) * self.size;
+        if i < begin {
+            return i % self.size;
+        }
+        i - begin
     }
 }
 

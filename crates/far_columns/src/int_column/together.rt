@@ -1,5 +1,5 @@
 // Several columns of numbers get a number each, all or none.
-ghost use Rattle.std.specs.Prelude.{◌≡◌, ◌⊎◌, ◌≤◌, ◌+◌, ◌-◌, ◌^◌, if◌then◌else◌, ℕ, List, length, map, take, true, None, Some, OnOk, IfErr, OnErr};
+ghost use Rattle.std.specs.Prelude.{◌≡◌, ◌⊎◌, ◌≤◌, ◌+◌, ◌-◌, ◌^◌, if◌then◌else◌, ℕ, List, length, map, take, true, false, None, Some, OnOk, IfErr, OnErr};
 ghost use Rattle.far_codec.specs.Reading.{ints_meaning};
 ghost use Rattle.far_scopes.specs.Movement.{AreClean, AreHere};
 ghost use Rattle.far_scopes.specs.Refusing.{refusal_in};
@@ -82,8 +82,32 @@ pub fn push_numbers<S: FarTickets>(
     }
     all_here(objects, columns)?;
     all_writable(objects, columns)?;
-    fill_places(objects, columns, numbers);
+    fill_numbers(objects, columns, numbers);
     Ok(())
+}
+
+/// Appends a number to each of several columns whose last row groups are begun, as `push_numbers` does, once `may_push_numbers` told
+/// that none is refused. So no object is asked again. Takes no memory.
+pub fn fill_numbers<S: FarTickets>(
+    objects: &mut Objects<Option<i64>, S>,
+    columns: &mut [IntColumn],
+    numbers: &[Option<i64>],
+)
+    requires are { AreNumberColumns (number_lists S.content objects.old) columns.old }
+    requires even { length numbers.now ≡ length columns.old }
+    requires begun { all_begin columns.old ≡ false }
+    requires free { push_numbers_refusal objects.old columns.old ≡ None }
+    ensures pushed { columns.new ≡ all_pushed (length objects.old.entries) columns.old }
+    ensures moved { objects.new ≡ all_pushed_in objects.old columns.old numbers.now }
+    ensures numbers { map (numbers_in S.content objects.new) columns.new ≡ all_numbers_with (number_lists S.content objects.old) columns.old numbers.now }
+    ensures are { AreNumberColumns (number_lists S.content objects.new) columns.new }
+    ensures count { length objects.new.entries ≡ length objects.old.entries }
+    ensures others { KeepsNumbers (number_lists S.content objects.old) (number_lists S.content objects.new) columns.old columns.new }
+    ensures clean { AreClean ints_meaning S.content objects.old → AreClean ints_meaning S.content objects.new }
+    ensures store { (name : List ℕ) → AreHere S.is_of name objects.old → AreHere S.is_of name objects.new }
+{
+    known_shapes(columns);
+    fill_places(objects, columns, numbers);
 }
 
 /// Takes back a `push_numbers` that began row groups: the number of each column, the only one of its last row group, and

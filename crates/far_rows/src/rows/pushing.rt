@@ -17,7 +17,7 @@ ghost use Rattle.far_rows.specs.Effects.{IsPushed, KeepsObjects};
 
 use super::Rows;
 use crate::new_row::NewRow;
-use far_columns::{IntColumn, push_numbers, unpush_numbers};
+use far_columns::{IntColumn, fill_numbers, push_numbers, unpush_numbers};
 use far_scopes::Objects;
 use far_store::FarTickets;
 use far_texts::{TextColumn, push_texts};
@@ -123,9 +123,7 @@ fn push_values<S: FarTickets>(
     if numbers.is_empty() {
         return Ok(());
     }
-    let Ok(()) = push_numbers(number_objects, numbers, row.numbers()) else {
-        unreachable!()
-    };
+    fill_numbers(number_objects, numbers, row.numbers());
     Ok(())
 }
 

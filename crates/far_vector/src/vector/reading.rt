@@ -29,7 +29,7 @@ impl<T: Elem> FarVector<T> {
             return Err(Refusal::OutOfRange);
         }
         let list = objects.lend(self.object_at(objects, i))?;
-        Ok(list[i % self.size])
+        Ok(list[self.index_of(i)])
     }
 
     /// The elements `from` up to `to`, all of one row group, lent in place. Takes no memory.

@@ -121,7 +121,7 @@ impl<T: Elem> FarVector<T> {
         ensures clean { AreClean T.meaning S.content objects.old → AreClean T.meaning S.content objects.new }
         ensures store { (name : List ℕ) → AreHere S.is_of name objects.old → AreHere S.is_of name objects.new }
     {
-        let at = i % self.size;
+        let at = self.index_of(i);
         let o = self.writable_at(objects, i);
         let range = objects.lend_range_mut(o, at, at + 1);
         range[0] = x;

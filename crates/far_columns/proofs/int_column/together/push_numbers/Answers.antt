@@ -36,14 +36,10 @@ returns-in_err-all_writable-clause-refused g c =
     let m = c.args.objects.now in
     rw (p.1, p.2) (inl (due-begun m c.args.columns.now (sym c.if-all_begin.ensures) ∙ ap (λ r. option_or r (first_of (some_written_out m c.args.columns.now ∷ []))) (sym c.in_ok-all_here.ensures) ∙ sym c.in_err-all_writable.ensures.refused))
 
-pub fill_places-requires-clause-begun : goal.fill_places-requires-clause-begun
-fill_places-requires-clause-begun g c κs within = none-begin (number_lists g.S.FarTickets.content c.args.objects.now) c.args.columns.now c.requires.are c.known_shapes.ensures (sym c.if-all_begin.ensures)
-
-pub returns-clause-are : goal.returns-clause-are
-returns-clause-are g c = record {
-  beside = c.fill_places.ensures.beside;
-  even = subst (AllPairs (λ c d. (c.size ≡ d.size) × (c.len ≡ d.len))) (sym (c.fill_places.ensures.pushed 0)) (even-pushed 0 c.args.columns.now c.requires.are.even);
-}
+pub fill_numbers-requires-clause-free : goal.fill_numbers-requires-clause-free
+fill_numbers-requires-clause-free g c κs within =
+    let m = c.args.objects.now in
+    due-begun m c.args.columns.now (sym c.if-all_begin.ensures) ∙ ap (λ r. option_or r (first_of (some_written_out m c.args.columns.now ∷ []))) (sym c.in_ok-all_here.ensures) ∙ sym c.in_ok-all_writable.ensures.refused
 
 pub returns-clause-free : goal.returns-clause-free
 returns-clause-free g c =
