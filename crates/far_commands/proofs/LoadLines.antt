@@ -1,9 +1,9 @@
 -- The lines of a load that is plain, one after another.
-use Rattle.std.proofs.Common.{◌≡◌, ◌==◌, ◌+◌, ◌<◌, ℕ, zero, suc, Bool, true, false, not, List, [], ◌∷◌, length, drop, Option, Some, None, ◌∙◌, refl, sym, ap, subst, inl, inr, arith}
+use Rattle.std.proofs.Common.{◌≡◌, ◌==◌, ◌+◌, ◌<◌, ℕ, zero, suc, Bool, true, false, List, [], ◌∷◌, length, None, ◌∙◌, refl, sym, ap, subst, inl, inr, arith}
 use Rattle.std.specs.List.{list_any, slice_split, position_or_len}
 use Rattle.std.proofs.lemmas.Bool.{cases_Bool, eqb-true}
 use Rattle.csv.specs.Machine.{next_record}
-use Rattle.csv.specs.Reading.{default_config, records, records_from, strip_bom}
+use Rattle.csv.specs.Reading.{default_config, records, records_from}
 use Rattle.csv.specs.declared.parser.State.TheVariants as st
 use Rattle.far_script.specs.Lines.{is_line_feed}
 use Rattle.far_script.specs.OneRecord.{begins_as_order_mark, is_comma}

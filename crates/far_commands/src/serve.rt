@@ -1,15 +1,13 @@
 // Lines as commands, and their answers.
-ghost use Rattle.std.specs.Prelude.{◌≡◌, ℕ, List, [], ◌++◌, ◌+◌, ◌≤◌, ◌<◌, ◌^◌, true, false, IfOk, IfErr, OnOk, IsUtf8, Some};
+ghost use Rattle.std.specs.Prelude.{◌≡◌, ℕ, List, [], ◌++◌, ◌+◌, ◌≤◌, ◌<◌, ◌^◌, true, false, codes, IfOk, IfErr, OnOk, OnErr, Some};
 ghost use Rattle.far_frame.specs.declared.step.Reply.{Reply};
 ghost use Rattle.far_frame.specs.State.{live};
-ghost use Rattle.far_frame.specs.Steps.{IsStep};
 ghost use Rattle.far_commands.specs.Cuts.{Fails, FailsBy, Lists, PrintsCut};
-ghost use Rattle.far_commands.specs.Commands.{command_of};
 ghost use Rattle.far_script.specs.Faults.{IfInput};
 ghost use Rattle.far_script.specs.Flow.{Prints, Reads, Stops, Holds, spanned};
 ghost use Rattle.far_script.specs.Printing.{numbered_text};
 ghost use Rattle.far_commands.specs.Listings.{listing_of};
-ghost use Rattle.far_commands.specs.Replies.{Serves, ServesLine, Takes, done_text, reply_text, AnswersLine};
+ghost use Rattle.far_commands.specs.Replies.{Serves, Takes, done_text, reply_text, AnswersLine};
 
 use super::command::{Command, parse};
 use super::lending::lent;
@@ -37,12 +35,14 @@ fn done(step: &Step) -> &'static str
     }
 }
 
-/// The line of a reply, or the lines of an answer or of a part of a column; the text is that of a reply that has nothing
+/// Makes a page the line of a reply, or the lines of an answer or of a part of a column. The text is that of a reply that has nothing
 /// to say.
-pub fn print_reply(page: &mut Page, done: &str, reply: &Reply) -> Result<(), Refusal>
-    ensures ok { OnOk result (page.new ≡ page.old ++ reply_text done.now reply.now) }
+#[inline(always)]
+fn print_reply(page: &mut Page, done: &str, reply: &Reply) -> Result<(), Refusal>
+    ensures ok { OnOk result (page.new ≡ reply_text done.now reply.now) }
     ensures memory { IfErr result (λ e. e ≡ Refusal.NoMemory) }
 {
+    page.truncate(0);
     match reply {
         Reply::Place(place) => numbered(page, "place", u64::from(*place)),
         Reply::Done => page.text(done),
@@ -53,18 +53,6 @@ pub fn print_reply(page: &mut Page, done: &str, reply: &Reply) -> Result<(), Ref
         Reply::Job(job) => numbered(page, "job", *job),
         Reply::Next(groups) => next(page, groups.as_slice()),
         Reply::Refused(refusal) => refused(page, refusal),
-    }
-}
-
-/// Serves a step. An edit, which most steps are, takes the shorter way.
-fn serve_step<S: FarStore>(world: &mut World<S>, step: Step) -> Reply
-    requires few { world.old.faults < 2 ^ 62 }
-    ensures step { IsStep S.content S.number_of world.old step result world.new }
-    ensures faults { world.new.faults ≤ world.old.faults + 1 }
-{
-    match step {
-        Step::Edit(edit) => world.edit(edit),
-        other => world.serve(other),
     }
 }
 
@@ -91,24 +79,7 @@ fn take_lending<S: FarStore>(
     }
 }
 
-/// Serves a step, and prints its reply.
-fn serve_and_print<S: FarStore>(
-    world: &mut World<S>,
-    step: Step,
-    reply: &mut Page,
-) -> Result<(), Refusal>
-    requires few { world.old.faults < 2 ^ 62 }
-    ensures ok { OnOk result (Takes S.FarTickets world.old step reply.new world.new) }
-    ensures faults { world.new.faults ≤ world.old.faults + 1 }
-    ensures memory { IfErr result (λ e. e ≡ Refusal.NoMemory) }
-{
-    reply.truncate(0);
-    let done = done(&step);
-    let given = serve_step(world, step);
-    print_reply(reply, done, &given)
-}
-
-/// Takes a step, and prints its reply.
+/// Takes a step, and prints its reply. An edit, which most steps are, takes the shorter way to the table.
 fn take_step<S: FarStore>(world: &mut World<S>, step: Step, reply: &mut Page) -> Result<(), Refusal>
     requires few { world.old.faults < 2 ^ 62 }
     ensures ok { OnOk result (Takes S.FarTickets world.old step reply.new world.new) }
@@ -116,19 +87,28 @@ fn take_step<S: FarStore>(world: &mut World<S>, step: Step, reply: &mut Page) ->
     ensures memory { IfErr result (λ e. e ≡ Refusal.NoMemory) }
 {
     match step {
+        Step::Edit(edit) => {
+            let given = world.edit(edit);
+            print_reply(reply, "ok\n", &given)
+        }
         Step::Lend { column, from, to } => {
             if take_lending(world, column, from, to, reply)? {
                 return Ok(());
             }
             // What cannot be lent is refused by the step itself.
-            serve_and_print(world, Step::Lend { column, from, to }, reply)
+            let given = world.serve(Step::Lend { column, from, to });
+            print_reply(reply, "ok\n", &given)
         }
-        other => serve_and_print(world, other, reply),
+        other => {
+            let done = done(&other);
+            let given = world.serve(other);
+            print_reply(reply, done, &given)
+        }
     }
 }
 
-/// Answers a command, with the bytes behind its line that belong to it.
-fn answer_command<S: FarStore, A: Resources<S>, R: Read + Drop, W: Write>(
+/// Serves a command, with the bytes behind its line that belong to it, and prints its reply.
+fn serve_command<S: FarStore, A: Resources<S>, R: Read + Drop, W: Write>(
     resources: &A,
     world: &mut World<S>,
     command: Command,
@@ -177,38 +157,14 @@ fn answer_command<S: FarStore, A: Resources<S>, R: Read + Drop, W: Write>(
     }
 }
 
-/// Answers a line that is not empty: the command that it spells, or else `syntax command NUMBER`.
-fn answer_words<S: FarStore, A: Resources<S>, R: Read + Drop, W: Write>(
-    resources: &A,
-    world: &mut World<S>,
-    line: Span,
-    number: u32,
-    input: &mut Input<R>,
-    output: &mut Output,
-    writer: &mut W,
-) -> Result<(), ShellFault>
-    requires held { Holds R.Read input.old line }
-    requires few { world.old.faults < 2 ^ 62 }
-    ensures text { OnOk result (IsUtf8 (spanned R.Read input.old line)) }
-    ensures ok { OnOk result ((rows : List ℕ) × (text : List ℕ) × Reads R.Read input.old rows input.new × Prints (W.contents writer.old) output.old.page text (W.contents writer.new) output.new.page × ServesLine S.FarTickets number world.old (command_of world.old.state.table.schema (spanned R.Read input.old line)) rows text world.new) }
-    ensures err { IfErr result (λ fault. PrintsCut fault (λ said. (command_of world.old.state.table.schema (spanned R.Read input.old line) ≡ Some Command.Dump) × (said ≡ listing_of (live world.old.state))) (W.contents writer.old) output.old.page (W.contents writer.new) output.new.page) }
-    ensures stopped { IfErr result (λ fault. IfInput fault (Stops R.Read (λ behind. Fails world.old.state.table.schema (spanned R.Read input.old line) behind) input.old input.new)) }
-    ensures faults { world.new.faults ≤ world.old.faults + 1 }
-    ensures asked { input.new.source.reads ≤ input.old.source.reads }
+/// Prints `syntax command NUMBER`, the reply to a line that is no command.
+fn print_syntax(output: &mut Output, number: u32) -> Result<(), Refusal>
+    ensures ok { OnOk result (output.new.page ≡ output.old.page ++ numbered_text (codes "syntax command") number) }
+    ensures err { OnErr result (output.new.page ≡ output.old.page) }
 {
-    match parse(
-        resources.alloc(),
-        world.frame().schema().as_slice(),
-        input.text(line)?,
-    )? {
-        Some(command) => answer_command(resources, world, command, input, output, writer),
-        None => {
-            output.reply.truncate(0);
-            numbered(&mut output.reply, "syntax command", u64::from(number))?;
-            output.add()?;
-            Ok(())
-        }
-    }
+    output.reply.truncate(0);
+    numbered(&mut output.reply, "syntax command", u64::from(number))?;
+    output.add()
 }
 
 /// Answers a line: an empty one is no command, and any other the next one.
@@ -231,14 +187,25 @@ pub fn answer_line<S: FarStore, A: Resources<S>, R: Read + Drop, W: Write>(
         return Ok(());
     }
     progress.number += 1;
-    answer_words(
-        resources,
-        &mut progress.world,
-        line,
-        progress.number,
-        input,
-        output,
-        writer,
-    )?;
-    Ok(())
+    match parse(
+        resources.alloc(),
+        progress.world.frame().schema().as_slice(),
+        input.text(line)?,
+    )? {
+        Some(command) => {
+            serve_command(
+                resources,
+                &mut progress.world,
+                command,
+                input,
+                output,
+                writer,
+            )?;
+            Ok(())
+        }
+        None => {
+            print_syntax(output, progress.number)?;
+            Ok(())
+        }
+    }
 }

@@ -1,7 +1,9 @@
 -- Fields, one after the other.
-use Rattle.std.proofs.Common.{◌≡◌, ◌==◌, ℕ, suc, ◌+◌, ◌<◌, ◌∙◌, Bool, true, false, ◌&&◌, zero, List, [], ◌∷◌, ◌++◌, Option, None, Some, not, drop, length, slice_get, append_assoc, refl, sym, ap, arith}
+use Rattle.std.proofs.Common.{◌≡◌, ◌==◌, ℕ, suc, ◌+◌, ◌≤◌, ◌<◌, ◌∙◌, Bool, true, false, ◌&&◌, zero, List, [], ◌∷◌, ◌++◌, Option, None, Some, not, nat_lt, if◌then◌else◌, drop, length, slice_get, append_assoc, append-nil, refl, sym, ap, arith}
 use Rattle.std.specs.List.{list_any, slice_split, position_or_len, before_first, after_first}
 use Rattle.std.proofs.lemmas.Bool.{eqb-true}
+use Rattle.std.proofs.lemmas.List.{length-drop, take_all}
+use Rattle.std.proofs.lemmas.List.Sums.{prefix_len-le-length}
 use Rattle.std.proofs.lemmas.List.Splits.{slice_split_first}
 use Rattle.csv.specs.Records.{field_at}
 use Rattle.far_types.specs.declared.cell.Cell.{Cell}
@@ -12,7 +14,7 @@ use Rattle.far_script.proofs.PartLaws.{last-part}
 use Rattle.far_script.proofs.PlainRecords.{one_record-plain, one_record-empty}
 
 -- cells so far, and those of the fields to come
-pub one-cell-more : (kinds : List Kind) (cells : List Cell) (n : ℕ) (rest : List ℕ) (whole : List Cell) → position_or_len is_comma rest < length rest
+one-cell-more : (kinds : List Kind) (cells : List Cell) (n : ℕ) (rest : List ℕ) (whole : List Cell) → position_or_len is_comma rest < length rest
     → cells ++ cells_from kinds n (slice_split is_comma rest) ≡ whole
     → (cells ++ cell_of (slice_get kinds n) (before_first is_comma rest) ∷ []) ++ cells_from kinds (n + 1) (slice_split is_comma (after_first is_comma rest)) ≡ whole
 one-cell-more kinds cells n rest whole h e =
@@ -20,16 +22,7 @@ one-cell-more kinds cells n rest whole h e =
     ∙ sym (ap (λ (parts : List (List ℕ)). cells ++ cells_from kinds n parts) (slice_split_first is_comma rest 0 h))
     ∙ e
 
--- the same, in the values at hand
-pub cells-go-on : (kinds : List Kind) (cells : List Cell) (n : ℕ) (rest : List ℕ) (whole : List Cell) (field others : List ℕ) (column : Option Kind) (cell : Cell) (after : List Cell) (m : ℕ)
-    → (position_or_len is_comma rest < length rest) × (field ≡ before_first is_comma rest) × (others ≡ after_first is_comma rest)
-    → cell ≡ cell_of column field → column ≡ slice_get kinds n → after ≡ cells ++ cell ∷ [] → m ≡ n + 1
-    → cells ++ cells_from kinds n (slice_split is_comma rest) ≡ whole
-    → after ++ cells_from kinds m (slice_split is_comma others) ≡ whole
-cells-go-on kinds cells n rest whole field others column cell after m parts made of grown next e =
-    rw (grown, next, made, of, parts.1, parts.2) (one-cell-more kinds cells n rest whole parts.0 e)
-
-pub last-cell : (kinds : List Kind) (cells : List Cell) (n : ℕ) (rest : List ℕ) (whole : List Cell) → position_or_len is_comma rest ≡ length rest
+last-cell : (kinds : List Kind) (cells : List Cell) (n : ℕ) (rest : List ℕ) (whole : List Cell) → position_or_len is_comma rest ≡ length rest
     → cells ++ cells_from kinds n (slice_split is_comma rest) ≡ whole
     → cells ++ cell_of (slice_get kinds n) rest ∷ [] ≡ whole
 last-cell kinds cells n rest whole h e = sym (ap (λ (parts : List (List ℕ)). cells ++ cells_from kinds n parts) (last-part is_comma rest h)) ∙ e
@@ -40,12 +33,49 @@ some-same f g h = cc h
 two-more : (i : ℕ) → suc (i + 1) ≡ suc i + 1
 two-more i = omega arith
 
-pub cells-end : (kinds : List Kind) (cells : List Cell) (n : ℕ) (rest : List ℕ) (whole : List Cell) (column : Option Kind) (cell : Cell) (after : List Cell)
-    → position_or_len is_comma rest ≡ length rest
-    → cell ≡ cell_of column rest → column ≡ slice_get kinds n → after ≡ cells ++ cell ∷ []
+-- the cells of the fields that are left, if there are any
+abbrev pub cells-left : List Kind → ℕ → Bool → List ℕ → List Cell
+cells-left kinds n more rest = if more then cells_from kinds n (slice_split is_comma rest) else []
+
+is-below : (n m : ℕ) → nat_lt n m ≡ true → n < m
+is-below n m h = grind (arith, h)
+
+is-end : (n m : ℕ) → n ≤ m → nat_lt n m ≡ false → n ≡ m
+is-end n m low h = grind (arith, h, low)
+
+ends-within : (rest : List ℕ) → position_or_len is_comma rest ≤ length rest
+ends-within rest = prefix_len-le-length (λ c. not (is_comma c)) rest
+
+next-cell : (more : Bool) (kinds : List Kind) (cells : List Cell) (n : ℕ) (rest : List ℕ) (whole : List Cell) → nat_lt (position_or_len is_comma rest) (length rest) ≡ more
     → cells ++ cells_from kinds n (slice_split is_comma rest) ≡ whole
-    → after ≡ whole
-cells-end kinds cells n rest whole column cell after none made of grown e = rw (grown, made, of) (last-cell kinds cells n rest whole none e)
+    → (cells ++ cell_of (slice_get kinds n) (before_first is_comma rest) ∷ []) ++ cells-left kinds (n + 1) more (after_first is_comma rest) ≡ whole
+next-cell true kinds cells n rest whole h e = one-cell-more kinds cells n rest whole (is-below (position_or_len is_comma rest) (length rest) h) e
+next-cell false kinds cells n rest whole h e =
+    let all = is-end (position_or_len is_comma rest) (length rest) (ends-within rest) h in
+    append-nil (cells ++ cell_of (slice_get kinds n) (before_first is_comma rest) ∷ [])
+    ∙ ap (λ (field : List ℕ). cells ++ cell_of (slice_get kinds n) field ∷ []) (take_all (position_or_len is_comma rest) rest (omega (arith, all)))
+    ∙ last-cell kinds cells n rest whole all e
+
+-- the same, in the values at hand
+pub cells-go-on : (kinds : List Kind) (cells : List Cell) (n : ℕ) (rest behind : List ℕ) (whole : List Cell) (column : Option Kind) (after : List Cell) (m : ℕ) (more : Bool)
+    → after ≡ cells ++ cell_of column (before_first is_comma rest) ∷ [] → column ≡ slice_get kinds n → m ≡ n + 1 → behind ≡ after_first is_comma rest → more ≡ nat_lt (position_or_len is_comma rest) (length rest)
+    → cells ++ cells_from kinds n (slice_split is_comma rest) ≡ whole
+    → after ++ cells-left kinds m more behind ≡ whole
+cells-go-on kinds cells n rest behind whole column after m more grown of next left goes e =
+    rw (grown, of, next, left, goes) (next-cell (nat_lt (position_or_len is_comma rest) (length rest)) kinds cells n rest whole refl e)
+
+-- how much there is to read
+abbrev pub length-left : Bool → List ℕ → ℕ
+length-left more rest = if more then length rest + 1 else 0
+
+less-at : (more : Bool) (rest : List ℕ) → nat_lt (position_or_len is_comma rest) (length rest) ≡ more → length-left more (after_first is_comma rest) < length rest + 1
+less-at true rest h =
+    let low = is-below (position_or_len is_comma rest) (length rest) h in
+    omega (arith, low, length-drop (position_or_len is_comma rest + 1) rest)
+less-at false rest h = omega arith
+
+pub less-left : (rest behind : List ℕ) (more : Bool) → behind ≡ after_first is_comma rest → more ≡ nat_lt (position_or_len is_comma rest) (length rest) → length-left more behind < length rest + 1
+less-left rest behind more left goes = rw (left, goes) (less-at (nat_lt (position_or_len is_comma rest) (length rest)) rest refl)
 
 -- the field of a record at a place
 pub drop-field_at : (fields : List (List ℕ)) (i : ℕ) (field : List ℕ) → field_at fields i ≡ Some field → drop i fields ≡ field ∷ drop (i + 1) fields

@@ -1,5 +1,7 @@
 pub mod FieldLaws
 pub mod NumberLaws
+pub mod FirstNumbers
+pub mod NumberFields
 pub mod PartLaws
 pub mod PlainRecords
 pub mod WordLaws

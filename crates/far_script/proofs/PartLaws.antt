@@ -1,7 +1,9 @@
 -- The parts between separators.
-use Rattle.std.proofs.Common.{◌≡◌, ℕ, suc, ◌+◌, Bool, true, false, List, [], ◌∷◌, length, refl, arith}
+use Rattle.std.proofs.Common.{◌≡◌, ◌==◌, ℕ, suc, ◌+◌, ◌<◌, Bool, true, false, not, List, [], ◌∷◌, length, slice_index, ◌∙◌, refl, ap, subst, arith}
 use Rattle.std.specs.Prelude.{◌||◌}
 use Rattle.std.specs.List.{list_any, slice_split, position_or_len}
+use Rattle.std.proofs.lemmas.Bool.{eqb-true}
+use Rattle.std.proofs.lemmas.List.Sums.{prefix_len_stops}
 
 left : (a b : Bool) → (a || b) ≡ false → a ≡ false
 left false b e = refl
@@ -34,3 +36,14 @@ last-part-at p false c cs is h rest = no-separator p c cs is (rest (past-end (po
 pub last-part : (p : ℕ → Bool) (xs : List ℕ) → position_or_len p xs ≡ length xs → slice_split p xs ≡ xs ∷ []
 last-part p [] h = refl
 last-part p (c ∷ cs) h = last-part-at p (p c) c cs refl h (last-part p cs)
+
+-- the separator behind the first part
+not-false : (b : Bool) → not b ≡ false → b ≡ true
+not-false true e = refl
+not-false false e = cc e
+
+pub separates : (wanted : ℕ) (text : List ℕ) (at : ℕ) → at ≡ position_or_len (λ b. b == wanted) text → at < length text → slice_index text at ≡ wanted
+separates wanted text at is low =
+    let first = position_or_len (λ b. b == wanted) text in
+    let stops = prefix_len_stops (λ b. not (b == wanted)) text 0 (subst (λ (k : ℕ). k < length text) is low) in
+    eqb-true (slice_index text at) wanted (ap (λ (k : ℕ). slice_index text k == wanted) is ∙ not-false (slice_index text first == wanted) stops)

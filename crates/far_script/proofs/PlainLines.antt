@@ -112,3 +112,18 @@ none-behind (suc n) (x ∷ xs) e = none-behind n xs (or-right (is_break x) (list
 -- and is shorter
 pub less-behind : (text : List ℕ) → 0 < length text → length (lines_behind text) < length text
 less-behind text some = omega (arith, some, length-drop (position_or_len is_line_feed text + 1) text)
+
+-- a test of two looks for each
+either : (a b c d : Bool) → ((a || c) || (b || d)) ≡ ((a || b) || (c || d))
+either true b c d = refl
+either false true true d = refl
+either false true false d = refl
+either false false true d = refl
+either false false false d = refl
+
+breaks : (xs : List ℕ) → (list_any (λ c. c == 34) xs || list_any (λ c. c == 13) xs) ≡ list_any is_break xs
+breaks [] = refl
+breaks (x ∷ xs) = either (x == 34) (x == 13) (list_any (λ c. c == 34) xs) (list_any (λ c. c == 13) xs) ∙ ap (λ (b : Bool). is_break x || b) (breaks xs)
+
+pub breaks-behind : (xs : List ℕ) → list_any (λ c. c == 34) xs ≡ false → list_any (λ c. c == 13) xs ≡ list_any is_break xs
+breaks-behind xs none = sym (ap (λ (b : Bool). b || list_any (λ c. c == 13) xs) none) ∙ breaks xs

@@ -1,12 +1,12 @@
 // Fields as cells and rows.
-ghost use Rattle.std.specs.Prelude.{◌≡◌, ◌==◌, IfOk, IfErr, OnOk, option_map, slice_get, None, Some, length};
-ghost use Rattle.std.specs.List.{slice_split, list_any};
+ghost use Rattle.std.specs.Prelude.{◌≡◌, ◌==◌, ◌+◌, ◌++◌, ◌∷◌, [], vec_len, IfOk, IfErr, OnOk, option_map, slice_get, None, Some, length};
+ghost use Rattle.std.specs.List.{slice_split, list_any, position_or_len, before_first};
 ghost use Rattle.csv.specs.Records.{fields_of};
 ghost use Rattle.far_script.specs.OneRecord.{one_record, is_comma};
 ghost use Rattle.far_script.specs.Fields.{cell_of, cells_from, row_of, lone_cell_of, only_field, is_missing_mark};
 
-use super::cut::cut;
-use super::number::signed_number;
+use super::cut::{behind, cut};
+use super::number::{first_signed, signed_number};
 use super::record::{is_plain, read_record};
 use csv::StringRecord;
 use far_types::{Cell, Kind, Refusal, Row, Text};
@@ -43,6 +43,40 @@ pub fn kind_of(kinds: &[Kind], column: usize) -> Option<Kind>
     kinds.get(column).copied()
 }
 
+/// The first field of a text: what stands before its first comma.
+fn first_field(text: &str) -> &str
+    ensures { result.now ≡ before_first is_comma text.now }
+{
+    match cut(text, b',') {
+        Some((field, _)) => field,
+        None => text,
+    }
+}
+
+/// Adds the cell of the first field of a text, and says how long that field is. Most numbers are read in one go with their comma.
+#[inline(always)]
+fn push_cell(
+    alloc: Global,
+    cells: &mut Vec<Cell>,
+    column: Option<Kind>,
+    text: &str,
+) -> Result<usize, Refusal>
+    ensures len { IfOk result (λ len. len ≡ position_or_len is_comma text.now) }
+    ensures cell { OnOk result (cells.new.items ≡ cells.old.items ++ cell_of column (before_first is_comma text.now) ∷ []) }
+    ensures count { OnOk result (vec_len cells.new ≡ vec_len cells.old + 1) }
+    ensures memory { IfErr result (λ e. e ≡ Refusal.NoMemory) }
+{
+    if let Some(Kind::Int) = column {
+        if let Some((number, len)) = first_signed(text.as_bytes()) {
+            cells.push(Cell::Int(number))?;
+            return Ok(len);
+        }
+    }
+    let field = first_field(text);
+    cells.push(cell(alloc, column, field)?)?;
+    Ok(field.len())
+}
+
 /// The cells of what stands between the commas of a text. Refused with `NoMemory` (1) alone.
 pub fn plain_cells(alloc: Global, kinds: &[Kind], text: &str) -> Result<Vec<Cell>, Refusal>
     ensures cells { IfOk result (λ cells. cells.items ≡ cells_from kinds.now 0 (slice_split is_comma text.now)) }
@@ -50,13 +84,13 @@ pub fn plain_cells(alloc: Global, kinds: &[Kind], text: &str) -> Result<Vec<Cell
 {
     let mut cells = Vec::with_capacity(alloc, kinds.len())?;
     let mut rest = text;
-    while let Some((field, others)) = cut(rest, b',') {
+    let mut more = true;
+    while more {
         let column = kind_of(kinds, cells.len());
-        cells.push(cell(alloc, column, field)?)?;
-        rest = others;
+        let len = push_cell(alloc, &mut cells, column, rest)?;
+        more = len < rest.len();
+        rest = behind(rest, len, b',');
     }
-    let column = kind_of(kinds, cells.len());
-    cells.push(cell(alloc, column, rest)?)?;
     Ok(cells)
 }
 
@@ -120,11 +154,16 @@ fn lone_record_cell(
 }
 
 /// The cell of a text that is exactly one record of one field, or `None` where it is not. Refused with `NoMemory` (1)
-/// alone.
+/// alone. A number is such a record as it stands.
 pub fn lone_cell(alloc: Global, column: Option<Kind>, text: &str) -> Result<Option<Cell>, Refusal>
     ensures cell { IfOk result (λ cell. cell ≡ lone_cell_of column text.now) }
     ensures memory { IfErr result (λ e. e ≡ Refusal.NoMemory) }
 {
+    if let Some(Kind::Int) = column {
+        if let Some(number) = signed_number(text) {
+            return Ok(Some(Cell::Int(number)));
+        }
+    }
     if text.is_empty() {
         return Ok(None);
     }

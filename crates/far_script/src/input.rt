@@ -1,6 +1,7 @@
 // What is read of a script and not answered yet.
-ghost use Rattle.std.specs.Prelude.{◌≡◌, ◌==◌, ◌≤◌, ◌+◌, false, length, take, drop};
+ghost use Rattle.std.specs.Prelude.{◌≡◌, ◌==◌, ◌≤◌, ◌+◌, true, false, length, take, drop};
 ghost use Rattle.std.specs.List.{list_any};
+ghost use Rattle.std.specs.Str.{IsAscii};
 
 mod filling;
 mod taking;
@@ -41,7 +42,10 @@ pub struct Input<R: Read + Drop> {
     pub start: usize,
     /// How many bytes from there on are known to have no end of a line.
     plain: usize,
+    /// Whether all that is held is known to be ASCII. Then no line of it need be tested for UTF-8.
+    is_ascii: bool,
     ghost known: { start + plain ≤ length held },
     ghost most: { length held + source.bytes ≤ 16777216 + start },
     ghost within: { list_any (λ c. c == 10) (take plain (drop start held)) ≡ false },
+    ghost ascii: { is_ascii ≡ true → IsAscii held },
 }

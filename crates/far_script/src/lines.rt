@@ -6,10 +6,11 @@ ghost use Rattle.far_script.specs.PlainLines.{are_plain_lines, is_break, line_of
 use super::cut::cut;
 use super::record::may_begin_with_order_mark;
 
+/// Whether there is a quote or a carriage return. Each is looked for by itself, which tests many bytes at a time.
 fn has_break(bytes: &[u8]) -> bool
     ensures { result ≡ list_any is_break bytes.now }
 {
-    bytes.iter().any(|byte| *byte == b'"' || *byte == b'\r')
+    bytes.contains(&b'"') || bytes.contains(&b'\r')
 }
 
 /// Whether the records of a text are its lines that are not empty, cut at their commas: it has no quote and no carriage return, and

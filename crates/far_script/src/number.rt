@@ -1,6 +1,12 @@
 // Numbers of scripts.
-ghost use Rattle.std.specs.Prelude.{◌≡◌, ◌^◌};
-ghost use Rattle.far_script.specs.Numbers.{below, digits_of, number_of, long_number_of, signed_number_of};
+ghost use Rattle.std.specs.Prelude.{◌≡◌, ◌==◌, ◌<◌, ◌≤◌, ◌^◌, ℕ, true, false, length, slice_index, take, Some, IfSome};
+ghost use Rattle.std.specs.Char.{is_ascii_digit};
+ghost use Rattle.std.specs.List.{before_first, position_or_len};
+ghost use Rattle.far_script.specs.OneRecord.{is_comma};
+ghost use Rattle.far_script.specs.Numbers.{below, digits_from, digits_of, number_of, long_number_of, signed_number_of};
+
+/// From here on one digit more could make a number too large.
+const MANY: u64 = 100_000_000_000_000_000;
 
 /// The number of a text of decimal digits, where it is of 64 bits.
 fn digits(text: &[u8]) -> Option<u64>
@@ -48,5 +54,59 @@ pub fn signed_number(field: &str) -> Option<i64>
         }
         [b'+', rest @ ..] => i64::try_from(digits(rest)?).ok(),
         all => i64::try_from(digits(all)?).ok(),
+    }
+}
+
+/// The number of the digits that a text begins with, and how many they are: some 18 at most, so that it is never too large.
+#[inline(always)]
+fn first_digits(text: &[u8]) -> (u64, usize)
+    ensures within { result.1 ≤ length text.now }
+    ensures small { result.0 < 10 ^ 18 }
+    ensures number { digits_from 0 (take result.1 text.now) ≡ Some result.0 }
+    ensures digits { (k : ℕ) → k < result.1 → is_ascii_digit (slice_index text.now k) ≡ true }
+{
+    let mut number = 0u64;
+    for at in 0..text.len() {
+        let byte = text[at];
+        if !byte.is_ascii_digit() || number >= MANY {
+            return (number, at);
+        }
+        number = number * 10 + u64::from(byte - b'0');
+    }
+    (number, text.len())
+}
+
+/// The number that the first part of a text is, up to this byte or the end, and how long that part is: both are read in one go. It is
+/// `None` too where the number has many digits.
+#[inline(always)]
+pub(crate) fn first_number(text: &[u8], end: u8) -> Option<(u64, usize)>
+    requires { is_ascii_digit end ≡ false }
+    ensures { IfSome result (λ x. (x.0 < 10 ^ 18) × (x.1 ≡ position_or_len (λ b. b == end) text.now) × (x.1 ≤ length text.now) × (digits_of (before_first (λ b. b == end) text.now) ≡ Some x.0)) }
+{
+    let (number, len) = first_digits(text);
+    if len == 0 {
+        return None;
+    }
+    if len < text.len() && text[len] != end {
+        return None;
+    }
+    Some((number, len))
+}
+
+/// The same of a number that may have a minus, as the first field of a text. It is `None` too where it has a plus.
+#[inline(always)]
+pub(crate) fn first_signed(text: &[u8]) -> Option<(i64, usize)>
+    ensures { IfSome result (λ x. (x.1 ≡ position_or_len is_comma text.now) × (signed_number_of (before_first is_comma text.now) ≡ Some x.0)) }
+{
+    match text {
+        [b'-', rest @ ..] => {
+            let (size, len) = first_number(rest, b',')?;
+            let number = 0i64.checked_sub_unsigned(size)?;
+            Some((number, len + 1))
+        }
+        all => {
+            let (size, len) = first_number(all, b',')?;
+            Some((size as i64, len))
+        }
     }
 }

@@ -1,17 +1,14 @@
 // Replies as text, gathered before they are written.
-ghost use Rattle.std.specs.Prelude.{◌≡◌, ◌==◌, ◌++◌, ◌∷◌, true, IfOk, OnOk, OnErr, IfErr, decimal, length, take, drop, ◌≤◌, []};
-ghost use Rattle.std.specs.Fmt.{signed_decimal};
+ghost use Rattle.std.specs.Prelude.{◌≡◌, ◌==◌, ◌++◌, ◌∷◌, true, IfOk, OnOk, OnErr, IfErr, length, take, drop, ◌≤◌, []};
 ghost use Rattle.csv.specs.Writing.{default_writer, field_text, needs_quotes, row_text};
 ghost use Rattle.far_script.specs.Printing.{record_text};
 
+mod numbers;
+
 use csv::WriterBuilder;
 use far_types::Refusal;
-use itoa::{Buffer, write_digits};
 use std::alloc::Global;
 use std::marker::Model;
-
-/// The most digits of a number of 64 bits.
-const DIGITS: usize = 20;
 
 /// Replies that were not written yet. Contracts see their bytes.
 #[derive(Drop, Debug)]
@@ -105,44 +102,6 @@ impl Page {
     {
         self.bytes.push(byte)?;
         Ok(())
-    }
-
-    /// Adds a number in decimal digits. Refused with `NoMemory` (1) alone.
-    pub fn number(&mut self, number: u64) -> Result<(), Refusal>
-        ensures ok { OnOk result (self.new ≡ self.old ++ decimal number) }
-        ensures memory { IfErr result (λ e. e ≡ Refusal.NoMemory) }
-    {
-        let mut room = [0u8; 40];
-        let start = write_digits(number, &mut room, DIGITS);
-        // As many bytes are copied at all times, so that no call has to look how many. Those behind the digits go again.
-        self.bytes(&room[start..start + DIGITS])?;
-        let len = self.len() - start;
-        self.truncate(len);
-        Ok(())
-    }
-
-    /// Adds a number in decimal digits, with a minus where it is below 0. Refused with `NoMemory` (1) alone.
-    pub fn signed(&mut self, number: i64) -> Result<(), Refusal>
-        ensures ok { OnOk result (self.new ≡ self.old ++ signed_decimal number) }
-        ensures memory { IfErr result (λ e. e ≡ Refusal.NoMemory) }
-    {
-        if number >= 0 {
-            return self.number(number.unsigned_abs());
-        }
-        self.byte(b'-')?;
-        self.number(number.unsigned_abs())
-    }
-
-    /// The same of a wide number. Refused with `NoMemory` (1) alone.
-    pub fn wide(&mut self, number: i128) -> Result<(), Refusal>
-        ensures ok { OnOk result (self.new ≡ self.old ++ signed_decimal number) }
-        ensures memory { IfErr result (λ e. e ≡ Refusal.NoMemory) }
-    {
-        if let Ok(short) = i64::try_from(number) {
-            return self.signed(short);
-        }
-        let mut digits = Buffer::new();
-        self.text(digits.format(number))
     }
 }
 

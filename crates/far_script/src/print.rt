@@ -52,6 +52,7 @@ pub fn refused(page: &mut Page, refusal: &Refusal) -> Result<(), Refusal>
 }
 
 /// A key that is a number, and a space. It needs no quotes.
+#[inline(always)]
 fn number_key(page: &mut Page, number: i64) -> Result<(), Refusal>
     ensures ok { OnOk result (page.new ≡ page.old ++ (record_text (signed_decimal number ∷ []) ++ space)) }
     ensures memory { IfErr result (λ e. e ≡ Refusal.NoMemory) }
@@ -61,6 +62,7 @@ fn number_key(page: &mut Page, number: i64) -> Result<(), Refusal>
 }
 
 /// The key of a line, and a space.
+#[inline(always)]
 fn key(page: &mut Page, key: &Option<Key>) -> Result<(), Refusal>
     ensures ok { OnOk result (page.new ≡ page.old ++ key_text key.now) }
     ensures memory { IfErr result (λ e. e ≡ Refusal.NoMemory) }

@@ -1,9 +1,10 @@
 // The words of a line.
 ghost use Rattle.std.specs.Prelude.{◌≡◌, option_map, is_none, IfSome, IfNone, ◌∷◌, [], Some};
-ghost use Rattle.far_script.specs.Words.{after, word_in, number_in, long_number_in, last_number_in, last_long_number_in, is_next, words_in};
+ghost use Rattle.std.specs.List.{position_or_len};
+ghost use Rattle.far_script.specs.Words.{is_space, rest_of, after, word_in, number_in, long_number_in, last_number_in, last_long_number_in, is_next, words_in};
 
-use super::cut::cut;
-use super::number::{long_number, number};
+use super::cut::{behind, cut};
+use super::number::{first_number, long_number};
 use std::marker::Model;
 
 /// What is left of a line: words with exactly one space between them, from the first on. Contracts see the text that is
@@ -19,6 +20,19 @@ impl<'a> Model for Words<'a> {
     ghost Value = { Option (List ℕ) };
 
     ghost view = { λ words. option_map (λ text. text.now) words.left };
+}
+
+/// What stands behind the first word of a text, which is so long, and its space.
+#[inline(always)]
+fn rest_behind(text: &str, len: usize) -> Option<&str>
+    requires { len ≡ position_or_len is_space text.now }
+    ensures { option_map (λ text. text.now) result ≡ rest_of text.now }
+{
+    if len < text.len() {
+        Some(behind(text, len, b' '))
+    } else {
+        None
+    }
 }
 
 impl<'a> Words<'a> {
@@ -81,7 +95,8 @@ impl<'a> Words<'a> {
         ensures number { result ≡ number_in self.old }
         ensures left { self.new ≡ after self.old }
     {
-        number(self.word()?)
+        let number = self.long_number()?;
+        u32::try_from(number).ok()
     }
 
     /// Takes the next word, and reads it as a number below 2^64.
@@ -89,7 +104,14 @@ impl<'a> Words<'a> {
         ensures number { result ≡ long_number_in self.old }
         ensures left { self.new ≡ after self.old }
     {
-        long_number(self.word()?)
+        let text = self.left?;
+        match first_number(text.as_bytes(), b' ') {
+            Some((number, len)) => {
+                self.left = rest_behind(text, len);
+                Some(number)
+            }
+            None => long_number(self.word()?),
+        }
     }
 
     /// The last word as a number below 2^32: there is no other word behind it.

@@ -1,6 +1,7 @@
 // Bytes of a script, as they come.
-ghost use Rattle.std.specs.Prelude.{◌≡◌, ◌≢◌, ◌==◌, ◌≤◌, ◌<◌, ◌+◌, [], false, true, slice_index, slice_range, take, length, IfNone, IfErr, IfOk, IfSome, OnOk};
+ghost use Rattle.std.specs.Prelude.{◌≡◌, ◌≢◌, ◌==◌, ◌≤◌, ◌<◌, ◌+◌, ◌++◌, [], false, true, slice_index, slice_range, take, length, IfNone, IfErr, IfOk, IfSome, OnOk};
 ghost use Rattle.std.specs.List.{list_any};
+ghost use Rattle.std.specs.Str.{IsAscii};
 ghost use Rattle.far_script.specs.Faults.{IfInput};
 ghost use Rattle.far_script.specs.Flow.{Reads, unread};
 
@@ -31,6 +32,7 @@ impl<R: Read + Drop> Input<R> {
             held: Page::new(alloc),
             start: 0,
             plain: 0,
+            is_ascii: true,
         })
     }
 
@@ -74,6 +76,7 @@ impl<R: Read + Drop> Input<R> {
             return Err(ShellFault::Memory);
         }
         let count = self.source.read(self.chunk.as_mut_slice())?;
+        self.is_ascii = stay_ascii(self.is_ascii, &self.held, &self.chunk[..count]);
         self.held.bytes(&self.chunk[..count])?;
         Ok(count > 0)
     }
@@ -97,6 +100,18 @@ impl<R: Read + Drop> Input<R> {
             }
         }
     }
+}
+
+/// Whether all bytes are known to be ASCII when these have come behind those that are held.
+fn stay_ascii(is_ascii: bool, held: &Page, came: &[u8]) -> bool
+    requires { is_ascii ≡ true → IsAscii held.now }
+    ensures before { result ≡ true → IsAscii held.now }
+    ensures behind { result ≡ true → IsAscii (held.now ++ came.now) }
+{
+    if !is_ascii && !held.is_empty() {
+        return false;
+    }
+    came.is_ascii()
 }
 
 /// The place of the first line feed, where there is none before `from`.

@@ -144,7 +144,11 @@ impl<R: Read + Drop> Input<R> {
         ensures ok { IfOk result (λ text. (text.now ≡ spanned R.Read self.now span) × IsUtf8 text.now) }
         ensures fault { IfErr result (λ fault. (fault ≡ ShellFault.Input) × ¬ (IsUtf8 (spanned R.Read self.now span))) }
     {
-        match str::from_utf8(&self.held.as_slice()[span.from..span.to]) {
+        let bytes = &self.held.as_slice()[span.from..span.to];
+        if self.is_ascii {
+            return Ok(unsafe { str::from_utf8_unchecked(bytes) });
+        }
+        match str::from_utf8(bytes) {
             Ok(text) => Ok(text),
             Err(_) => Err(ShellFault::Input),
         }

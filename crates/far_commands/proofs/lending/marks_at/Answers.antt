@@ -1,4 +1,4 @@
-use Rattle.std.proofs.Common.{◌++◌, ◌∙◌, ap, sym, arith}
+use Rattle.std.proofs.Common.{◌++◌, ◌∙◌, ap, sym}
 use Rattle.std.proofs.lemmas.Option.{slice_get-map}
 use Rattle.far_types.specs.Table.{Place}
 use Rattle.far_frame.specs.Lending.{flags_of}

@@ -1,4 +1,4 @@
-use Rattle.std.proofs.Common.{ℕ, List, ◌∙◌, refl, sym, arith, rules}
+use Rattle.std.proofs.Common.{◌∙◌, refl, arith, rules}
 use Rattle.std.specs.List.{slice_split}
 use Rattle.far_script.specs.OneRecord.{is_comma}
 use Rattle.far_commands.specs.Replies.{records_of}

@@ -1,11 +1,17 @@
-use Rattle.std.proofs.Common.{[], refl, subst, arith, ◌<◌, ◌+◌}
+use Rattle.std.proofs.Common.{◌≡◌, ◌<◌, ◌+◌, Option, Some, codes, inl, inr, append-nil, [], refl, sym, ap, subst, ◌∙◌, arith}
+use Rattle.far_frame.specs.State.{State, live}
+use Rattle.far_script.specs.declared.fault.ShellFault.TheVariants as fault
 use Rattle.far_script.specs.Flow.{spanned}
+use Rattle.far_script.specs.Printing.{numbered_text}
+use Rattle.far_commands.specs.declared.command.Command.{Command}
+use Rattle.far_commands.specs.declared.command.Command.TheVariants as command
+use Rattle.far_commands.specs.Listings.{listing_of}
 use Rattle.far_commands.specs.Replies.{AnswersLine}
 use Rattle.far_commands.specs.Progress.{At}
-use Rattle.far_commands.specs.Cuts.{Fails, Lists}
-use Rattle.far_script.proofs.StopLaws.{handed-on, if-input, stops-more}
+use Rattle.far_commands.specs.Cuts.{Fails, FailsBy, Lists}
+use Rattle.far_script.proofs.StopLaws.{handed-on, if-input, stops-here, stops-more}
+use Rattle.far_script.proofs.FlowLaws.{reads-none, prints, prints-none, range-empty, range-some}
 use Rattle.far_commands.proofs.CutLaws.{cut-more}
-use Rattle.far_script.proofs.FlowLaws.{reads-none, prints-none, range-empty, range-some}
 use Rattle.far_commands.proofs.LineLaws.{answers-empty, answers-command}
 use Rattle.far_commands.proofs.serve.answer_line.Goals as goal
 
@@ -18,35 +24,85 @@ returns-then-is_empty-clause-ok g c = (
   answers-empty g.S.FarTickets c.args.progress.now (spanned g.R.Read c.args.input.now c.args.line) (range-empty c.args.input.now.held c.args.line.from c.args.line.to (grind (arith, c.if-is_empty.ensures))),
 )
 
-pub returns-clause-ok : goal.returns-clause-ok
-returns-clause-ok g c =
-    let a = c.in_ok-answer_words.ensures.ok in
+pub returns-in_ok-serve_command-in-Some-clause-ok : goal.returns-in_ok-serve_command-in-Some-clause-ok
+returns-in_ok-serve_command-in-Some-clause-ok g c =
+    let kinds = c.as_slice.ensures ∙ c.schema.ensures ∙ ap (λ (s : State g.row.S-Ticket.Denot). s.table.schema) c.frame.ensures in
+    let some = rw (c.in_ok-text.ensures.ok.0, kinds) at (sym c.in_ok-command.ensures.command ∙ c.in-Some.is) in
+    let a = c.in_ok-serve_command-in-Some.ensures.ok in
     let line = spanned g.R.Read c.args.input.now c.args.line in
-    let new : At g.row.S-Ticket.Denot = record { world = c.answer_words.new.world; number = c.progress.inside.number + 1 } in
-    let some : c.args.line.from < c.args.line.to = grind (arith, c.if-is_empty.ensures) in (
+    let old : At g.row.S-Ticket.Denot = record { world = c.progress.inside.world; number = c.progress.inside.number } in
+    let new : At g.row.S-Ticket.Denot = record { world = c.serve_command.new.world; number = c.progress.inside.number + 1 } in
+    let shown : c.args.line.from < c.args.line.to = grind (arith, c.if-is_empty.ensures) in (
       a.0,
       a.1,
       a.2,
       a.3,
       subst (λ (at : At g.row.S-Ticket.Denot). AnswersLine g.S.FarTickets at line a.0 a.1 new) c.progress.view_is
-          (answers-command g.S.FarTickets (record { world = c.progress.inside.world; number = c.progress.inside.number }) new line a.0 a.1
-          (range-some c.args.input.now.held c.args.line.from c.args.line.to some c.requires.held.1) c.in_ok-answer_words.ensures.text refl a.4),
+          (answers-command g.S.FarTickets old new line a.0 a.1 (range-some c.args.input.now.held c.args.line.from c.args.line.to shown c.requires.held.1)
+          (rw c.in_ok-text.ensures.ok.0 at c.in_ok-text.ensures.ok.1) refl (rw some a.4)),
     )
 
-pub returns-in_err-answer_words-clause-err : goal.returns-in_err-answer_words-clause-err
-returns-in_err-answer_words-clause-err g c =
-    let p = c.in_err-answer_words.ensures.err in
-    let why = c.in_err-answer_words.field-0.0 in
+pub returns-in_ok-print_syntax-in-None-clause-ok : goal.returns-in_ok-print_syntax-in-None-clause-ok
+returns-in_ok-print_syntax-in-None-clause-ok g c =
+    let kinds = c.as_slice.ensures ∙ c.schema.ensures ∙ ap (λ (s : State g.row.S-Ticket.Denot). s.table.schema) c.frame.ensures in
+    let none = rw (c.in_ok-text.ensures.ok.0, kinds) at (sym c.in_ok-command.ensures.command ∙ c.in-None.is) in
     let line = spanned g.R.Read c.args.input.now c.args.line in
     let old : At g.row.S-Ticket.Denot = record { world = c.progress.inside.world; number = c.progress.inside.number } in
-    handed-on c.from_residual.result why _ c.from_residual.ensures.1
-    (p.0, p.1, cut-more why (λ said. Lists old line said) (λ said. Lists c.args.progress.now line said) p.0 (λ said s. subst (λ (at : At g.row.S-Ticket.Denot). Lists at line said) c.progress.view_is s) p.2)
+    let new : At g.row.S-Ticket.Denot = record { world = c.progress.inside.world; number = c.progress.inside.number + 1 } in
+    let text = numbered_text (codes "syntax command") (c.progress.inside.number + 1) in
+    let shown : c.args.line.from < c.args.line.to = grind (arith, c.if-is_empty.ensures) in (
+      [],
+      text,
+      reads-none g.R.Read _ _ refl,
+      prints (g.W.Write.contents c.args.writer.now) c.args.output.now.page text c.print_syntax.new.output.page c.in_ok-print_syntax-in-None.ensures.ok,
+      subst (λ (at : At g.row.S-Ticket.Denot). AnswersLine g.S.FarTickets at line [] text new) c.progress.view_is
+          (answers-command g.S.FarTickets old new line [] text (range-some c.args.input.now.held c.args.line.from c.args.line.to shown c.requires.held.1)
+          (rw c.in_ok-text.ensures.ok.0 at c.in_ok-text.ensures.ok.1) refl (rw none (refl, refl, refl))),
+    )
 
-pub returns-in_err-answer_words-clause-stopped : goal.returns-in_err-answer_words-clause-stopped
-returns-in_err-answer_words-clause-stopped g c =
-    let why = c.in_err-answer_words.field-0.0 in
+pub returns-in_err-text-clause-err : goal.returns-in_err-text-clause-err
+returns-in_err-text-clause-err g c =
+    handed-on c.from_residual.result fault.Input _ (rw c.in_err-text.ensures.fault.0 at c.from_residual.ensures.1)
+    ([], prints-none (g.W.Write.contents c.args.writer.now) c.args.output.now.page, refl)
+
+pub returns-in_err-command-clause-err : goal.returns-in_err-command-clause-err
+returns-in_err-command-clause-err g c =
+    handed-on c.from_residual-in_err-command.result fault.Memory _ c.from_residual-in_err-command.ensures.1
+    ([], prints-none (g.W.Write.contents c.args.writer.now) c.args.output.now.page, inl refl)
+
+pub returns-in_err-print_syntax-in-None-clause-err : goal.returns-in_err-print_syntax-in-None-clause-err
+returns-in_err-print_syntax-in-None-clause-err g c =
+    handed-on c.from_residual-in_err-print_syntax-in-None.result fault.Memory _ c.from_residual-in_err-print_syntax-in-None.ensures.1
+    ([], prints (g.W.Write.contents c.args.writer.now) c.args.output.now.page [] c.print_syntax.new.output.page (c.in_err-print_syntax-in-None.ensures.err ∙ sym (append-nil c.args.output.now.page)), inl refl)
+
+pub returns-in_err-serve_command-in-Some-clause-err : goal.returns-in_err-serve_command-in-Some-clause-err
+returns-in_err-serve_command-in-Some-clause-err g c =
+    let kinds = c.as_slice.ensures ∙ c.schema.ensures ∙ ap (λ (s : State g.row.S-Ticket.Denot). s.table.schema) c.frame.ensures in
+    let some = rw (c.in_ok-text.ensures.ok.0, kinds) at (sym c.in_ok-command.ensures.command ∙ c.in-Some.is) in
+    let p = c.in_err-serve_command-in-Some.ensures.err in
+    let why = c.in_err-serve_command-in-Some.field-0.0 in
     let line = spanned g.R.Read c.args.input.now c.args.line in
-    let old : At g.row.S-Ticket.Denot = record { world = c.progress.inside.world; number = c.progress.inside.number } in
-    handed-on c.from_residual.result why _ c.from_residual.ensures.1
-    (if-input why _ _ (λ s. stops-more g.R.Read c.args.input.now c.answer_words.new.input (λ behind. Fails old.world.state.table.schema line behind) (λ behind. Fails c.args.progress.now.world.state.table.schema line behind)
-    (λ bytes f. subst (λ (at : At g.row.S-Ticket.Denot). Fails at.world.state.table.schema line bytes) c.progress.view_is f) s) c.in_err-answer_words.ensures.stopped)
+    let world = c.progress.inside.world in
+    handed-on c.from_residual-in_err-serve_command-in-Some.result why _ c.from_residual-in_err-serve_command-in-Some.ensures.1 (
+      p.0,
+      p.1,
+      cut-more why (λ said. (c.in-Some.command ≡ command.Dump) × (said ≡ listing_of (live world.state))) (λ said. Lists c.args.progress.now line said) p.0
+          (λ said s. subst (λ (at : At g.row.S-Ticket.Denot). Lists at line said) c.progress.view_is (some ∙ ap (λ (asked : Command). Some asked) s.0, s.1)) p.2,
+    )
+
+pub returns-in_err-text-clause-stopped : goal.returns-in_err-text-clause-stopped
+returns-in_err-text-clause-stopped g c =
+    let f = c.in_err-text.ensures.fault in
+    let line = spanned g.R.Read c.args.input.now c.args.line in
+    handed-on c.from_residual.result fault.Input _ (rw f.0 at c.from_residual.ensures.1)
+    (stops-here g.R.Read c.args.input.now c.args.input.now (λ behind. Fails c.args.progress.now.world.state.table.schema line behind) refl (inl f.1))
+
+pub returns-in_err-serve_command-in-Some-clause-stopped : goal.returns-in_err-serve_command-in-Some-clause-stopped
+returns-in_err-serve_command-in-Some-clause-stopped g c =
+    let kinds = c.as_slice.ensures ∙ c.schema.ensures ∙ ap (λ (s : State g.row.S-Ticket.Denot). s.table.schema) c.frame.ensures in
+    let some = rw (c.in_ok-text.ensures.ok.0, kinds) at (sym c.in_ok-command.ensures.command ∙ c.in-Some.is) in
+    let why = c.in_err-serve_command-in-Some.field-0.0 in
+    let line = spanned g.R.Read c.args.input.now c.args.line in
+    handed-on c.from_residual-in_err-serve_command-in-Some.result why _ c.from_residual-in_err-serve_command-in-Some.ensures.1
+    (if-input why _ _ (λ s. stops-more g.R.Read c.args.input.now c.serve_command.new.input (λ behind. FailsBy (Some c.in-Some.command) behind) (λ behind. Fails c.args.progress.now.world.state.table.schema line behind)
+    (λ bytes f. subst (λ (at : At g.row.S-Ticket.Denot). Fails at.world.state.table.schema line bytes) c.progress.view_is (inr (subst (λ (asked : Option Command). FailsBy asked bytes) (sym some) f))) s) c.in_err-serve_command-in-Some.ensures.stopped)

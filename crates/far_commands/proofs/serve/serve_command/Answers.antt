@@ -10,7 +10,7 @@ use Rattle.far_script.specs.Flow.{spanned}
 use Rattle.far_frame.specs.State.{live}
 use Rattle.far_commands.specs.Listings.{listing_of}
 use Rattle.far_script.proofs.FlowLaws.{reads-none, prints, prints-none, prints-nothing-then}
-use Rattle.far_commands.proofs.serve.answer_command.Goals as goal
+use Rattle.far_commands.proofs.serve.serve_command.Goals as goal
 
 pub returns-in_ok-add-in-Step-clause-ok : goal.returns-in_ok-add-in-Step-clause-ok
 returns-in_ok-add-in-Step-clause-ok g c = ([], c.take_step.new.reply, reads-none g.R.Read _ _ refl, prints (g.W.Write.contents c.args.writer.now) c.args.output.now.page c.take_step.new.reply c.add.new.self.page c.in_ok-add-in-Step.ensures.ok, rw c.in-Step.is (refl, c.in_ok-take_step-in-Step.ensures.ok))
