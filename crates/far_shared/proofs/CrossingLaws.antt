@@ -23,6 +23,7 @@ use Rattle.far_extrema.specs.contracts.holder.Holder as holder
 use Rattle.far_extrema.specs.contracts.live_extrema.LiveExtrema as extrema
 use Rattle.far_aggregates.proofs.pending.Pending.TheSendSync as pending
 use Rattle.far_aggregates.proofs.unbuilt.Unbuilt.TheSendSync as unbuilt
+use Rattle.far_aggregates.specs.contracts.known.KnownExtrema as known
 use Rattle.far_aggregates.specs.contracts.aggregate.Kept as kept
 use Rattle.far_aggregates.specs.contracts.aggregate.Aggregate as aggregate
 use Rattle.far_aggregates.specs.contracts.aggregates.Aggregates as aggregates
@@ -72,12 +73,18 @@ extrema_send = view_send extrema.TheInside.the_row _ _ _ _ (struct_sends extrema
 extrema_sync : IsSync extrema.the_row
 extrema_sync = search (holder_sync, key.the_sync, maps.crosses, sendable) depth 30 fits 3000
 
+known_send : IsSend known.the_row
+known_send = view_send known.TheInside.the_row _ _ _ _ (struct_sends known.TheInside.the_type (extrema_send, (search (heap.crosses, sendable) depth 20 fits 3000, tt)))
+
+known_sync : IsSync known.the_row
+known_sync = view_sync known.TheInside.the_row _ _ _ _ (struct_syncs known.TheInside.the_type (extrema_sync, (search (heap.crosses, sendable) depth 20 fits 3000, tt)))
+
 -- ---- aggregates
 kept_send : IsSend kept.the_field.row
-kept_send = search (extrema_send, totals.the_send, sendable) depth 30 fits 3000
+kept_send = search (known_send, totals.the_send, sendable) depth 30 fits 3000
 
 kept_sync : IsSync kept.the_field.row
-kept_sync = search (extrema_sync, totals.the_sync, sendable) depth 30 fits 3000
+kept_sync = search (known_sync, totals.the_sync, sendable) depth 30 fits 3000
 
 aggregate_send : IsSend aggregate.the_row
 aggregate_send = struct_sends aggregate.the_type (spec.the_field_send, (search sendable, (unbuilt.the_send, (kept_send, tt))))
