@@ -1,31 +1,31 @@
--- The digits of a number, up to four at a time.
-use Rattle.std.proofs.Common.{◌≡◌, ◌+◌, ◌/◌, ◌%◌, ◌^◌, ◌≤◌, ◌<◌, ℕ, List, [], ◌∷◌, ◌++◌, decimal, append_assoc, ◌∙◌, sym, ap, arith}
-use Rattle.std.specs.Prelude.{ℤ}
+-- The digits of a number, copied with what stands behind them.
+use Rattle.std.proofs.Common.{◌≡◌, ◌+◌, ◌-◌, ◌≤◌, ℕ, List, [], ◌∷◌, ◌++◌, decimal, length, take, drop, append_assoc, length-append, take-append-drop, ◌∙◌, refl, sym, ap, arith}
+use Rattle.std.specs.Prelude.{ℤ, slice_range}
 use Rattle.std.specs.Fmt.{signed_decimal}
-use Rattle.std.proofs.lemmas.Fmt.{decimal_digit}
-use Rattle.itoa.proofs.Decimal.{pair, decimal_two, decimal_pair, decimal_four}
+use Rattle.std.proofs.lemmas.List.{length-drop, length-take-le, take_at, take-take}
 
--- four digits, with zeros before those of a smaller number
-abbrev pub four-digits : ℕ → List ℕ
-four-digits n = (48 + n / 100 / 10) ∷ (48 + n / 100 % 10) ∷ (48 + n % 100 / 10) ∷ (48 + n % 100 % 10) ∷ []
+-- 20 bytes of a row from the first digit on are the digits and some behind them
+front-digits : (digits zeros row part : List ℕ) (start : ℕ) → start + length digits ≡ 20 → drop start row ≡ digits ++ zeros → part ≡ slice_range row start (start + 20) → take (length digits) part ≡ digits
+front-digits digits zeros row part start count from is =
+    let width : start + 20 - start ≡ 20 = omega arith in
+    ap (take (length digits)) (is ∙ ap (λ (n : ℕ). take n (drop start row)) width ∙ ap (take 20) from)
+    ∙ take-take (length digits) 20 (digits ++ zeros) (omega (arith, count)) ∙ take_at digits zeros (length digits) refl
 
-pub one-digit : (n d : ℕ) → n < 10 → d ≡ 48 + n → decimal n ≡ d ∷ []
-one-digit n d high is = decimal_digit n high ∙ ap (λ (b : ℕ). b ∷ []) (sym is)
+part-long : (row part : List ℕ) (start : ℕ) → start ≤ 20 → length row ≡ 40 → part ≡ slice_range row start (start + 20) → length part ≡ 20
+part-long row part start low wide is =
+    let width : start + 20 - start ≡ 20 = omega arith in
+    ap (λ (t : List ℕ). length t) (is ∙ ap (λ (n : ℕ). take n (drop start row)) width) ∙ length-take-le 20 (drop start row) (let left = length-drop start row in omega (arith, left, low, wide))
 
-pub two-digits : (n a b : ℕ) → 10 ≤ n → n < 100 → a ≡ 48 + n / 10 → b ≡ 48 + n % 10 → decimal n ≡ a ∷ b ∷ []
-two-digits n a b low high first second = rw (first, second) (decimal_two n low high)
-
-pub three-digits : (n a b c : ℕ) → 100 ≤ n → n < 1000 → a ≡ 48 + n / 100 → b ≡ 48 + n % 100 / 10 → c ≡ 48 + n % 100 % 10 → decimal n ≡ a ∷ b ∷ c ∷ []
-three-digits n a b c low high first second third =
-    rw (first, second, third) (decimal_pair n low (omega (arith, high)) ∙ ap (λ (t : List ℕ). t ++ pair (n % 100)) (decimal_digit (n / 100) (omega (arith, high))))
-
-pub all-four : (n : ℕ) → 1000 ≤ n → n < 10000 → decimal n ≡ four-digits n
-all-four n low high = decimal_pair n (omega (arith, low)) (omega (arith, high)) ∙ ap (λ (t : List ℕ). t ++ pair (n % 100)) (decimal_two (n / 100) (omega (arith, low)) (omega (arith, high)))
-
--- the digits before the last four, and those
-pub four-more : (page mid : List ℕ) (n : ℕ) → 10000 ≤ n → n < 2 ^ 64 → mid ≡ page ++ decimal (n / 10000) → mid ++ four-digits (n % 10000) ≡ page ++ decimal n
-four-more page mid n low high grown =
-    ap (λ (t : List ℕ). t ++ four-digits (n % 10000)) grown ∙ append_assoc page (decimal (n / 10000)) (four-digits (n % 10000)) ∙ ap (λ (t : List ℕ). page ++ t) (sym (decimal_four n low high))
+-- and where as many bytes go as stand before the digits, the digits stay
+pub digits-stay : (page digits zeros row part mid : List ℕ) (start len : ℕ) → start + length digits ≡ 20 → drop start row ≡ digits ++ zeros → length row ≡ 40 → part ≡ slice_range row start (start + 20) → mid ≡ page ++ part → len ≡ length mid
+    → take (len - start) mid ≡ page ++ digits
+digits-stay page digits zeros row part mid start len count from wide is grown counted =
+    let k = length digits in
+    let long = part-long row part start (omega (arith, count)) wide is in
+    let left : len - start ≡ length page + k = (let all = ap (λ (t : List ℕ). length t) grown in let both = length-append page part in omega (arith, counted, all, both, long, count)) in
+    let split : part ≡ digits ++ drop k part = sym (take-append-drop k part) ∙ ap (λ (t : List ℕ). t ++ drop k part) (front-digits digits zeros row part start count from is) in
+    ap (take (len - start)) (grown ∙ ap (λ (t : List ℕ). page ++ t) split ∙ sym (append_assoc page digits (drop k part)))
+    ∙ take_at (page ++ digits) (drop k part) (len - start) (length-append page digits ∙ sym left)
 
 -- a minus and the digits
 pub with-minus : (page mid : List ℕ) (n : ℕ) (z : ℤ) → mid ≡ page ++ 45 ∷ [] → 45 ∷ decimal n ≡ signed_decimal z → mid ++ decimal n ≡ page ++ signed_decimal z
