@@ -36,8 +36,8 @@ fn done(step: &Step) -> &'static str
 }
 
 /// Makes a page the line of a reply, or the lines of an answer or of a part of a column. The text is that of a reply that has nothing
-/// to say.
-#[inline(always)]
+/// to say. It stands apart: built into each way to it, it would call what adds to a page.
+#[inline(never)]
 fn print_reply(page: &mut Page, done: &str, reply: &Reply) -> Result<(), Refusal>
     ensures ok { OnOk result (page.new ≡ reply_text done.now reply.now) }
     ensures memory { IfErr result (λ e. e ≡ Refusal.NoMemory) }
