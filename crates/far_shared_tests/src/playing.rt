@@ -4,8 +4,9 @@ ghost use Rattle.std.specs.Prelude.{◌≡◌};
 use crate::bells::Bells;
 use crate::ending::{Finale, finale_of};
 use crate::gates::Gated;
-use crate::roles::{Stage, play_role};
-use crate::scenes::{End, Left, Replied, Scene, Step};
+use crate::lines::play_lines;
+use crate::roles::{do_duty, left_if};
+use crate::scenes::{End, Left, Replied, Role, Scene, Step};
 use crate::serving::serve;
 use far_history::Naming;
 use far_sessions::Session;
@@ -24,7 +25,24 @@ pub struct Played<P> {
     pub left: Result<Left, Refusal>,
 }
 
-// Plays the role of a session, which its player knows by the answers to its calls.
+// What all sessions of a scene have beside the table and its store.
+#[derive(Drop)]
+struct Stage {
+    alloc: Global,
+    bells: Bells,
+    scene: Scene,
+}
+
+// The role of a session.
+fn role_of(scene: &Scene, number: u64) -> Role {
+    match scene.roles.get(number as usize) {
+        Some(role) => *role,
+        None => Role::Plays(&[]),
+    }
+}
+
+// Plays the role of a session, which its player knows by the answers to its calls. A player is handed no scene: the borrow checker does
+// not cover a closure beside what lives for ever.
 fn play_as<
     N: Naming + Send + Sync,
     B: Site + Send + Sync,
@@ -45,10 +63,13 @@ fn play_as<
     let call = |me: &mut Session<B>, step: Step| -> Replied
         requires { S.name store.now ≡ B.store }
     { serve(rt, alloc, shared, store, bells, me, step) };
-    play_role(stage, &call, me, number)
+    match role_of(&stage.scene, number) {
+        Role::Plays(lines) => left_if(Ok(play_lines(&call, me, lines))),
+        Role::Does(duty) => do_duty(alloc, &call, me, bells, number, duty),
+    }
 }
 
-// The same of a session that is handed on.
+// The same of a session that is handed on, once all are there: so none waits for one that never comes.
 fn play<
     N: Naming + Send + Sync,
     B: Site + Send + Sync,
@@ -64,7 +85,11 @@ fn play<
     requires store { S.name store.now ≡ B.store }
 {
     let number = me.number();
-    let left = play_as(rt, shared, store, stage, &mut me, number);
+    let left = if stage.bells.gathers(stage.scene.roles.len() as u64) {
+        play_as(rt, shared, store, stage, &mut me, number)
+    } else {
+        Err(Refusal::NoMemory)
+    };
     Played { session: me, left }
 }
 

@@ -136,11 +136,9 @@ pub type Replied = Result<Reply, Refusal>;
 // A call, and what is due.
 pub type Line = (Step, Replied);
 
-// What a session does in a scene.
+// What a session does beside others.
 #[derive(Clone, Copy)]
-pub enum Role {
-    // It makes these calls, one after another.
-    Plays(&'static [Line]),
+pub enum Duty {
     // It makes so many edits that are drawn, on its home stripe.
     Edits(u32),
     // It moves objects, registers aggregates and builds them until so many sessions have ended, and then compares them.
@@ -151,6 +149,15 @@ pub enum Role {
     InsertsPairs(u32),
     // It asks for the totals by key until the pairs are inserted.
     AsksPairs(u32),
+}
+
+// What a session does in a scene.
+#[derive(Clone, Copy)]
+pub enum Role {
+    // It makes these calls, one after another.
+    Plays(&'static [Line]),
+    // It has this duty.
+    Does(Duty),
 }
 
 // What a session leaves on a stripe: how many places, and the count and the sum of those that its gauge folds.

@@ -1,6 +1,6 @@
 // Sessions that edit at once, beside work in the background and readers.
 use crate::opening::comes_out;
-use crate::scenes::{End, Gate, Left, NO_ROW, Role, Scene, Table};
+use crate::scenes::{Duty, End, Gate, Left, NO_ROW, Role, Scene, Table};
 
 // Four sessions edit, one works beside them, and two read the gauges.
 static EDITED: Scene = Scene {
@@ -8,13 +8,13 @@ static EDITED: Scene = Scene {
     table: Table::Numbers,
     gate: Gate::Open,
     roles: &[
-        Role::Edits(10_000),
-        Role::Edits(10_000),
-        Role::Edits(10_000),
-        Role::Edits(10_000),
-        Role::Works(4),
-        Role::Reads(4),
-        Role::Reads(4),
+        Role::Does(Duty::Edits(10_000)),
+        Role::Does(Duty::Edits(10_000)),
+        Role::Does(Duty::Edits(10_000)),
+        Role::Does(Duty::Edits(10_000)),
+        Role::Does(Duty::Works(4)),
+        Role::Does(Duty::Reads(4)),
+        Role::Does(Duty::Reads(4)),
     ],
     end: End::LeavesWhatIsTold,
 };
@@ -34,7 +34,10 @@ static PAIRS: Scene = Scene {
     name: "an_answer_over_all_stripes_never_shows_a_later_row_without_the_earlier",
     table: Table::NumbersWithTexts,
     gate: Gate::Open,
-    roles: &[Role::InsertsPairs(100), Role::AsksPairs(100)],
+    roles: &[
+        Role::Does(Duty::InsertsPairs(100)),
+        Role::Does(Duty::AsksPairs(100)),
+    ],
     end: End::Leaves(&[HUNDRED, HUNDRED, NO_ROW, NO_ROW]),
 };
 

@@ -1,6 +1,6 @@
 use denote.Param.{param}
 use Rattle.far_shared.proofs.CrossingLaws.{shared_sync}
-use Rattle.far_shared_tests.proofs.roles.Stage.TheSendSync as stage
+use Rattle.far_shared_tests.proofs.playing.Stage.TheSendSync as stage
 use Rattle.far_shared_tests.proofs.playing.play_all.Goals as goal
 
 -- the closure holds a `&` to the runtime, to the four tables, to the store and to what is beside them
