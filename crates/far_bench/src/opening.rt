@@ -3,10 +3,9 @@ ghost use Rattle.std.specs.Prelude.{◌≡◌};
 ghost use Rattle.far_shared.specs.Opening.{AreNamed};
 
 use crate::plan::plan;
-use crate::sessions::{Duties, Times, time_all};
+use crate::sessions::{Times, time_all};
 use far_history::Naming;
-use far_sessions::Session;
-use far_shared::{Made, Plan, Shared, Site};
+use far_shared::{Made, Plan, Site};
 use far_store::{AgentStore, FarTickets};
 use far_types::Refusal;
 use std::alloc::Global;
@@ -21,14 +20,11 @@ fn opened<
     B: Site + Send + Sync,
     S: FarTickets,
     R: Threads + Wait + Clock + Sync,
->(rt: &R, alloc: Global, made: Made<N, S>, duties: Duties) -> Result<Times, Refusal>
+>(rt: &R, alloc: Global, made: Made<N, S>, edits: u32) -> Result<Times, Refusal>
     requires { AreNamed made B.cells }
 {
-    let opened = made.open::<B>(alloc);
-    opened.and_then(|opened: (Shared<N, B, S>, Vec<Session<B>>)| -> Result<Times, Refusal> {
-        let (shared, sessions) = opened;
-        time_all(rt, alloc, &shared, sessions, duties)
-    })
+    let (shared, sessions) = made.open::<B>(alloc)?;
+    time_all(rt, alloc, &shared, sessions, edits)
 }
 
 /// Gives the cells of a table their names.
@@ -36,9 +32,9 @@ fn named<N: Naming + Send + Sync, S: FarTickets, R: Threads + Wait + Clock + Syn
     rt: &R,
     alloc: Global,
     made: Made<N, S>,
-    duties: Duties,
+    edits: u32,
 ) -> Result<Times, Refusal> {
-    opened::<N, Brand, S, R>(rt, alloc, made, duties)
+    opened::<N, Brand, S, R>(rt, alloc, made, edits)
 }
 
 /// Measures on a table of a plan that has this name.
@@ -46,12 +42,12 @@ fn planned<N: Naming + Send + Sync, S: FarTickets, R: Threads + Wait + Clock + S
     rt: &R,
     alloc: Global,
     plan: Plan,
-    duties: Duties,
+    edits: u32,
 ) -> Result<Times, Refusal>
     requires { plan ≡ N.plan }
 {
     let made = plan.make::<N, S>(alloc);
-    made.and_then(|made: Made<N, S>| -> Result<Times, Refusal> { named(rt, alloc, made, duties) })
+    made.and_then(|made: Made<N, S>| -> Result<Times, Refusal> { named(rt, alloc, made, edits) })
 }
 
 /// The times of the slowest of so many sessions.
@@ -59,8 +55,8 @@ pub fn measure<R: Threads + Wait + Clock + Sync>(
     rt: &R,
     alloc: Global,
     sessions: u64,
-    duties: Duties,
+    edits: u32,
 ) -> Result<Times, Refusal> {
     let plan = plan(alloc, sessions)?;
-    planned::<Brand, AgentStore<&R>, R>(rt, alloc, plan, duties)
+    planned::<Brand, AgentStore<&R>, R>(rt, alloc, plan, edits)
 }

@@ -8,11 +8,12 @@ ghost use Rattle.far_rows.specs.Setting.{cell_of, kind_in, set_refusal};
 
 mod values;
 
-use crate::clock::{nanoseconds, since};
+use crate::faults::no_clock;
 use far_rows::{LentColumn, NewCell, NewRow, Rows};
 use far_store::FarTickets;
 use far_types::{CellRef, Kind, Limits, Refusal, Schema};
 use std::alloc::Global;
+use std::time::Instant;
 use values::{four_numbers, four_texts, one_number, one_text, sixteen_numbers};
 
 /// Row groups of 64 places; 1,024 objects of numbers, or about 1,350 of 64 texts of eight bytes, find room in a segment.
@@ -125,9 +126,9 @@ fn time_pushes<S: FarTickets>(
     requires texts { length row.now.texts ≡ length (texts_from 64 1048576 0 kinds.items) }
 {
     let mut rows = no_rows::<S>(rt.alloc(), &LIMITS, kinds)?;
-    let start = nanoseconds(rt);
+    let start = Instant::now(rt).map_err(no_clock)?;
     push_all(rt.alloc(), &mut rows, row, count)?;
-    Ok(since(rt, start))
+    Ok(start.elapsed(rt).map_err(no_clock)?.as_nanos())
 }
 
 fn push_one_number<S: FarTickets>(rt: &HostRuntime, count: usize) -> Result<u128, Refusal> {
@@ -262,12 +263,16 @@ fn time_readings<S: FarTickets>(
     count: usize,
     times: &mut RowTimes,
 ) -> Result<(), Refusal> {
-    let start = nanoseconds(rt);
+    let start = Instant::now(rt).map_err(no_clock)?;
     let sum = read_rows(rows, count)?;
-    times.row = times.row.min(since(rt, start));
-    let start = nanoseconds(rt);
+    times.row = times
+        .row
+        .min(start.elapsed(rt).map_err(no_clock)?.as_nanos());
+    let start = Instant::now(rt).map_err(no_clock)?;
     let scanned = scan_all(rows, count)?;
-    times.scan = times.scan.min(since(rt, start));
+    times.scan = times
+        .scan
+        .min(start.elapsed(rt).map_err(no_clock)?.as_nanos());
     times.seen = times.seen.wrapping_add(sum).wrapping_add(scanned);
     Ok(())
 }
@@ -279,30 +284,18 @@ fn time_cells<S: FarTickets>(
     count: usize,
     times: &mut RowTimes,
 ) -> Result<(), Refusal> {
-    let start = nanoseconds(rt);
+    let start = Instant::now(rt).map_err(no_clock)?;
     set_all(rt.alloc(), rows, count)?;
-    times.set = times.set.min(since(rt, start));
-    let start = nanoseconds(rt);
+    times.set = times
+        .set
+        .min(start.elapsed(rt).map_err(no_clock)?.as_nanos());
+    let start = Instant::now(rt).map_err(no_clock)?;
     let sum = read_all(rows, count)?;
-    times.read = times.read.min(since(rt, start));
+    times.read = times
+        .read
+        .min(start.elapsed(rt).map_err(no_clock)?.as_nanos());
     times.seen = times.seen.wrapping_add(sum);
     Ok(())
-}
-
-/// One round of the calls on these rows, which are filled with one row first.
-fn time_calls<S: FarTickets>(
-    rt: &HostRuntime,
-    rows: &mut Rows<S>,
-    row: &NewRow,
-    count: usize,
-    times: &mut RowTimes,
-) -> Result<(), Refusal>
-    requires numbers { length row.now.numbers ≡ length rows.old.numbers }
-    requires texts { length row.now.texts ≡ length rows.old.texts }
-{
-    push_all(rt.alloc(), rows, row, count)?;
-    time_cells(rt, rows, count, times)?;
-    time_readings(rt, rows, count, times)
 }
 
 /// One round of the calls on cells, of a table of four columns of numbers.
@@ -314,7 +307,9 @@ fn cells_of_four<S: FarTickets>(
     let row = four_numbers(rt.alloc())?;
     let kinds = Vec::from_array(rt.alloc(), [Kind::Int; 4])?;
     let mut rows = no_rows::<S>(rt.alloc(), &LIMITS, kinds)?;
-    time_calls(rt, &mut rows, &row, count, times)
+    push_all(rt.alloc(), &mut rows, &row, count)?;
+    time_cells(rt, &mut rows, count, times)?;
+    time_readings(rt, &rows, count, times)
 }
 
 /// One round of pushes.
