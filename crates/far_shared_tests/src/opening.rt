@@ -8,8 +8,7 @@ use crate::plans::plan_of;
 use crate::playing::play_to_end;
 use crate::scenes::Scene;
 use far_history::Naming;
-use far_sessions::Session;
-use far_shared::{Made, Plan, Shared, Site};
+use far_shared::{Made, Plan, Site};
 use far_store::{AgentStore, FarStore};
 use far_types::Refusal;
 use std::alloc::Global;
@@ -20,27 +19,7 @@ use std::thread::Threads;
 // How many contents a store takes.
 const CAPACITY: u64 = 16_777_216;
 
-// Whether a scene comes out on a table with these sessions.
-fn played<
-    N: Naming + Send + Sync,
-    B: Site + Send + Sync,
-    S: FarStore + Gated,
-    R: Threads + Wait + Sync,
->(
-    rt: &R,
-    alloc: Global,
-    shared: Shared<N, B, S>,
-    store: &S,
-    sessions: Vec<Session<B>>,
-    scene: &Scene,
-) -> Result<bool, Refusal>
-    requires store { S.name store.now ≡ B.store }
-{
-    let finale = play_to_end(rt, alloc, &shared, store, sessions, scene);
-    ends(rt, shared, finale)
-}
-
-// The same on a table whose cells and store have these names.
+// Whether a scene comes out on a table whose cells and store have these names.
 fn opened<
     N: Naming + Send + Sync,
     B: Site + Send + Sync,
@@ -50,15 +29,11 @@ fn opened<
     requires names { AreNamed made B.cells }
     requires store { S.name store.now ≡ B.store }
 {
-    let opened = made.open::<B>(alloc);
-    opened.and_then(
-        |opened: (Shared<N, B, S>, Vec<Session<B>>)| -> Result<bool, Refusal>
-            requires { S.name store.now ≡ B.store }
-        {
-            let (shared, sessions) = opened;
-            played(rt, alloc, shared, store, sessions, scene)
-        },
-    )
+    let Ok((shared, sessions)) = made.open::<B>(alloc) else {
+        return Err(Refusal::NoMemory);
+    };
+    let finale = play_to_end(rt, alloc, &shared, store, sessions, scene);
+    ends(rt, shared, finale)
 }
 
 // Gives the cells of a table and its store their names.
