@@ -1,5 +1,5 @@
 // The table that is measured: one column of numbers, with the totals of all as its gauge.
-ghost use Rattle.std.specs.Prelude.{◌≡◌, ◌∷◌, [], IfOk};
+ghost use Rattle.std.specs.Prelude.{◌≡◌, ◌∷◌, [], pos, IfOk};
 
 use far_shared::Plan;
 use far_types::{Cell, Kind, Limits, Refusal, Row, Schema, Spec};
@@ -36,7 +36,7 @@ pub fn plan(alloc: Global, sessions: u64) -> Result<Plan, Refusal>
 
 /// A row of the number 1.
 pub fn row(alloc: Global) -> Result<Row, AllocError>
-    ensures { IfOk result (λ row. row ≡ Cell.Int 1 ∷ []) }
+    ensures { IfOk result (λ row. row ≡ Cell.Int (pos 1) ∷ []) }
 {
     Ok(Row::new(Vec::from_array(alloc, [Cell::Int(1)])?))
 }
