@@ -1,8 +1,10 @@
+pub mod DenseLaws
 pub mod FoldLaws
 pub mod JoinLaws
 pub mod NewLines
 pub mod NumberLaws
 pub mod PairLaws
+pub mod PlaceLaws
 pub mod PlainLaws
 pub mod RaiseLaws
 pub mod RoomLaws

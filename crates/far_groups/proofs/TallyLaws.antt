@@ -56,13 +56,13 @@ AreTallies-with m k more all h room = AreTallies-insert m k (with_more add_talli
   more_tallied (Some t) there room = sum_tallied t more there h room
 
 -- what goes with a count of which nothing is left, and what stays else
-last_goes : (m : Totals) (k : Option Key) (less t rest : ℕ × ℤ) → rest ≡ (t.0 - less.0, t.1 -ℤ less.1) → less.0 ≤ t.0 → rest.0 ≡ 0 → fin.remove m k ≡ without_less m k less (Some t)
+pub last_goes : (m : Totals) (k : Option Key) (less t rest : ℕ × ℤ) → rest ≡ (t.0 - less.0, t.1 -ℤ less.1) → less.0 ≤ t.0 → rest.0 ≡ 0 → fin.remove m k ≡ without_less m k less (Some t)
 last_goes m k less t rest is low none =
     let same_count : t.0 - less.0 ≡ 0 = sym (ap (λ (r : ℕ × ℤ). r.0) is) ∙ none in
     let test : (t.0 == less.0) ≡ true = grind (arith, nat_tests) in
     sym (ap (λ b. cond b (fin.remove m k) (fin.insert m k (t.0 - less.0, t.1 -ℤ less.1))) test)
 
-rest_stays : (m : Totals) (k : Option Key) (less t rest : ℕ × ℤ) → rest ≡ (t.0 - less.0, t.1 -ℤ less.1) → (rest.0 ≡ 0 → ⊥) → fin.insert m k rest ≡ without_less m k less (Some t)
+pub rest_stays : (m : Totals) (k : Option Key) (less t rest : ℕ × ℤ) → rest ≡ (t.0 - less.0, t.1 -ℤ less.1) → (rest.0 ≡ 0 → ⊥) → fin.insert m k rest ≡ without_less m k less (Some t)
 rest_stays m k less t rest is some =
     let more : t.0 - less.0 ≡ 0 → ⊥ = λ h. some (ap (λ (r : ℕ × ℤ). r.0) is ∙ h) in
     let test : (t.0 == less.0) ≡ false = grind (arith, nat_tests) in

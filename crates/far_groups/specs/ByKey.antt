@@ -1,12 +1,13 @@
--- What stands by key: all under no key, in a tree of numbers, or in a tree of keys.
+-- What stands by key: all under no key, at the places of small numbers, in a tree of numbers, or in a tree of keys.
 use Rattle.std.specs.Prelude.{ℕ, ℤ, [], ◌∷◌, Option, None, IsSome}
 use Rattle.far_types.specs.declared.key.Key.{Key}
 use Rattle.far_types.specs.Answers.{Totals}
 use Rattle.far_groups.specs.declared.by_key.ByKey.{ByKey}
 use Rattle.far_groups.specs.declared.by_key.Form.{Form}
-use Rattle.far_groups.specs.declared.by_key.Form.TheVariants.{Plain, Numbered, Keyed}
+use Rattle.far_groups.specs.declared.by_key.Form.TheVariants.{Plain, Dense, Numbered, Keyed}
 use Rattle.far_groups.specs.Tallies.{totals_of}
 use Rattle.far_groups.specs.Numbers.{by_number}
+use Rattle.far_groups.specs.Dense.{by_place}
 
 -- a count and a sum under no key
 abbrev pub plain_totals : ℕ × ℤ → Totals
@@ -15,6 +16,7 @@ plain_totals tally = totals_of ((None, tally) ∷ [])
 -- what a form has by key
 abbrev pub in_form : Form → Totals
 in_form (Plain tally) = plain_totals tally
+in_form (Dense dense) = by_place dense.items
 in_form (Numbered numbers) = by_number numbers.entries
 in_form (Keyed keys) = totals_of keys.entries
 
@@ -22,8 +24,9 @@ in_form (Keyed keys) = totals_of keys.entries
 abbrev pub totals_in : ByKey → Totals
 totals_in by_key = in_form by_key.form
 
--- more under a key is put into a tree, unless both it and what is there stand under no key
-abbrev pub NeedsTree : Form → Option Key → Type 0
-NeedsTree (Plain tally) key = IsSome key
-NeedsTree (Numbered numbers) key = Unit {0}
-NeedsTree (Keyed keys) key = Unit {0}
+-- more under a key may be put elsewhere, unless both it and what is there stand under no key
+abbrev pub MayBeElsewhere : Form → Option Key → Type 0
+MayBeElsewhere (Plain tally) key = IsSome key
+MayBeElsewhere (Dense dense) key = Unit {0}
+MayBeElsewhere (Numbered numbers) key = Unit {0}
+MayBeElsewhere (Keyed keys) key = Unit {0}

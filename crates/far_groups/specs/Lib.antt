@@ -1,4 +1,5 @@
 pub mod ByKey
+pub mod Dense
 pub mod Folds
 pub mod Live
 pub mod Numbers

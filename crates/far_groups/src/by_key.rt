@@ -1,5 +1,5 @@
-// What stands by key, where mostly there is the one key of an aggregate without key column, or all keys are numbers.
-ghost use Rattle.std.specs.Prelude.{◌≡◌, ◌+◌, ◌^◌, ◌≤◌, ◌∷◌, [], pos, None, unwrap_or, IsSome, IfSome, IfOk, IfErr, OnOk, OnErr};
+// What stands by key, where mostly there is the one key of an aggregate without key column, or all keys are small numbers.
+ghost use Rattle.std.specs.Prelude.{ℕ, ◌≡◌, ◌+◌, ◌^◌, ◌≤◌, ◌<◌, ◌∷◌, [], pos, None, unwrap_or, IsSome, IfSome, IfNone, IfOk, IfErr, OnOk, OnErr};
 ghost use Rattle.std.specs.Option.{option_copied};
 ghost use Rattle.std.specs.FinMap as fin;
 ghost use Rattle.far_types.specs.Answers.{total_lines};
@@ -7,8 +7,10 @@ ghost use Rattle.far_types.specs.Changes.{count_in, joined_totals};
 ghost use Rattle.far_groups.specs.Live.{CanJoin};
 ghost use Rattle.far_groups.specs.Tallies.{totals_of, IsTally, AreTallies, with_tally, LeavesTally, without_tally};
 ghost use Rattle.far_groups.specs.Numbers.{number_key, number_of, by_number};
-ghost use Rattle.far_groups.specs.ByKey.{plain_totals, in_form, totals_in, NeedsTree};
+ghost use Rattle.far_groups.specs.Dense.{place_key, by_place};
+ghost use Rattle.far_groups.specs.ByKey.{plain_totals, in_form, totals_in, MayBeElsewhere};
 
+use super::dense::{self, Dense, may_place, numbers_of, place_of};
 use super::joins::join_all;
 use super::numbers::{self, Numbers, keyed};
 use super::tallies::{self, Tallies, Tally, apart, together};
@@ -21,15 +23,17 @@ use std::collections::BTreeMap;
 enum Form {
     /// All under no key, as in an aggregate without key column. The count is not 0.
     Plain(Tally),
+    /// At the places of small numbers, where a look-up is an index.
+    Dense(Dense),
     /// In a tree of bare numbers, where a look-up takes a third of the time.
     Numbered(Numbers),
     /// In a tree of keys.
     Keyed(Tallies),
 }
 
-/// Counts and sums by key, which begin as a tree of numbers with nothing in it. What comes under no key then takes its
-/// place, and is changed with no look-up. A key that has no place in a form brings all into a tree of keys, in which they
-/// stay.
+/// Counts and sums by key, which begin as a list without places. What comes under no key then takes its place, and is
+/// changed with no look-up. A number without a place brings all into a tree of numbers. Another key that has no place in a
+/// form brings all into a tree of keys. In a tree they stay.
 #[derive(Drop)]
 pub struct ByKey {
     alloc: Global,
@@ -42,7 +46,7 @@ pub fn nothing(alloc: Global) -> ByKey
 {
     ByKey {
         alloc,
-        form: Form::Numbered(BTreeMap::new(alloc)),
+        form: Form::Dense(Vec::new(alloc)),
     }
 }
 
@@ -53,6 +57,19 @@ fn number_of(key: &Option<Key>) -> Option<&i64>
 {
     match key {
         Some(Key::Int(number)) => Some(number),
+        _ => None,
+    }
+}
+
+/// The place of a key that is a number, if it is not below 0.
+#[inline(always)]
+fn place_in(key: &Option<Key>) -> Option<usize>
+    ensures some { IfSome result (λ place. key.now ≡ place_key place) }
+    ensures fits { IfSome result (λ place. place < 2 ^ 63) }
+    ensures none { IfNone result ((place : ℕ) → key.now ≡ place_key place → ⊥) }
+{
+    match key {
+        Some(Key::Int(number)) => place_of(*number),
         _ => None,
     }
 }
@@ -88,8 +105,7 @@ fn plain_with_key(
     Ok(keys)
 }
 
-/// What stands by number, with a count and a sum more under a key that is no number. Where nothing stood here and there is
-/// no key, it takes no memory.
+/// What stands by number, with a count and a sum more under a key that is no number, in a tree of keys.
 fn with_key(
     alloc: Global,
     numbers: &Numbers,
@@ -105,12 +121,70 @@ fn with_key(
     ensures new { fin.get (by_number numbers.now.entries) key.now ≡ None }
     ensures memory { IfErr result (λ e. e ≡ Refusal.NoMemory) }
 {
-    if numbers.is_empty() && key.is_none() {
-        return Ok(Form::Plain(more));
-    }
     let mut keys = keyed(alloc, numbers)?;
     tallies::add_under(&mut keys, key, more)?;
     Ok(Form::Keyed(keys))
+}
+
+/// What stands by number, with a count and a sum more under a key, in a tree of numbers or one of keys.
+fn in_tree(
+    alloc: Global,
+    mut numbers: Numbers,
+    key: &Option<Key>,
+    more: Tally,
+) -> Result<Form, Refusal>
+    requires tallied { AreTallies (by_number numbers.entries) }
+    requires more_tallied { IsTally more }
+    requires room { count_in (fin.get (by_number numbers.entries) key.now) + more.0 ≤ 2 ^ 26 }
+    ensures ok { IfOk result (λ form. in_form form ≡ with_tally (by_number numbers.entries) key.now more) }
+    ensures tallied { IfOk result (λ form. AreTallies (in_form form)) }
+    ensures memory { IfErr result (λ e. e ≡ Refusal.NoMemory) }
+{
+    match number_of(key) {
+        Some(number) => {
+            numbers::add(&mut numbers, number, more)?;
+            Ok(Form::Numbered(numbers))
+        }
+        None => with_key(alloc, &numbers, key, more),
+    }
+}
+
+/// What stands at places, with a count and a sum more under a key that has none. Where there is no place and no key, it takes
+/// no memory.
+fn with_new_key(
+    alloc: Global,
+    dense: &Dense,
+    key: &Option<Key>,
+    more: Tally,
+) -> Result<Form, Refusal>
+    requires tallied { AreTallies (by_place dense.now.items) }
+    requires more_tallied { IsTally more }
+    requires new { fin.get (by_place dense.now.items) key.now ≡ None }
+    ensures ok { IfOk result (λ form. in_form form ≡ with_tally (by_place dense.now.items) key.now more) }
+    ensures tallied { IfOk result (λ form. AreTallies (in_form form)) }
+    ensures memory { IfErr result (λ e. e ≡ Refusal.NoMemory) }
+{
+    if dense.is_empty() && key.is_none() {
+        return Ok(Form::Plain(more));
+    }
+    in_tree(alloc, numbers_of(alloc, dense)?, key, more)
+}
+
+/// The place that a key has in a list or gets there.
+fn place_for(dense: &Dense, key: &Option<Key>) -> Option<usize>
+    ensures some { IfSome result (λ place. (key.now ≡ place_key place) × (place < 2 ^ 63)) }
+    ensures none { IfNone result (fin.get (by_place dense.now.items) key.now ≡ None) }
+{
+    match place_in(key) {
+        None => None,
+        Some(place) => {
+            if may_place(dense, place) {
+                Some(place)
+            } else {
+                None
+            }
+        }
+    }
 }
 
 /// A count and a sum more under a key, which is dropped where it is there already.
@@ -148,21 +222,34 @@ pub fn add_under(by_key: &mut ByKey, key: &Option<Key>, more: Tally) -> Result<(
                 *tally = together(*tally, more);
                 Ok(())
             }
-            Some(_) => add_to_tree(by_key, key, more.0, more.1),
+            Some(_) => add_elsewhere(by_key, key, more.0, more.1),
         },
-        Form::Numbered(_) => add_to_tree(by_key, key, more.0, more.1),
-        Form::Keyed(_) => add_to_tree(by_key, key, more.0, more.1),
+        Form::Dense(dense) => {
+            if let Some(place) = place_in(key) {
+                if dense::raise(dense, place, more) {
+                    return Ok(());
+                }
+            }
+            add_elsewhere(by_key, key, more.0, more.1)
+        }
+        Form::Numbered(_) => add_elsewhere(by_key, key, more.0, more.1),
+        Form::Keyed(_) => add_elsewhere(by_key, key, more.0, more.1),
     }
 }
 
-/// A count and a sum more under a key, where there is a tree or comes to be one. It stands apart from `add_under`, which so
-/// stays short, and is handed numbers, which need no memory.
+/// A count and a sum more under a key, where it may have no place yet. It stands apart from `add_under`, which so stays
+/// short, and is handed numbers, which need no memory.
 #[inline(never)]
-fn add_to_tree(by_key: &mut ByKey, key: &Option<Key>, count: u64, sum: i128) -> Result<(), Refusal>
+fn add_elsewhere(
+    by_key: &mut ByKey,
+    key: &Option<Key>,
+    count: u64,
+    sum: i128,
+) -> Result<(), Refusal>
     requires tallied { AreTallies (totals_in by_key.old) }
     requires more_tallied { IsTally (count, sum) }
     requires room { count_in (fin.get (totals_in by_key.old) key.now) + count ≤ 2 ^ 26 }
-    requires tree { NeedsTree by_key.old.form key.now }
+    requires elsewhere { MayBeElsewhere by_key.old.form key.now }
     ensures tallied { AreTallies (totals_in by_key.new) }
     ensures ok { OnOk result (totals_in by_key.new ≡ with_tally (totals_in by_key.old) key.now (count, sum)) }
     ensures err { OnErr result (totals_in by_key.new ≡ totals_in by_key.old) }
@@ -175,6 +262,13 @@ fn add_to_tree(by_key: &mut ByKey, key: &Option<Key>, count: u64, sum: i128) -> 
             by_key.form = Form::Keyed(plain_with_key(by_key.alloc, *tally, key, more)?);
             Ok(())
         }
+        Form::Dense(dense) => match place_for(dense, key) {
+            Some(place) => dense::add(dense, place, more),
+            None => {
+                by_key.form = with_new_key(by_key.alloc, dense, key, more)?;
+                Ok(())
+            }
+        },
         Form::Numbered(numbers) => match number_of(key) {
             Some(number) => numbers::add(numbers, number, more),
             None => {
@@ -198,11 +292,15 @@ pub fn take(by_key: &mut ByKey, key: &Option<Key>, less: Tally)
         Form::Plain(tally) => {
             let rest = apart(*tally, less);
             if rest.0 == 0 {
-                by_key.form = Form::Numbered(BTreeMap::new(by_key.alloc));
+                by_key.form = Form::Dense(Vec::new(by_key.alloc));
             } else {
                 *tally = rest;
             }
         }
+        Form::Dense(dense) => match place_in(key) {
+            Some(place) => dense::take(dense, place, less),
+            None => {}
+        },
         Form::Numbered(numbers) => match number_of(key) {
             Some(number) => numbers::take(numbers, number, less),
             None => {}
@@ -240,6 +338,12 @@ fn join_keys(by_key: &mut ByKey, more: &Tallies) -> Result<(), Refusal>
             by_key.form = Form::Keyed(with_keys(by_key.alloc, keys, more)?);
             Ok(())
         }
+        Form::Dense(dense) => {
+            let numbers = numbers_of(by_key.alloc, dense)?;
+            let keys = keyed(by_key.alloc, &numbers)?;
+            by_key.form = Form::Keyed(with_keys(by_key.alloc, keys, more)?);
+            Ok(())
+        }
         Form::Numbered(numbers) => {
             let keys = keyed(by_key.alloc, numbers)?;
             by_key.form = Form::Keyed(with_keys(by_key.alloc, keys, more)?);
@@ -263,10 +367,35 @@ fn join_numbers(by_key: &mut ByKey, more: &Numbers) -> Result<(), Refusal>
         return Ok(());
     }
     match &mut by_key.form {
+        Form::Dense(dense) => {
+            let mut numbers = numbers_of(by_key.alloc, dense)?;
+            numbers::join(&mut numbers, more)?;
+            by_key.form = Form::Numbered(numbers);
+            Ok(())
+        }
         Form::Numbered(numbers) => numbers::join(numbers, more),
         _ => {
             let keys = keyed(by_key.alloc, more)?;
             join_keys(by_key, &keys)
+        }
+    }
+}
+
+/// Joins what stands at places to what stands here.
+fn join_dense(by_key: &mut ByKey, more: &Dense) -> Result<(), Refusal>
+    requires tallied { AreTallies (totals_in by_key.old) }
+    requires other_tallied { AreTallies (by_place more.now.items) }
+    requires can_join { CanJoin (totals_in by_key.old) (by_place more.now.items) }
+    ensures tallied { AreTallies (totals_in by_key.new) }
+    ensures ok { OnOk result (totals_in by_key.new ≡ joined_totals (totals_in by_key.old) (by_place more.now.items)) }
+    ensures err { OnErr result (totals_in by_key.new ≡ totals_in by_key.old) }
+    ensures memory { IfErr result (λ e. e ≡ Refusal.NoMemory) }
+{
+    match &mut by_key.form {
+        Form::Dense(dense) => dense::join(dense, more),
+        _ => {
+            let numbers = numbers_of(by_key.alloc, more)?;
+            join_numbers(by_key, &numbers)
         }
     }
 }
@@ -283,6 +412,7 @@ pub fn join(by_key: &mut ByKey, other: &ByKey) -> Result<(), Refusal>
 {
     match &other.form {
         Form::Plain(tally) => add_under(by_key, &None, *tally),
+        Form::Dense(more) => join_dense(by_key, more),
         Form::Numbered(more) => join_numbers(by_key, more),
         Form::Keyed(more) => join_keys(by_key, more),
     }
@@ -305,6 +435,7 @@ pub fn lines(alloc: Global, by_key: &ByKey) -> Result<Vec<(Option<Key>, u64, i12
 {
     match &by_key.form {
         Form::Plain(tally) => plain_line(alloc, *tally),
+        Form::Dense(dense) => dense::lines(alloc, dense),
         Form::Numbered(numbers) => numbers::lines(alloc, numbers),
         Form::Keyed(keys) => tallies::lines(alloc, keys),
     }
@@ -316,6 +447,7 @@ pub fn plain(by_key: &ByKey) -> Tally
 {
     match &by_key.form {
         Form::Plain(tally) => *tally,
+        Form::Dense(_) => (0, 0),
         Form::Numbered(_) => (0, 0),
         Form::Keyed(keys) => keys.get(&None).copied().unwrap_or((0, 0)),
     }

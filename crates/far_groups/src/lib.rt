@@ -2,6 +2,7 @@
 //! Totals by key that are kept up to date: how many rows are folded under each key, and the sum of their values.
 
 mod by_key;
+mod dense;
 mod folds;
 mod joins;
 pub mod laws;

@@ -6,7 +6,9 @@ use Rattle.far_types.specs.Answers.{total_lines}
 use Rattle.far_types.proofs.ByKeyMaps.{entries-by_key}
 use Rattle.far_groups.specs.declared.by_key.Form.{Form}
 use Rattle.far_groups.specs.Numbers.{numbered}
+use Rattle.far_groups.specs.Dense.{entries_from}
 use Rattle.far_groups.specs.ByKey.{in_form}
+use Rattle.far_groups.proofs.DenseLaws.{places_ascend}
 use Rattle.far_groups.proofs.NumberLaws.{ascend, shown}
 use Rattle.far_groups.proofs.PlainLaws.{one_line, one_ascends}
 use Rattle.far_groups.proofs.by_key.lines.Goals as goal
@@ -19,14 +21,24 @@ returns-in-Plain-clause-ok c =
     ∙ ap (map (λ (entry : Option Key × (ℕ × ℤ)). (entry.0, entry.1.0, entry.1.1))) (sym (entries-by_key (one_line tally) (one_ascends tally)))
     ∙ ap (λ (form : Form). total_lines (in_form form)) (sym c.in-Plain.is)) c.plain_line.ensures.ok
 
-pub returns-in-Numbered-clause-ok : goal.returns-in-Numbered-clause-ok
-returns-in-Numbered-clause-ok c =
-    let numbers = c.in-Numbered.numbers.entries in
+pub returns-in-Dense-clause-ok : goal.returns-in-Dense-clause-ok
+returns-in-Dense-clause-ok c =
+    let places = c.in-Dense.dense.items in
+    let numbers = entries_from 0 places in
     IfOk-weaker c.lines.result _ _ (λ lines is.
     is
     ∙ sym (shown numbers)
-    ∙ ap (map (λ (entry : Option Key × (ℕ × ℤ)). (entry.0, entry.1.0, entry.1.1))) (sym (entries-by_key (numbered numbers) (ascend numbers c.lines.ensures.ordered)))
-    ∙ ap (λ (form : Form). total_lines (in_form form)) (sym c.in-Numbered.is)) c.lines.ensures.ok
+    ∙ ap (map (λ (entry : Option Key × (ℕ × ℤ)). (entry.0, entry.1.0, entry.1.1))) (sym (entries-by_key (numbered numbers) (places_ascend 0 places)))
+    ∙ ap (λ (form : Form). total_lines (in_form form)) (sym c.in-Dense.is)) c.lines.ensures.ok
+
+pub returns-in-Numbered-clause-ok : goal.returns-in-Numbered-clause-ok
+returns-in-Numbered-clause-ok c =
+    let numbers = c.in-Numbered.numbers.entries in
+    IfOk-weaker c.lines-in-Numbered.result _ _ (λ lines is.
+    is
+    ∙ sym (shown numbers)
+    ∙ ap (map (λ (entry : Option Key × (ℕ × ℤ)). (entry.0, entry.1.0, entry.1.1))) (sym (entries-by_key (numbered numbers) (ascend numbers c.lines-in-Numbered.ensures.ordered)))
+    ∙ ap (λ (form : Form). total_lines (in_form form)) (sym c.in-Numbered.is)) c.lines-in-Numbered.ensures.ok
 
 pub returns-in-Keyed-clause-ok : goal.returns-in-Keyed-clause-ok
 returns-in-Keyed-clause-ok c =

@@ -3,6 +3,7 @@ use Rattle.std.specs.Prelude.{ℤ}
 use Rattle.std.specs.FinMap as fin
 use Rattle.far_types.proofs.ByKeyMaps.{get_at}
 use Rattle.far_groups.specs.declared.by_key.Form.{Form}
+use Rattle.far_groups.specs.Dense.{entries_from}
 use Rattle.far_groups.specs.ByKey.{in_form}
 use Rattle.far_groups.proofs.NumberLaws.{get_other}
 use Rattle.far_groups.proofs.PlainLaws.{get_plain}
@@ -16,6 +17,9 @@ under_none form = shown (fin.get (in_form form) None)
 
 pub returns-in-Plain : goal.returns-in-Plain
 returns-in-Plain c = ap shown (sym (get_plain c.in-Plain.tally)) ∙ ap under_none (sym c.in-Plain.is)
+
+pub returns-in-Dense : goal.returns-in-Dense
+returns-in-Dense c = ap shown (sym (get_other (entries_from 0 c.in-Dense.field-0.items) None refl)) ∙ ap under_none (sym c.in-Dense.is)
 
 pub returns-in-Numbered : goal.returns-in-Numbered
 returns-in-Numbered c = ap shown (sym (get_other c.in-Numbered.field-0.entries None refl)) ∙ ap under_none (sym c.in-Numbered.is)

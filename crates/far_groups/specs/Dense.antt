@@ -1,0 +1,22 @@
+-- What stands by number where all numbers are small: a list has a place for each number from 0 on.
+use Rattle.std.specs.Prelude.{ℕ, ◌+◌, ◌==◌, ℤ, pos, cond, List, [], ◌∷◌, Option, None, Some}
+use Rattle.far_types.specs.declared.key.Key.{Key}
+use Rattle.far_types.specs.Answers.{Totals}
+use Rattle.far_groups.specs.Numbers.{number_key, by_number}
+
+-- the key of a place
+abbrev pub place_key : ℕ → Option Key
+place_key place = number_key (pos place)
+
+-- what stands at a place: nothing, where the count is 0
+abbrev pub standing : ℕ × ℤ → Option (ℕ × ℤ)
+standing tally = cond (tally.0 == 0) None (Some tally)
+
+-- counts and sums by number, where the first place is that of a number
+abbrev pub entries_from : ℕ → List (ℕ × ℤ) → List (ℤ × (ℕ × ℤ))
+entries_from first [] = []
+entries_from first (tally ∷ tallies) = cond (tally.0 == 0) (entries_from (first + 1) tallies) ((pos first, tally) ∷ entries_from (first + 1) tallies)
+
+-- what the places have by key
+abbrev pub by_place : List (ℕ × ℤ) → Totals
+by_place tallies = by_number (entries_from 0 tallies)
