@@ -28,6 +28,8 @@ pub mod StillHere
 pub mod Overfull
 pub mod PlainLaws
 pub mod WrittenOut
+pub mod Writable
+pub mod Copies
 pub mod OneList
 pub mod PlainSet
 pub mod AbsentNames

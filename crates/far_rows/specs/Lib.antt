@@ -11,5 +11,6 @@ pub mod Moving
 pub mod Effects
 pub mod Plain
 pub mod Jobs
+pub mod Copies
 pub mod Coldest
 pub mod Renewal

@@ -12,6 +12,7 @@ mod asking;
 mod beginning;
 mod coldest;
 mod compacting;
+mod copying;
 mod grouping;
 mod jobs;
 mod lending;

@@ -1,6 +1,6 @@
--- The last row group, and where a place stands in it.
-use Rattle.std.proofs.Common.{◌≡◌, ℕ, zero, suc, ◌+◌, ◌-◌, ◌*◌, ◌/◌, ◌%◌, ◌<◌, ◌≤◌, sym, ap, subst, ◌∙◌, arith}
-use Rattle.std.proofs.lemmas.Nat.{div-mul-add, mod-mul-add}
+-- The last row group.
+use Rattle.std.proofs.Common.{◌≡◌, ℕ, zero, suc, ◌+◌, ◌-◌, ◌*◌, ◌/◌, ◌<◌, ◌≤◌, sym, ap, subst, ◌∙◌, arith}
+use Rattle.std.proofs.lemmas.Nat.{div-mul-add}
 
 -- of n row groups, that of a place which is in one of them and in none before the last
 pub last-group : (n size i : ℕ) → i < n * size → (n - 1) * size ≤ i → i / size ≡ n - 1
@@ -11,13 +11,13 @@ last-group (suc m) size i there from =
     let is : i ≡ m * size + (i - m * size) = omega (arith, begin) in
     ap (λ k. k / size) is ∙ div-mul-add m size (i - m * size) (omega (arith, there, begin)) ∙ sym e
 
-pub last-index : (n size i : ℕ) → i < n * size → (n - 1) * size ≤ i → i % size ≡ i - (n - 1) * size
-last-index zero size i there from = absurd (omega (arith, there))
-last-index (suc m) size i there from =
+-- so is that of the place behind the last element, where it is begun
+pub next-group : (n size len : ℕ) → len < n * size → n * size < len + size → len / size ≡ n - 1
+next-group zero size len there needed = absurd (omega (arith, there))
+next-group (suc m) size len there needed =
     let e : suc m - 1 ≡ m = omega arith in
-    let begin : m * size ≤ i = subst (λ k. k * size ≤ i) e from in
-    let is : i ≡ m * size + (i - m * size) = omega (arith, begin) in
-    ap (λ k. k % size) is ∙ mod-mul-add m size (i - m * size) (omega (arith, there, begin)) ∙ ap (λ k. i - k * size) (sym e)
+    let begin : m * size ≤ len = omega (arith, needed) in
+    last-group (suc m) size len there (subst (λ k. k * size ≤ len) (sym e) begin)
 
 -- there is one where a place is
 pub some-group : (n size i : ℕ) → i < n * size → 0 < n

@@ -7,9 +7,10 @@ use Rattle.far_types.specs.declared.refusal.Refusal.{Refusal}
 use Rattle.far_scopes.specs.Memory.{list_in, ChangesList}
 use Rattle.far_scopes.specs.Movement.{Movement, list_of}
 use Rattle.far_scopes.specs.Effects.{written, overwritten}
-use Rattle.far_scopes.specs.Refusing.{refusal_in}
+use Rattle.far_scopes.specs.Refusing.{refusal_in, lend_refusal, write_refusal}
 use Rattle.far_vector.specs.Vector.{Vector, IsShaped, IsVector, WritesPlaces, KeepsOthers, elements, object_at}
 use Rattle.far_vector.specs.Effects.{range_written}
+use Rattle.far_vector.proofs.Checked.{lent-written}
 use Rattle.far_vector.proofs.VectorLaws.{part-lent}
 use Rattle.far_vector.proofs.WritingLaws.{places-written}
 
@@ -46,6 +47,12 @@ module _ {X K : Type 0} (meaning : List ℕ → List X) (content : K → List �
   -- a list in local memory is the object's
   pub list-local : (o : ℕ) (list : List X) → list_in m.memory o ≡ Some list → list_of meaning content m o ≡ Some list
   list-local o list is = rw is refl
+
+  -- an object that may be written has its list in local memory: a lending of it tells that
+  pub list-held : {B : Type 0} (o : ℕ) (r : Result B Refusal) (value : B → List X) → write_refusal m o ≡ None → refusal_in r ≡ lend_refusal m o → IfOk r (λ x. list_in m.memory o ≡ Some (value x))
+      → (size : ℕ) → IsSomeAnd (list_of meaning content m o) (λ list. length list ≡ size) → IsSomeAnd (list_in m.memory o) (λ list. length list ≡ size)
+  list-held o r value free refused lent size long =
+      found-unless r (list_in m.memory o) value (λ list. length list ≡ size) (refused ∙ lent-written m o free) lent (λ list is. subst (λ l. IsSomeAnd l (λ xs. length xs ≡ size)) (list-local o list is) long)
 
   module _ (v : Vector X) where
     -- what holds of an object and a row group's length

@@ -1,7 +1,8 @@
 // Lists of elements, one object a row group.
-ghost use Rattle.std.specs.Prelude.{◌≡◌, ℕ, ◌-◌, ◌*◌, ◌/◌, ◌%◌, ◌<◌, List, [], length, replicate, Option, IfOk, IfErr, IsSomeAnd, slice_get};
+ghost use Rattle.std.specs.Prelude.{◌≡◌, ℕ, ◌-◌, ◌*◌, ◌/◌, ◌%◌, ◌<◌, List, [], length, replicate, Option, false, IfOk, IfErr, IsSomeAnd, slice_get};
 ghost use Rattle.far_scopes.specs.Movement.{list_of};
 ghost use Rattle.far_vector.specs.Vector.{IsShaped, IsVector, object_at};
+ghost use Rattle.far_vector.specs.Effects.{is_full};
 
 mod pushing;
 mod reading;
@@ -13,6 +14,14 @@ use far_store::FarTickets;
 use far_types::Refusal;
 use std::alloc::Global;
 use std::marker::Model;
+
+// A place of a list, by the number of its row group's object, and by where it stands in that object's list.
+#[derive(Clone, Copy, Debug)]
+struct Position {
+    place: usize,
+    object: u32,
+    index: usize,
+}
 
 /// A list of elements that lies in objects, one object a row group, which many vectors share: each call names them.
 ///
@@ -84,42 +93,62 @@ impl<T: Elem> FarVector<T> {
         self.objects.get(group as usize).copied()
     }
 
-    // The object with a place, which is one of the objects: that is known of objects by the contract of `number`.
-    fn object_at<S: FarTickets>(&self, objects: &Objects<T, S>, i: usize) -> u32
+    // A place that some row group has. A division finds the row group.
+    #[inline(always)]
+    fn position<S: FarTickets>(&self, objects: &Objects<T, S>, i: usize) -> Position
         requires is { IsVector (list_of T.meaning S.content objects.now) self.now }
         requires within { i < length self.now.objects * self.now.size }
-        ensures object { result ≡ object_at self.now i }
-        ensures made { result < length objects.now.entries }
-        ensures list { IsSomeAnd (list_of T.meaning S.content objects.now result) (λ list. length list ≡ self.now.size) }
-    {
-        let _ = objects.number();
-        self.objects[self.group_of(i)]
-    }
-
-    // The row group of a place. A push or an append reaches the last one, which a product finds: a division takes longer.
-    fn group_of(&self, i: usize) -> usize
-        requires { i < length self.now.objects * self.now.size }
-        ensures { result ≡ i / self.now.size }
-    {
-        let last = self.objects.len() - 1;
-        if i < last * self.size {
-            return i / self.size;
-        }
-        last
-    }
-
-    // Where a place stands in its row group, found likewise.
-    fn index_of(&self, i: usize) -> usize
-        requires { i < length self.now.objects * self.now.size }
-        ensures index { result ≡ i % self.now.size }
-        ensures below { result < self.now.size }
+        ensures place { result.place ≡ i }
+        ensures object { result.object ≡ object_at self.now i }
+        ensures index { result.index ≡ i % self.now.size }
+        ensures below { result.index < self.now.size }
+        ensures made { result.object < length objects.now.entries }
+        ensures list { IsSomeAnd (list_of T.meaning S.content objects.now result.object) (λ list. length list ≡ self.now.size) }
         ensures shaped { IsShaped self.now }
     {
-        let begin = (self.objects.len() - 1) * self.size;
-        if i < begin {
-            return i % self.size;
+        self.position_in(objects, i / self.size, i)
+    }
+
+    // The place of the next element, whose row group is begun. That is the last one, so that no division is made.
+    #[inline(always)]
+    fn next_position<S: FarTickets>(&self, objects: &Objects<T, S>) -> Position
+        requires is { IsVector (list_of T.meaning S.content objects.now) self.now }
+        requires begun { is_full self.now ≡ false }
+        ensures place { result.place ≡ self.now.len }
+        ensures object { result.object ≡ object_at self.now self.now.len }
+        ensures index { result.index ≡ self.now.len % self.now.size }
+        ensures within { self.now.len < length self.now.objects * self.now.size }
+        ensures made { result.object < length objects.now.entries }
+        ensures list { IsSomeAnd (list_of T.meaning S.content objects.now result.object) (λ list. length list ≡ self.now.size) }
+    {
+        self.position_in(objects, self.objects.len() - 1, self.len)
+    }
+
+    // A place of a row group. Its object is one of the objects: that is known of them by the contract of `number`.
+    #[inline(always)]
+    fn position_in<S: FarTickets>(
+        &self,
+        objects: &Objects<T, S>,
+        group: usize,
+        i: usize,
+    ) -> Position
+        requires is { IsVector (list_of T.meaning S.content objects.now) self.now }
+        requires within { i < length self.now.objects * self.now.size }
+        requires group { group ≡ i / self.now.size }
+        ensures place { result.place ≡ i }
+        ensures object { result.object ≡ object_at self.now i }
+        ensures index { result.index ≡ i % self.now.size }
+        ensures below { result.index < self.now.size }
+        ensures made { result.object < length objects.now.entries }
+        ensures list { IsSomeAnd (list_of T.meaning S.content objects.now result.object) (λ list. length list ≡ self.now.size) }
+        ensures shaped { IsShaped self.now }
+    {
+        let _ = objects.number();
+        Position {
+            place: i,
+            object: self.objects[group],
+            index: i - group * self.size,
         }
-        i - begin
     }
 }
 

@@ -184,7 +184,7 @@ fn numbers_are_here<S: FarTickets>(
     // It tells of all objects that one with a list is in use.
     let _number = objects.number();
     if let Some(o) = column.object(group) {
-        objects.lend(o)?;
+        objects.here(o)?;
     }
     Ok(())
 }
@@ -200,7 +200,7 @@ fn texts_are_here<S: FarTickets>(
 {
     let _number = objects.number();
     if let Some(o) = column.object(group as usize) {
-        objects.lend(o)?;
+        objects.here(o)?;
     }
     Ok(())
 }

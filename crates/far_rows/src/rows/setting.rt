@@ -1,8 +1,10 @@
 // The cell of a place is set.
-ghost use Rattle.std.specs.Prelude.{◌≡◌, [], ◌<◌, ◌≤◌, ◌+◌, ℕ, ℤ, Option, List, length, map, false, None, Some, OnOk, OnErr, IfErr, IsOk, IfSome, option_map, slice_get, slice_set, slice_index_or};
+ghost use Rattle.std.specs.Prelude.{◌≡◌, [], ◌/◌, ◌<◌, ◌≤◌, ◌+◌, ℕ, ℤ, Option, List, length, map, false, None, Some, OnOk, OnErr, IfErr, IsOk, IfSome, option_map, slice_get, slice_set, slice_index_or};
+ghost use Rattle.std.specs.Option.{option_and_then};
 ghost use Rattle.far_types.specs.Cells.{is_too_long};
 ghost use Rattle.far_scopes.specs.Movement.{AreHere, version_of};
 ghost use Rattle.far_scopes.specs.Refusing.{refusal_in};
+ghost use Rattle.far_vector.specs.Refusing.{set_refusal as number_set_refusal};
 ghost use Rattle.far_rows.specs.declared.slot.Slot.TheVariants as slot;
 ghost use Rattle.far_rows.specs.declared.new_cell.NewCell.TheVariants as new;
 ghost use Rattle.far_types.specs.declared.limits.Limits.{Limits};
@@ -50,16 +52,42 @@ impl<S: FarTickets> Rows<S> {
     {
         // It tells that each slot is that of a column.
         let _len = self.len();
-        self.here((place / self.size as usize) as u32)?;
+        let group = self.group_of(place);
+        self.here(group)?;
         match (self.slots[column], value) {
-            (Slot::Number(i), NewCell::Number(_)) => {
-                self.numbers[i].may_set(&self.number_objects, place)
-            }
+            (Slot::Number(i), NewCell::Number(_)) => self.number_is_writable(i, place, group),
             (Slot::Text(i), NewCell::Text(text)) => {
                 self.texts[i].may_set(&self.text_objects, place, text)
             }
             _ => unreachable!(),
         }
+    }
+
+    // The row group of a place.
+    fn group_of(&self, place: usize) -> u32
+        requires { place < length self.now.alive }
+        ensures { result ≡ place / self.now.size }
+    {
+        // It tells that there are fewer places than numbers of 32 bits.
+        let _len = self.len();
+        (place / self.size as usize) as u32
+    }
+
+    // Whether a number may be put at a place of a column of numbers, which is of this row group: a division that is not made
+    // again.
+    fn number_is_writable(&self, i: usize, place: usize, group: u32) -> Result<(), Refusal>
+        requires within { i < length self.now.numbers }
+        requires place { place < length self.now.alive }
+        requires group { group ≡ place / self.now.size }
+        ensures { refusal_in result ≡ option_and_then (λ v. number_set_refusal self.now.number_objects v place) (slice_get self.now.numbers i) }
+    {
+        // They tell what rows are, and of all objects that one with a list is in use.
+        let _len = self.len();
+        let _number = self.number_objects.number();
+        let Some(o) = self.numbers[i].object(group) else {
+            unreachable!()
+        };
+        self.number_objects.may_write(o)
     }
 
     // Puts a number, which is not refused, at a place of a column of numbers.

@@ -23,10 +23,21 @@ impl<T: Elem, S: FarTickets> Objects<T, S> {
         ensures lent { IfOk result (λ list. list_in self.now.memory o ≡ Some list.now) }
         ensures refused { refusal_in result ≡ lend_refusal self.now o }
     {
+        self.here(o)?;
+        Ok(self.memory.lend(o as usize, self.entries[o as usize].len))
+    }
+
+    /// Whether an object is local, as its pointer word alone tells. Takes no memory.
+    ///
+    /// Refused with `Absent` (16) exactly where the object is away, as `lend` is.
+    pub fn here(&self, o: u32) -> Result<(), Refusal>
+        requires { o < length self.now.entries }
+        ensures { refusal_in result ≡ lend_refusal self.now o }
+    {
         if self.is_away(o) {
             return Err(self.absent(o));
         }
-        Ok(self.memory.lend(o as usize, self.entries[o as usize].len))
+        Ok(())
     }
 
     /// Whether an object may be written. Takes no memory.
@@ -37,9 +48,7 @@ impl<T: Elem, S: FarTickets> Objects<T, S> {
         requires { o < length self.now.entries }
         ensures { refusal_in result ≡ write_refusal self.now o }
     {
-        if self.is_away(o) {
-            return Err(self.absent(o));
-        }
+        self.here(o)?;
         if self.entries[o as usize].version >= self.changes {
             return Err(Refusal::EditsUsedUp);
         }

@@ -49,9 +49,7 @@ impl<T: Elem, S: FarTickets> Objects<T, S> {
         requires { o < length self.now.entries }
         ensures { refusal_in result ≡ replace_refusal self.now o len }
     {
-        if self.is_away(o) {
-            return Err(self.absent(o));
-        }
+        self.here(o)?;
         if !self.memory.fits(len) {
             return Err(Refusal::RegionFull);
         }

@@ -31,8 +31,7 @@ impl<T: Elem> FarVector<T> {
         requires begun { is_full self.now ≡ false }
         ensures { refusal_in result ≡ lend_refusal objects.now (object_at self.now self.now.len) }
     {
-        let _list = objects.lend(self.object_at(objects, self.len))?;
-        Ok(())
+        objects.here(self.next_position(objects).object)
     }
 
     /// Whether the object of the next place may be written, whose row group is begun. Takes no memory.
@@ -44,7 +43,7 @@ impl<T: Elem> FarVector<T> {
         requires begun { is_full self.now ≡ false }
         ensures { refusal_in result ≡ write_refusal objects.now (object_at self.now self.now.len) }
     {
-        objects.may_write(self.object_at(objects, self.len))
+        objects.may_write(self.next_position(objects).object)
     }
 
     /// Adds an element at the end: in the last row group, or, where that is full, in a new one, whose object is made here.
@@ -142,8 +141,9 @@ impl<T: Elem> FarVector<T> {
         ensures refused { refusal_in result ≡ write_refusal objects.old (object_at self.old self.old.len) }
         ensures err { OnErr result ((self.new ≡ self.old) × (objects.new ≡ objects.old)) }
     {
-        self.next_is_writable(objects)?;
-        self.write(objects, self.len, x);
+        let at = self.next_position(objects);
+        objects.may_write(at.object)?;
+        self.write(objects, at, x);
         self.len += 1;
         Ok(())
     }

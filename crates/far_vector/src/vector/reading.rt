@@ -28,8 +28,9 @@ impl<T: Elem> FarVector<T> {
         if i >= self.len {
             return Err(Refusal::OutOfRange);
         }
-        let list = objects.lend(self.object_at(objects, i))?;
-        Ok(list[self.index_of(i)])
+        let at = self.position(objects, i);
+        let list = objects.lend(at.object)?;
+        Ok(list[at.index])
     }
 
     /// The elements `from` up to `to`, all of one row group, lent in place. Takes no memory.
@@ -50,9 +51,9 @@ impl<T: Elem> FarVector<T> {
         if from == to {
             return Ok(&[]);
         }
-        let list = objects.lend(self.object_at(objects, from))?;
-        let begin = from % self.size;
-        Ok(&list[begin..begin + (to - from)])
+        let at = self.position(objects, from);
+        let list = objects.lend(at.object)?;
+        Ok(&list[at.index..at.index + (to - from)])
     }
 
     /// The elements `from` up to `to`, lent in place piece by piece: one for each row group that has some of them. Takes no
@@ -95,7 +96,7 @@ impl<T: Elem> FarVector<T> {
     {
         let _ = objects.number();
         for o in &self.objects[first..end] {
-            objects.lend(*o)?;
+            objects.here(*o)?;
         }
         Ok(())
     }

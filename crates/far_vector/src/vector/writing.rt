@@ -9,7 +9,7 @@ ghost use Rattle.far_vector.specs.Vector.{Vector, IsVector, IsUntouched, AreApar
 ghost use Rattle.far_vector.specs.Effects.{range_written};
 ghost use Rattle.far_vector.specs.Refusing.{set_refusal, write_part_refusal};
 
-use super::FarVector;
+use super::{FarVector, Position};
 use far_codec::Elem;
 use far_scopes::Objects;
 use far_store::FarTickets;
@@ -42,8 +42,9 @@ impl<T: Elem> FarVector<T> {
         if i >= self.len {
             return Err(Refusal::OutOfRange);
         }
-        objects.may_write(self.object_at(objects, i))?;
-        self.write(objects, i, x);
+        let at = self.position(objects, i);
+        objects.may_write(at.object)?;
+        self.write(objects, at, x);
         Ok(())
     }
 
@@ -55,8 +56,7 @@ impl<T: Elem> FarVector<T> {
         if self.len <= i {
             return Err(Refusal::OutOfRange);
         }
-        let o = self.object_at(objects, i);
-        objects.may_write(o)
+        objects.may_write(self.position(objects, i).object)
     }
 
     /// Whether the elements `from` up to `to`, all of one row group, may be written. Takes no memory.
@@ -77,7 +77,7 @@ impl<T: Elem> FarVector<T> {
         if from == to {
             return Ok(());
         }
-        objects.may_write(self.object_at(objects, from))
+        objects.may_write(self.position(objects, from).object)
     }
 
     /// The elements `from` up to `to` of a part that may be written and is not empty, lent in place to be written. Takes no
@@ -110,20 +110,26 @@ impl<T: Elem> FarVector<T> {
     }
 
     // Writes the element of a place, which may be one that is not yet used, of a row group that may be written.
-    pub(super) fn write<S: FarTickets>(&self, objects: &mut Objects<T, S>, i: usize, x: T)
+    #[inline(always)]
+    pub(super) fn write<S: FarTickets>(&self, objects: &mut Objects<T, S>, at: Position, x: T)
         requires is { IsVector (list_of T.meaning S.content objects.old) self.now }
-        requires within { i < length self.now.objects * self.now.size }
-        requires free { write_refusal objects.old (object_at self.now i) ≡ None }
-        ensures written { objects.new ≡ range_written objects.old self.now i (x ∷ []) }
-        ensures places { WritesPlaces (list_of T.meaning S.content objects.old) (list_of T.meaning S.content objects.new) self.now i (x ∷ []) }
-        ensures lists { KeepsOthers (list_of T.meaning S.content objects.old) (list_of T.meaning S.content objects.new) (object_at self.now i) }
-        ensures others { ChangesObject objects.old objects.new (object_at self.now i) }
+        requires within { at.place < length self.now.objects * self.now.size }
+        requires object { at.object ≡ object_at self.now at.place }
+        requires index { at.index ≡ at.place % self.now.size }
+        requires made { at.object < length objects.old.entries }
+        requires list { IsSomeAnd (list_of T.meaning S.content objects.old at.object) (λ list. length list ≡ self.now.size) }
+        requires free { write_refusal objects.old at.object ≡ None }
+        ensures written { objects.new ≡ range_written objects.old self.now at.place (x ∷ []) }
+        ensures places { WritesPlaces (list_of T.meaning S.content objects.old) (list_of T.meaning S.content objects.new) self.now at.place (x ∷ []) }
+        ensures lists { KeepsOthers (list_of T.meaning S.content objects.old) (list_of T.meaning S.content objects.new) (object_at self.now at.place) }
+        ensures others { ChangesObject objects.old objects.new (object_at self.now at.place) }
         ensures clean { AreClean T.meaning S.content objects.old → AreClean T.meaning S.content objects.new }
         ensures store { (name : List ℕ) → AreHere S.is_of name objects.old → AreHere S.is_of name objects.new }
     {
-        let at = self.index_of(i);
-        let o = self.writable_at(objects, i);
-        let range = objects.lend_range_mut(o, at, at + 1);
+        // They tell how many elements a row group has, and that the object has its list in local memory.
+        let _len = self.len();
+        let _ = objects.lend(at.object);
+        let range = objects.lend_range_mut(at.object, at.index, at.index + 1);
         range[0] = x;
     }
 
@@ -137,8 +143,8 @@ impl<T: Elem> FarVector<T> {
         ensures made { result < length objects.now.entries }
         ensures list { IsSomeAnd (list_in objects.now.memory result) (λ list. length list ≡ self.now.size) }
     {
-        let o = self.object_at(objects, i);
-        let _ = objects.lend(o);
-        o
+        let at = self.position(objects, i);
+        let _ = objects.lend(at.object);
+        at.object
     }
 }

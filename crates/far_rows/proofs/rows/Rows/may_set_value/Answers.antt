@@ -1,11 +1,9 @@
-use Rattle.std.proofs.Common.{◌≡◌, ◌/◌, ◌<◌, length, get_or, Option, None, Some, sym, ap, subst, ◌∙◌}
-use Rattle.std.specs.Prelude.{ℤ, slice_get}
+use Rattle.std.proofs.Common.{◌≡◌, ◌/◌, ◌<◌, length, get_or, Option, None, Some, sym, ap, subst, ◌∙◌, arith}
+use Rattle.std.specs.Prelude.{slice_get}
 use Rattle.std.specs.Option.{option_and_then, option_or}
 use Rattle.std.proofs.lemmas.Option.{slice_get-get_or, get_or_from_slice_get}
 use Rattle.std.proofs.lemmas.Result.{err_from_is_err_and}
 use Rattle.far_types.specs.FirstOf.{first_of}
-use Rattle.far_vector.specs.Vector.{Vector}
-use Rattle.far_vector.specs.Refusing.{set_refusal as number_refusal}
 use Rattle.far_texts.specs.Texts.{Texts, IsTextColumn, lists_of}
 use Rattle.far_texts.specs.Refusing.{set_refusal as text_refusal}
 use Rattle.far_rows.specs.declared.slot.Slot.{Slot}
@@ -21,7 +19,7 @@ returns-in_err-here g c =
     let r = c.args.self.now in
     let p = err_from_is_err_and c.from_residual.result c.from_residual.ensures.1 in
     let later = option_and_then (λ s. value_refusal g.S.FarTickets.content r s c.args.place c.args.value.now) (slice_get r.slots c.args.column) in
-    let due : Some c.in_err-here.field-0.0 ≡ first_of (absents r (c.args.place / r.size)) = c.in_err-here.ensures ∙ ap (λ rows. first_of (absents r (c.args.place / rows.size))) c.self.view_is in
+    let due : Some c.in_err-here.field-0.0 ≡ first_of (absents r (c.args.place / r.size)) = c.in_err-here.ensures ∙ ap (λ n. first_of (absents r n)) c.group_of-group.ensures in
     rw (p.1, p.2) (ap (λ o. option_or o later) due)
 
 pub returns-in-Number-Number : goal.returns-in-Number-Number
@@ -29,23 +27,16 @@ returns-in-Number-Number g c =
     let content = g.S.FarTickets.content in
     let r = c.args.self.now in
     let s : Slot = slot.Number c.in-Number-Number.i in
-    let v : Vector (Option ℤ) = c.index-in-Number-Number.result.now in
     let read : c.index.result.now ≡ get_or r.slots c.args.column c.index.result.now = c.index.ensures ∙ ap (λ rows. get_or rows.slots c.args.column c.index.result.now) c.self.view_is in
     let below = slot-within r.slots c.args.column (kind_in c.args.value.now) c.requires.of_kind in
     let at : slice_get r.slots c.args.column ≡ Some s = slice_get-get_or r.slots c.args.column c.index.result.now below ∙ ap Some (sym read ∙ c.in-Number-Number.is-0) in
-    let inside : IsWithin (length r.numbers) (length r.texts) s = subst (IsWithin (length r.numbers) (length r.texts)) (get_or_from_slice_get r.slots c.args.column s s at) (c.len-len.ensures.rows.slots.within c.args.column s below) in
-    let read_column : v ≡ get_or r.numbers c.in-Number-Number.i v = c.index-in-Number-Number.ensures ∙ ap (λ rows. get_or rows.numbers c.in-Number-Number.i v) c.self.view_is in
-    let column : slice_get r.numbers c.in-Number-Number.i ≡ Some v = slice_get-get_or r.numbers c.in-Number-Number.i v inside ∙ ap Some (sym read_column) in
-    let here : first_of (absents r (c.args.place / r.size)) ≡ None = sym (c.in_ok-here.ensures ∙ ap (λ rows. first_of (absents r (c.args.place / rows.size))) c.self.view_is) in
-    let refused = λ (w : Vector (Option ℤ)). number_refusal r.number_objects w c.args.place in
-    c.may_set.ensures
-    ∙ ap (λ rows. number_refusal rows.number_objects v c.args.place) c.self.view_is
-    ∙ sym (ap (option_and_then refused) column)
+    let here : first_of (absents r (c.args.place / r.size)) ≡ None = sym (c.in_ok-here.ensures ∙ ap (λ n. first_of (absents r n)) c.group_of-group.ensures) in
+    c.number_is_writable.ensures
     ∙ sym (ap (option_and_then (λ t. value_refusal content r t c.args.place c.args.value.now)) at)
     ∙ sym (ap (λ o. option_or o (option_and_then (λ t. value_refusal content r t c.args.place c.args.value.now) (slice_get r.slots c.args.column))) here)
 
-pub may_set-requires-in-Text-Text-after_bounds : goal.may_set-requires-in-Text-Text-after_bounds
-may_set-requires-in-Text-Text-after_bounds g c κs bounds =
+pub may_set-requires-after_bounds : goal.may_set-requires-after_bounds
+may_set-requires-after_bounds g c κs bounds =
     let r = c.args.self.now in
     let s : Slot = slot.Text c.in-Text-Text.i in
     let read : c.index.result.now ≡ get_or r.slots c.args.column c.index.result.now = c.index.ensures ∙ ap (λ rows. get_or rows.slots c.args.column c.index.result.now) c.self.view_is in
@@ -67,9 +58,9 @@ returns-in-Text-Text g c =
     let inside : IsWithin (length r.numbers) (length r.texts) s = subst (IsWithin (length r.numbers) (length r.texts)) (get_or_from_slice_get r.slots c.args.column s s at) (c.len-len.ensures.rows.slots.within c.args.column s below) in
     let read_column : v ≡ get_or r.texts c.in-Text-Text.i v = c.index-in-Text-Text.ensures ∙ ap (λ rows. get_or rows.texts c.in-Text-Text.i v) c.self.view_is in
     let column : slice_get r.texts c.in-Text-Text.i ≡ Some v = slice_get-get_or r.texts c.in-Text-Text.i v inside ∙ ap Some (sym read_column) in
-    let here : first_of (absents r (c.args.place / r.size)) ≡ None = sym (c.in_ok-here.ensures ∙ ap (λ rows. first_of (absents r (c.args.place / rows.size))) c.self.view_is) in
+    let here : first_of (absents r (c.args.place / r.size)) ≡ None = sym (c.in_ok-here.ensures ∙ ap (λ n. first_of (absents r n)) c.group_of-group.ensures) in
     let refused = λ (w : Texts). text_refusal content r.text_objects w c.args.place c.in-Text-Text.text in
-    c.may_set-in-Text-Text.ensures
+    c.may_set.ensures
     ∙ ap (λ rows. text_refusal content rows.text_objects v c.args.place c.in-Text-Text.text) c.self.view_is
     ∙ sym (ap (option_and_then refused) column)
     ∙ ap (value_refusal content r s c.args.place) (sym c.in-Text-Text.is-1)

@@ -1,6 +1,6 @@
 use Rattle.std.proofs.Common.{◌≡◌, ◌/◌, [], ◌∷◌, ap, subst, ◌∙◌, arith}
 use Rattle.far_scopes.specs.Movement.{list_of}
-use Rattle.far_vector.specs.Vector.{Vector, IsShaped, elements, object_at}
+use Rattle.far_vector.specs.Vector.{Vector, IsShaped, WritesPlaces, KeepsOthers, elements, object_at}
 use Rattle.far_vector.proofs.VectorLaws.{object-there, length-elements}
 use Rattle.far_vector.proofs.WritingLaws.{elements-written, vector-written, one-written}
 use Rattle.far_vector.proofs.Apart.{untouched}
@@ -10,17 +10,17 @@ pub returns-clause-elements : goal.returns-clause-elements
 returns-clause-elements g c =
     let shaped = subst (λ (v : Vector g.row.T.Denot). IsShaped v) c.self.view_is c.self.invariant.shaped in
     let len : c.self.inside.len ≡ c.args.self.now.len = ap (λ (v : Vector g.row.T.Denot). v.len) c.self.view_is in
-    elements-written (list_of g.T.Elem.meaning g.S.FarTickets.content c.args.objects.now) (list_of g.T.Elem.meaning g.S.FarTickets.content c.write.new.objects) c.args.self.now shaped c.requires c.args.i (c.args.x ∷ []) c.write.ensures.places (omega (arith, len, c.if-i-self.false))
+    elements-written (list_of g.T.Elem.meaning g.S.FarTickets.content c.args.objects.now) (list_of g.T.Elem.meaning g.S.FarTickets.content c.write.new.objects) c.args.self.now shaped c.requires c.args.i (c.args.x ∷ []) (subst (λ i. WritesPlaces (list_of g.T.Elem.meaning g.S.FarTickets.content c.args.objects.now) (list_of g.T.Elem.meaning g.S.FarTickets.content c.write.new.objects) c.args.self.now i (c.args.x ∷ [])) c.position-at.ensures.place c.write.ensures.places) (omega (arith, len, c.if-i-self.false))
     ∙ one-written (elements (list_of g.T.Elem.meaning g.S.FarTickets.content c.args.objects.now) c.args.self.now) c.args.i c.args.x (omega (arith, len, c.if-i-self.false, length-elements (list_of g.T.Elem.meaning g.S.FarTickets.content c.args.objects.now) c.args.self.now shaped c.requires))
 
 pub returns-clause-is : goal.returns-clause-is
 returns-clause-is g c =
     let shaped = subst (λ (v : Vector g.row.T.Denot). IsShaped v) c.self.view_is c.self.invariant.shaped in
     let len : c.self.inside.len ≡ c.args.self.now.len = ap (λ (v : Vector g.row.T.Denot). v.len) c.self.view_is in
-    vector-written (list_of g.T.Elem.meaning g.S.FarTickets.content c.args.objects.now) (list_of g.T.Elem.meaning g.S.FarTickets.content c.write.new.objects) c.args.self.now shaped c.requires c.args.i (c.args.x ∷ []) c.write.ensures.places (omega (arith, len, c.if-i-self.false))
+    vector-written (list_of g.T.Elem.meaning g.S.FarTickets.content c.args.objects.now) (list_of g.T.Elem.meaning g.S.FarTickets.content c.write.new.objects) c.args.self.now shaped c.requires c.args.i (c.args.x ∷ []) (subst (λ i. WritesPlaces (list_of g.T.Elem.meaning g.S.FarTickets.content c.args.objects.now) (list_of g.T.Elem.meaning g.S.FarTickets.content c.write.new.objects) c.args.self.now i (c.args.x ∷ [])) c.position-at.ensures.place c.write.ensures.places) (omega (arith, len, c.if-i-self.false))
 
 pub returns-clause-apart : goal.returns-clause-apart
 returns-clause-apart g c = λ w is apart.
     let shaped = subst (λ (v : Vector g.row.T.Denot). IsShaped v) c.self.view_is c.self.invariant.shaped in
     let len : c.self.inside.len ≡ c.args.self.now.len = ap (λ (v : Vector g.row.T.Denot). v.len) c.self.view_is in
-    untouched (list_of g.T.Elem.meaning g.S.FarTickets.content c.args.objects.now) (list_of g.T.Elem.meaning g.S.FarTickets.content c.write.new.objects) c.args.self.now w is apart (object_at c.args.self.now c.args.i) c.write.ensures.lists (c.args.i / c.args.self.now.size) (object-there c.args.self.now shaped c.args.i (omega (arith, len, c.if-i-self.false, shaped.enough))) c.args.self.now apart
+    untouched (list_of g.T.Elem.meaning g.S.FarTickets.content c.args.objects.now) (list_of g.T.Elem.meaning g.S.FarTickets.content c.write.new.objects) c.args.self.now w is apart (object_at c.args.self.now c.args.i) (subst (λ i. KeepsOthers (list_of g.T.Elem.meaning g.S.FarTickets.content c.args.objects.now) (list_of g.T.Elem.meaning g.S.FarTickets.content c.write.new.objects) (object_at c.args.self.now i)) c.position-at.ensures.place c.write.ensures.lists) (c.args.i / c.args.self.now.size) (object-there c.args.self.now shaped c.args.i (omega (arith, len, c.if-i-self.false, shaped.enough))) c.args.self.now apart

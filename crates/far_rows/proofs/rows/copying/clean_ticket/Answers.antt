@@ -2,9 +2,8 @@ use Rattle.std.proofs.Common.{sym, ◌∙◌}
 use Rattle.far_scopes.specs.Movement.{ticket_of}
 use Rattle.far_codec.specs.Spelling.{IsSpelled}
 use Rattle.far_evacuator.proofs.CopyLaws.{far-spelled}
-use Rattle.far_table.proofs.Away.{away-clean}
-use Rattle.far_table.proofs.Tickets.{if-found}
-use Rattle.far_table.proofs.copies.clean_ticket.Goals as goal
+use Rattle.far_rows.proofs.Copies.{away-clean, if-found}
+use Rattle.far_rows.proofs.rows.copying.clean_ticket.Goals as goal
 
 pub returns-clause-form : goal.returns-clause-form
 returns-clause-form g c =

@@ -1,0 +1,36 @@
+-- Why a number may not be set, where its row group is known.
+use Rattle.std.proofs.Common.{◌≡◌, ℕ, ℤ, ◌*◌, ◌/◌, ◌<◌, nat_lt, true, List, [], ◌∷◌, length, get_or, Option, Some, sym, ap, subst, ◌∙◌, arith}
+use Rattle.std.specs.Prelude.{not, slice_get}
+use Rattle.std.specs.Option.{option_and_then}
+use Rattle.std.proofs.lemmas.Bool.{lt-ltb}
+use Rattle.std.proofs.lemmas.Option.{same_Some, slice_get_within, get_or_from_slice_get}
+use Rattle.far_types.specs.declared.refusal.Refusal.TheVariants as refusal
+use Rattle.far_types.specs.FirstOf.{first_of}
+use Rattle.far_scopes.specs.Refusing.{absent, written_out, write_refusal}
+use Rattle.far_vector.specs.Vector.{Vector, IsShaped, object_at}
+use Rattle.far_vector.specs.Refusing.{set_refusal}
+use Rattle.far_vector.proofs.VectorLaws.{object-there}
+use Rattle.far_rows.specs.Rows.{Rows, AreRows}
+
+module _ {K : Type 0} (content : K → List ℕ) (r : Rows K) (are : AreRows content r) (i place group : ℕ) (v : Vector (Option ℤ)) (column : slice_get r.numbers i ≡ Some v) (used : place < length r.alive) (of : group ≡ place / r.size) where
+  same : get_or r.numbers i v ≡ v
+  same = get_or_from_slice_get r.numbers i v v column
+
+  even : (v.size ≡ r.size) × (v.len ≡ length r.alive)
+  even = subst (λ (d : Vector (Option ℤ)). (d.size ≡ r.size) × (d.len ≡ length r.alive)) same (are.even_numbers i v (slice_get_within r.numbers i v column))
+
+  shaped : IsShaped v
+  shaped = subst IsShaped same (are.shaped i v (slice_get_within r.numbers i v column))
+
+  -- its row group has an object
+  pub group-there : slice_get v.objects group ≡ Some (object_at v place)
+  group-there = ap (slice_get v.objects) (of ∙ ap (λ n. place / n) (sym even.0)) ∙ object-there v shaped place (omega (arith, used, even.1, shaped.enough))
+
+  -- and it may not be written
+  pub group-writable : (o : ℕ) → Some o ≡ slice_get v.objects group → write_refusal r.number_objects o ≡ option_and_then (λ w. set_refusal r.number_objects w place) (slice_get r.numbers i)
+  group-writable o found =
+      let there : nat_lt place v.len ≡ true = lt-ltb place v.len (omega (arith, used, even.1)) in
+      let m = r.number_objects in
+      ap (write_refusal m) (same_Some o (object_at v place) (found ∙ group-there))
+      ∙ sym (ap (λ b. first_of ((not b, refusal.OutOfRange) ∷ absent m (object_at v place) ∷ written_out m (object_at v place) ∷ [])) there)
+      ∙ sym (ap (option_and_then (λ w. set_refusal m w place)) column)

@@ -1,0 +1,56 @@
+// What the far store has of the rows.
+ghost use Rattle.std.specs.Prelude.{◌≡◌, ◌<◌, ℕ, List, true, false, length, option_map, IfSome, IsSome};
+ghost use Rattle.far_codec.specs.Spelling.{IsSpelled};
+ghost use Rattle.far_scopes.specs.Movement.{is_local};
+ghost use Rattle.far_rows.specs.Refusing.{absent_in};
+ghost use Rattle.far_rows.specs.Jobs.{AreAt};
+ghost use Rattle.far_rows.specs.Copies.{clean_ticket, copy_of, IsCopyOf};
+
+use super::Rows;
+use crate::object::Object;
+use far_codec::Elem;
+use far_scopes::Objects;
+use far_store::FarTickets;
+
+impl<S: FarTickets> Rows<S> {
+    /// The number that was given to `new`, which jobs on the rows bear. Takes no memory.
+    pub fn number(&self) -> u32
+        ensures { result ≡ self.now.number_objects.number }
+    {
+        self.number_objects.number()
+    }
+
+    /// The ticket of the far copy of a row group of a column; `None` where its object is dirty, or there is no such object.
+    /// Takes no memory.
+    ///
+    /// Its content is the far form of the row group as it is now, local or away.
+    pub fn copy(&self, column: usize, group: u32) -> Option<&S::Ticket>
+        ensures ticket { option_map (λ ticket. ticket.now) result ≡ copy_of self.now column group }
+        ensures form { IfSome result (λ ticket. IsCopyOf S.content self.now ticket.now column group) }
+        ensures here { (name : List ℕ) → AreAt S.is_of name self.now → IfSome result (λ ticket. S.is_of ticket.now name) }
+        ensures away { (absent_in self.now column group).0 ≡ true → IsSome result }
+    {
+        // It tells what the rows are.
+        let _len = self.len();
+        match self.object(column, group) {
+            Ok(Object::Number(o)) => clean_ticket(self.number_objects(), o),
+            Ok(Object::Text(o)) => clean_ticket(self.text_objects(), o),
+            Err(_) => None,
+        }
+    }
+}
+
+// The ticket of an object, if the object is clean. The ticket's content is a far form.
+fn clean_ticket<T: Elem, S: FarTickets>(objects: &Objects<T, S>, o: u32) -> Option<&S::Ticket>
+    requires { o < length objects.now.entries }
+    ensures ticket { option_map (λ ticket. ticket.now) result ≡ clean_ticket objects.now o }
+    ensures form { IfSome result (λ ticket. IsSpelled T.in_range T.has_spelling T.spelling (T.meaning (S.content ticket.now)) (S.content ticket.now)) }
+    ensures away { is_local objects.now o ≡ false → IsSome result }
+{
+    // It tells that a clean object has a far copy.
+    let _number = objects.number();
+    if objects.word(o).dirty() {
+        return None;
+    }
+    objects.ticket(o)
+}
