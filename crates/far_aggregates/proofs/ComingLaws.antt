@@ -18,14 +18,14 @@ use Rattle.far_aggregates.specs.declared.aggregate.Kept.TheVariants as kept
 use Rattle.far_aggregates.specs.declared.coming.Coming.{Coming}
 use Rattle.far_aggregates.specs.Kept.{Slot, Change}
 use Rattle.far_aggregates.specs.Changes.{Gives, change_of, KeptFolds, Folds, EachFolds}
-use Rattle.far_aggregates.specs.Coming.{coming_of, come_of, kept_more, added, kept_back, back, KeptMayAdd, MayAdd, KeptMayBack, MayBack, EachMayBack, KeptFits, Fits, EachFits}
+use Rattle.far_aggregates.specs.Coming.{coming_of, come_of, coming_in, kept_more, added, kept_back, back, KeptMayAdd, MayAdd, KeptMayBack, MayBack, EachMayBack, KeptFits, Fits, EachFits}
 use Rattle.far_aggregates.specs.Rooms.{KeptHasRoom, HasRoom, HaveRoom}
 use Rattle.far_aggregates.specs.Until.{zip_until, zip_all}
 use Rattle.far_aggregates.proofs.CountLaws.{few_under, can_take}
 use Rattle.far_aggregates.proofs.ListLaws.{set-again, set-own, length-written, length-zip_all, get-take}
 use Rattle.far_aggregates.proofs.UntilLaws.{zip_until-take, zip_until-below, zip_until-undo, zip_until-all}
 
-kept-may_add : (g : ℕ) (k : Kept) (c : Coming) → KeptFits g k c → KeptMayAdd g k c.pair
+pub kept-may_add : (g : ℕ) (k : Kept) (c : Coming) → KeptFits g k c → KeptMayAdd g k c.pair
 kept-may_add g (kept.Totals live) c h =
     let is : count_in (fin.get live.totals c.pair.0) ≡ count_in (fin.get (totals h.0) c.pair.0) = ap (λ m. count_in (fin.get m c.pair.0)) h.1 in
     let few = few_under h.0 c.pair.0 in
@@ -112,6 +112,25 @@ all-undo g slots comes fits =
     sym (zip_until-all (back g) n (zip_all (added g) slots comes) comes (omega (arith, length-zip_all (added g) slots comes)))
     ∙ ap (λ l. zip_until (back g) n l comes) (sym (zip_until-all (added g) n slots comes (omega arith)))
     ∙ zip_until-undo (added g) (back g) n slots comes (λ k s d h i. fits-undo g s d (fits k s d h i))
+
+-- what comes is the pair that a row gives, or nothing
+pub come-given : (size i : ℕ) (o : Gives) (s : Slot) (p : Pair) → change_of size i o s ≡ Some p → come_of size i o s ≡ coming_in (i / size) s p
+come-given size i o None p h = cc
+come-given size i o (Some a) p h = ap (option_map (coming_of (i / size) a.kept)) h
+
+pub come-none : (size i : ℕ) (o : Gives) (s : Slot) → change_of size i o s ≡ None → come_of size i o s ≡ None
+come-none size i o None h = refl
+come-none size i o (Some a) h = ap (option_map (coming_of (i / size) a.kept)) h
+
+-- and nothing changes nothing
+pub added-none : (g : ℕ) (s : Slot) → added g s None ≡ s
+added-none g None = refl
+added-none g (Some a) = refl
+
+-- what comes of a pair fits what is kept
+pub pair-fits : (g : ℕ) (k : Kept) (p : Pair) → KeptFolds k → KeptHasRoom g k → KeptFits g k (coming_of g k p)
+pair-fits g (kept.Totals live) p f r = f
+pair-fits g (kept.Extrema live) p f r = (r, refl)
 
 -- what comes of a place fits what is kept, where totals are few and extrema have room
 kept-fits : (g : ℕ) (a : Aggregate) (k : Kept) (o : Change) → KeptFolds k → KeptHasRoom g k → Fits g (Some (record a { kept = k })) (option_map (coming_of g k) o)

@@ -27,6 +27,11 @@ abbrev pub come_of : ℕ → ℕ → Gives → Slot → Option Coming
 come_of size i gives None = None
 come_of size i gives (Some a) = option_map (coming_of (i / size) a.kept) (change_of size i gives (Some a))
 
+-- what comes into a slot where a row gives it a pair
+abbrev pub coming_in : ℕ → Slot → Pair → Option Coming
+coming_in g None pair = None
+coming_in g (Some a) pair = Some (coming_of g a.kept pair)
+
 -- one pair more
 abbrev pub kept_more : ℕ → Kept → Pair → Kept
 kept_more g (kept.Totals live) pair = kept.Totals (record live { totals = with_pair live.totals pair })

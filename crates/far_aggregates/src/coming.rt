@@ -1,12 +1,12 @@
 // Pairs that come into what is kept, and how they are taken back where a later growth is refused.
 ghost use Rattle.std.specs.Prelude.{◌≡◌, ◌/◌, ◌^◌, ◌<◌, ◌≤◌, ◌∷◌, ◌++◌, [], Some, OnOk, OnErr, IfErr, IfOk, length, map, take};
-ghost use Rattle.far_aggregates.specs.Changes.{Folds, EachFolds, row_gives};
-ghost use Rattle.far_aggregates.specs.Coming.{stood_in, come_of, added, back, MayAdd, MayBack, Fits, EachMayBack};
+ghost use Rattle.far_aggregates.specs.Changes.{Folds, EachFolds, row_gives, key_by};
+ghost use Rattle.far_aggregates.specs.Coming.{stood_in, come_of, coming_in, kept_more, added, back, KeptMayAdd, MayAdd, MayBack, KeptFits, Fits, EachMayBack};
 ghost use Rattle.far_aggregates.specs.Rooms.{HasRoom, HaveRoom};
 ghost use Rattle.far_aggregates.specs.Until.{zip_until, zip_all};
 
 use super::aggregate::{Aggregate, Kept};
-use super::changes::{Pair, change};
+use super::changes::{Given, Pair, change, give, key_of};
 use far_extrema::Span;
 use far_types::{Key, LendCells, Refusal};
 use std::alloc::Global;
@@ -34,7 +34,6 @@ fn stood(kept: &Kept, group: u32, key: &Option<Key>) -> Option<Span>
 }
 
 /// What comes of a row that is alive at a place into an aggregate.
-#[inline(always)]
 fn come<R: LendCells>(
     alloc: Global,
     slot: &Option<Aggregate>,
@@ -108,9 +107,63 @@ fn back_until(slots: &mut [Option<Aggregate>], group: u32, comes: &[Option<Comin
     }
 }
 
-/// What comes of a row that is alive at a place into an aggregate comes in, and stands behind what came into those before.
+/// One pair more in what is kept. What stood under its key is known, so it is not looked up again.
 #[inline(always)]
-fn come_next<R: LendCells>(
+fn add_to(
+    kept: &mut Kept,
+    group: u32,
+    key: &Option<Key>,
+    value: i64,
+    stood: Option<Span>,
+) -> Result<(), Refusal>
+    requires may { KeptMayAdd group kept.old (key.now, value) }
+    requires fits { KeptFits group kept.old (record { pair = (key.now, value); stood = stood }) }
+    ensures ok { OnOk result (kept.new ≡ kept_more group kept.old (key.now, value)) }
+    ensures err { OnErr result (kept.new ≡ kept.old) }
+    ensures memory { IfErr result (λ e. e ≡ Refusal.NoMemory) }
+{
+    match kept {
+        Kept::Totals(live) => live.add_under(key, value),
+        Kept::Extrema(live) => live.see_over(group, key, value, stood),
+    }
+}
+
+/// A value under a number or under no key comes into an aggregate, and stands behind what came into those before. It is
+/// listed where it stays, since a pair that calls hand on by memory costs more than what is done with it.
+#[inline(always)]
+fn come_under(
+    comes: &mut Vec<Option<Coming>>,
+    slot: &mut Option<Aggregate>,
+    group: u32,
+    number: Option<i64>,
+    value: i64,
+) -> Result<(), Refusal>
+    requires folds { Folds slot.old }
+    requires room { HasRoom group slot.old }
+    ensures ok { OnOk result (slot.new ≡ added group slot.old (coming_in group slot.old (key_by number, value))) }
+    ensures comes { OnOk result (comes.new.items ≡ comes.old.items ++ coming_in group slot.old (key_by number, value) ∷ []) }
+    ensures err { OnErr result (slot.new ≡ slot.old) }
+    ensures before { OnErr result (take (length comes.old.items) comes.new.items ≡ comes.old.items) }
+    ensures memory { IfErr result (λ e. e ≡ Refusal.NoMemory) }
+{
+    match slot {
+        None => {
+            comes.push(None)?;
+            Ok(())
+        }
+        Some(aggregate) => {
+            let key = key_of(number);
+            let stood = stood(&aggregate.kept, group, &key);
+            let pair = (key_of(number), value);
+            comes.push(Some(Coming { pair, stood }))?;
+            add_to(&mut aggregate.kept, group, &key, value, stood)
+        }
+    }
+}
+
+/// As `come_next`, where the key is perhaps no number.
+#[inline(never)]
+fn come_otherwise<R: LendCells>(
     alloc: Global,
     comes: &mut Vec<Option<Coming>>,
     slot: &mut Option<Aggregate>,
@@ -134,6 +187,39 @@ fn come_next<R: LendCells>(
     let at = comes.len();
     comes.push(come(alloc, slot, row, size, place, group)?)?;
     add_one(slot, group as u32, &comes[at])
+}
+
+/// What comes of a row that is alive at a place into an aggregate comes in, and stands behind what came into those before.
+#[inline(always)]
+fn come_next<R: LendCells>(
+    alloc: Global,
+    comes: &mut Vec<Option<Coming>>,
+    slot: &mut Option<Aggregate>,
+    row: &R,
+    size: u32,
+    place: usize,
+    group: usize,
+) -> Result<(), Refusal>
+    requires size { 0 < size }
+    requires few { place ≤ 2 ^ 24 }
+    requires group { group ≡ place / size }
+    requires groups { group < 2 ^ 32 }
+    requires folds { Folds slot.old }
+    requires room { HasRoom (place / size) slot.old }
+    ensures ok { OnOk result (slot.new ≡ added (place / size) slot.old (come_of size place (row_gives (R.cells row.now)) slot.old)) }
+    ensures comes { OnOk result (comes.new.items ≡ comes.old.items ++ come_of size place (row_gives (R.cells row.now)) slot.old ∷ []) }
+    ensures err { OnErr result (slot.new ≡ slot.old) }
+    ensures before { OnErr result (take (length comes.old.items) comes.new.items ≡ comes.old.items) }
+    ensures memory { IfErr result (λ e. e ≡ Refusal.NoMemory) }
+{
+    match give(slot, row, size, place, group) {
+        Given::Nothing => {
+            comes.push(None)?;
+            Ok(())
+        }
+        Given::Under(number, value) => come_under(comes, slot, group as u32, number, value),
+        Given::Other => come_otherwise(alloc, comes, slot, row, size, place, group),
+    }
 }
 
 /// The pairs of a row that is alive at a place come into what is kept for each aggregate, or none where memory is refused. What

@@ -2,7 +2,6 @@ use Rattle.std.proofs.Common.{sym, ap, ◌∙◌, subst}
 use Rattle.std.specs.FinMap as fin
 use Rattle.far_groups.specs.declared.by_key.Form.{Form}
 use Rattle.far_groups.specs.Tallies.{AreTallies, LeavesTally, without_tally}
-use Rattle.far_groups.specs.Numbers.{by_number}
 use Rattle.far_groups.specs.Dense.{by_place}
 use Rattle.far_groups.specs.ByKey.{in_form, totals_in}
 use Rattle.far_groups.proofs.TallyLaws.{AreTallies-without}

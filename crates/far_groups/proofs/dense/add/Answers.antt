@@ -1,5 +1,4 @@
-use Rattle.std.proofs.Common.{◌≡◌}
-use Rattle.std.specs.Prelude.{None, Ok, Err, OnErr, Result}
+use Rattle.std.specs.Prelude.{Ok, Err, OnErr, Result}
 use Rattle.far_groups.proofs.PlaceLaws.{get_behind}
 use Rattle.far_groups.proofs.dense.add.Goals as goal
 

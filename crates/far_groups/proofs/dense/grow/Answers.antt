@@ -1,4 +1,4 @@
-use Rattle.std.proofs.Common.{length, refl, ap, ◌∙◌, arith, ◌≡◌, ◌+◌}
+use Rattle.std.proofs.Common.{refl, ap, ◌∙◌, arith}
 use Rattle.std.specs.Prelude.{pos}
 use Rattle.far_groups.specs.Numbers.{by_number}
 use Rattle.far_groups.specs.Dense.{by_place}

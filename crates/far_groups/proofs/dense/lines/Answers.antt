@@ -1,4 +1,4 @@
-use Rattle.std.proofs.Common.{◌≡◌, ◌<◌, ◌++◌, ◌∷◌, [], length, take, sym, ap, ◌∙◌, arith}
+use Rattle.std.proofs.Common.{◌<◌, ◌++◌, ◌∷◌, [], length, sym, ap, ◌∙◌, arith}
 use Rattle.far_groups.specs.Numbers.{number_lines}
 use Rattle.far_groups.proofs.PlaceLaws.{next_none, next_line}
 use Rattle.far_groups.proofs.dense.lines.Goals as goal

@@ -1,4 +1,4 @@
-use Rattle.std.proofs.Common.{◌≡◌, ◌+◌, ◌≤◌, ◌<◌, ◌/◌, decimal, length, sym, ap, ◌∙◌, arith}
+use Rattle.std.proofs.Common.{◌≡◌, ◌/◌, decimal, length, sym, arith}
 use Rattle.itoa.proofs.Decimal.{length_one, length_two, length_pair}
 use Rattle.far_script.proofs.page.numbers.short_count.Goals as goal
 

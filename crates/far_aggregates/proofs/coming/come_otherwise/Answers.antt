@@ -3,7 +3,7 @@ use Rattle.std.proofs.Math.Seq.{get_or-append_seam}
 use Rattle.far_aggregates.specs.Changes.{row_gives}
 use Rattle.far_aggregates.specs.Coming.{come_of, Fits}
 use Rattle.far_aggregates.proofs.ComingLaws.{slot-fits, fits-may_add}
-use Rattle.far_aggregates.proofs.coming.come_next.Goals as goal
+use Rattle.far_aggregates.proofs.coming.come_otherwise.Goals as goal
 
 -- the last of a list is what was put behind the others
 last_is : {X : Type 0} (before items : List X) (n : ℕ) (x y : X) → items ≡ before ++ x ∷ [] → n ≡ length before → y ≡ get_or items n y → y ≡ x
