@@ -1,33 +1,16 @@
--- An object that is away has a copy in the far store.
+-- A column that is not at hand is away.
 use Rattle.std.proofs.Common.{◌≡◌, ℕ, ◌*◌, ◌<◌, Bool, true, false, List, [], ◌∷◌, length, Option, Some, refl, sym, ap, ◌∙◌}
 use Rattle.std.specs.Prelude.{is_none, is_some, slice_get}
 use Rattle.std.specs.Option.{option_and_then, option_map_or}
 use Rattle.far_types.specs.declared.refusal.Refusal.TheVariants as refusal
 use Rattle.far_types.specs.declared.spec.Spec.{Spec}
 use Rattle.far_types.specs.FirstOf.{first_of}
-use Rattle.far_pointer.specs.declared.pointer.Pointer.{Pointer}
-use Rattle.far_pointer.specs.declared.pointer.Pointer.TheVariants.{Local, Remote}
-use Rattle.far_pointer.specs.Layout.{is_dirty}
-use Rattle.far_scopes.specs.Memory.{at_of}
-use Rattle.far_scopes.specs.Movement.{Movement, is_local, word_of}
 use Rattle.far_rows.specs.declared.slot.Slot.{Slot}
 use Rattle.far_rows.specs.Rows.{Rows, AreRows}
 use Rattle.far_rows.specs.Refusing.{told_at, absent_at, absent_in}
 use Rattle.far_table.specs.Groups.{has_column}
 use Rattle.far_table.proofs.DueSet.{found-at}
 use Rattle.far_table.proofs.Needed.{lend-at}
-
--- the word of an object that is away is not dirty
-not-dirty : (w : Pointer) → is_some (at_of w) ≡ false → is_dirty w ≡ false
-not-dirty (Local at dirty hot far) away = absurd cc
-not-dirty Remote away = refl
-
-module _ {X K : Type 0} (m : Movement X K) (o : ℕ) (w : Pointer) (word : word_of m o ≡ Some w) (away : is_local m o ≡ false) where
-  no-place : is_some (at_of w) ≡ false
-  no-place = sym (ap (λ (found : Option Pointer). is_some (option_and_then at_of found)) word) ∙ away
-
-  pub away-clean : is_dirty w ≡ false
-  away-clean = not-dirty w no-place
 
 -- a column that is not at hand, of a row group that has a place, is away
 pub not-at-hand : {K : Type 0} (content : K → List ℕ) (r : Rows K) (are : AreRows content r) (spec : Spec) (column g : ℕ) → column < length r.slots → g * r.size < length r.alive → has_column record { rows = r; group = g } column ≡ false → (absent_in r column g).0 ≡ true

@@ -1,7 +1,6 @@
--- The far copy of a clean object has the cells of its row group.
+-- The far copy of an object has the cells of its row group.
 use Rattle.std.proofs.Common.{◌≡◌, inl, inr, ℕ, zero, suc, ℤ, ◌*◌, ◌<◌, Bool, true, false, List, [], ◌∷◌, ◌++◌, map, length, take, drop, replicate, get_or, Option, None, Some, refl, sym, ap, subst, ◌∙◌, arith}
-use Rattle.std.specs.Prelude.{◌-◌, ◌==◌, cond, min, option_map, unwrap_or, slice_get, slice_index, IfSome, FitsSigned}
-use Rattle.std.specs.Int.{w64}
+use Rattle.std.specs.Prelude.{◌-◌, ◌==◌, cond, min, option_map, unwrap_or, slice_get, slice_index, IsSomeAnd}
 use Rattle.std.specs.Option.{option_and_then}
 use Rattle.std.proofs.lemmas.List.{length-take, length-drop, length-map, take-map, drop-map, map-append}
 use Rattle.std.proofs.lemmas.Option.{same_Some, none-some, slice_get-map, slice_get_within, get_or_from_slice_get}
@@ -10,12 +9,11 @@ use Rattle.far_types.specs.declared.cell.Cell.TheVariants as cell
 use Rattle.far_types.specs.Lent.{int_cell, text_cell}
 use Rattle.far_types.specs.Table.{Place, in_group}
 use Rattle.far_codec.specs.declared.lent.LentValues.TheVariants as lent
-use Rattle.far_codec.specs.FarForm.{FitsCount, ints_form}
+use Rattle.far_codec.specs.FarForm.{AreInts, ints_form}
 use Rattle.far_codec.specs.Reading.{ints_meaning, IsIntsForm}
-use Rattle.far_codec.specs.Spelling.{IsSpelled}
 use Rattle.far_codec.specs.TextForm.{texts_meaning, IsTextsForm}
 use Rattle.far_codec.proofs.LentForms.{ints_second}
-use Rattle.far_scopes.specs.Movement.{dirty, meant, ticket_of}
+use Rattle.far_codec.proofs.Meaning.{ints_meant}
 use Rattle.far_vector.specs.Vector.{Vector, IsVector, IsShaped, group_list}
 use Rattle.far_vector.proofs.RowGroups.{list-of-group}
 use Rattle.far_vector.proofs.VectorLaws.{length-elements}
@@ -25,17 +23,18 @@ use Rattle.far_texts.proofs.RowGroups.{texts-of-group}
 use Rattle.far_offload.specs.Columns.{cells_meant, cells_in}
 use Rattle.far_rows.specs.declared.slot.Slot.{Slot}
 use Rattle.far_rows.specs.declared.slot.Slot.TheVariants as slot
+use Rattle.far_rows.specs.declared.object.Object.{Object}
 use Rattle.far_rows.specs.declared.object.Object.TheVariants as object
 use Rattle.far_rows.specs.Slots.{IsWithin, column_in}
 use Rattle.far_rows.specs.Rows.{Rows, AreRows, all_numbers, all_texts, cells_of, object_of}
 use Rattle.far_rows.specs.Moving.{object_at}
 use Rattle.far_rows.specs.Places.{places_in}
-use Rattle.far_rows.specs.Jobs.{AreAt}
+use Rattle.far_rows.specs.Jobs.{SpellsNumbers, SpellsTexts}
+use Rattle.far_rows.specs.Copies.{Spells, IsCopyOf}
 use Rattle.far_rows.proofs.Begun.{lies}
 use Rattle.far_rows.proofs.Overfull.{found-at}
 use Rattle.far_rows.proofs.Pinning.{found-in, number-of, no-number, text-of, no-text}
 use Rattle.far_aggregates.specs.Lending.{IsOfPlaces}
-use Rattle.far_table.specs.Offloading.{clean_ticket}
 use Rattle.far_table.specs.FarGroups.{IsCopy}
 use Rattle.far_table.proofs.Groups.{lent-cells, texts-lent}
 use Rattle.far_table.proofs.Places.{length-places}
@@ -45,10 +44,6 @@ ints-lent : (form : List ℕ) → IsIntsForm form → cells_meant form ≡ map i
 ints-lent form is =
     let test : (slice_index form 1 == 1) ≡ false = ap (λ byte. byte == 1) (ints_second form is) in
     ap (λ (b : Bool). cells_in (cond b (lent.Texts (texts_meaning form)) (lent.Ints (ints_meaning form)))) test
-
--- what is spelled is a far form
-pub ints-spelled : (bytes : List ℕ) → IsSpelled (λ number. IfSome number (FitsSigned w64)) FitsCount ints_form (ints_meaning bytes) bytes → IsIntsForm bytes
-ints-spelled bytes is = record { ints = record { range = is.range; count = is.has }; is = is.is }
 
 -- row groups of lists of one length have one length
 group-long : {X Y : Type 0} (size g : ℕ) (xs : List X) (ys : List Y) → length xs ≡ length ys → length (in_group size g xs) ≡ length (in_group size g ys)
@@ -66,11 +61,6 @@ front-cell : (xs more : List Cell) (i : ℕ) → i < length xs → get_or (xs ++
 front-cell [] more i within = absurd (omega (arith, within))
 front-cell (x ∷ xs) more zero within = refl
 front-cell (x ∷ xs) more (suc i) within = front-cell xs more i (omega (arith, within))
-
--- the ticket of an object that is clean
-pub clean-is : {K : Type 0} (b : Bool) (ticket : Option K) (t : K) → cond b None ticket ≡ Some t → (b ≡ false) × (ticket ≡ Some t)
-clean-is true ticket t is = absurd (none-some t is)
-clean-is false ticket t is = (refl, is)
 
 module _ {K : Type 0} (content : K → List ℕ) (r : Rows K) (are : AreRows content r) (column group o : ℕ) where
   inside : (s : Slot) → slice_get r.slots column ≡ Some s → IsWithin (length r.numbers) (length r.texts) s
@@ -152,28 +142,26 @@ module _ {K : Type 0} (content : K → List ℕ) (r : Rows K) (are : AreRows con
       ap Some (ap (λ (cs : List Cell). get_or cs i cell.Missing) is ∙ front-cell front more i within)
       ∙ lent-cells (cells_of content r) r.alive r.size group column front are_those i place at
 
-  -- the far copy of a clean object of numbers
-  pub copied-number : object_at r column group ≡ Some (object.Number o) → (t : K) → clean_ticket r.number_objects o ≡ Some t → IsSpelled (λ number. IfSome number (FitsSigned w64)) FitsCount ints_form (ints_meaning (content t)) (content t) → IsCopy content r group column t
-  copied-number at t clean spelled =
-      let ticket = clean-is (dirty r.number_objects o) (ticket_of r.number_objects o) t clean in
-      let numbers = ints_meaning (content t) in
-      let there : number_lists content r.number_objects o ≡ Some numbers = are.clean_numbers o ticket.0 ∙ ap (option_map (meant ints_meaning content)) ticket.1 in
+  -- the far copy of an object of numbers
+  copied-number : object_at r column group ≡ Some (object.Number o) → (t : K) (list : Numbers) → number_lists content r.number_objects o ≡ Some list → SpellsNumbers list (content t) → IsCopy content r group column t
+  copied-number at t list there spelled =
+      let ints : AreInts list = record { range = spelled.range; count = spelled.has } in
+      let means : ints_meaning (content t) ≡ list = ints_meant (content t) list ints spelled.is in
+      let form : IsIntsForm (content t) = record { ints = subst AreInts (sym means) ints; is = subst (λ numbers. content t ≡ ints_form numbers) (sym means) spelled.is } in
       let column_lies = lies content r are column group o (object.Number o) at in
-      let has = numbers-in column_lies.0 column_lies.1 at numbers there in
-      let form = ints-spelled (content t) spelled in
+      let has = numbers-in column_lies.0 column_lies.1 at list there in
       record {
         form = inl form;
         cells = begins (map int_cell has.front) (map int_cell has.blanks) (cells_meant (content t)) has.cells (length-map has.front int_cell ∙ has.used)
-            (ints-lent (content t) form ∙ ap (map int_cell) has.is ∙ map-append int_cell has.front has.blanks);
+            (ints-lent (content t) form ∙ ap (map int_cell) (means ∙ has.is) ∙ map-append int_cell has.front has.blanks);
       }
 
   -- and of one of texts
-  pub copied-text : object_at r column group ≡ Some (object.Text o) → (t : K) → clean_ticket r.text_objects o ≡ Some t → IsTextsForm (content t) → IsCopy content r group column t
-  copied-text at t clean form =
-      let ticket = clean-is (dirty r.text_objects o) (ticket_of r.text_objects o) t clean in
-      let there : lists_of content r.text_objects o ≡ Some (content t) = are.clean_texts o ticket.0 ∙ ap (option_map (meant (λ bytes. bytes) content)) ticket.1 in
+  copied-text : object_at r column group ≡ Some (object.Text o) → (t : K) (list : List ℕ) → lists_of content r.text_objects o ≡ Some list → SpellsTexts list (content t) → IsCopy content r group column t
+  copied-text at t list there spelled =
+      let form : IsTextsForm (content t) = subst IsTextsForm (sym spelled.is) spelled.has in
       let column_lies = lies content r are column group o (object.Text o) at in
-      let has = texts-in column_lies.0 column_lies.1 at (content t) there in
+      let has = texts-in column_lies.0 column_lies.1 at (content t) (there ∙ ap Some (sym spelled.is)) in
       record {
         form = inr form;
         cells = λ i place here.
@@ -181,9 +169,18 @@ module _ {K : Type 0} (content : K → List ℕ) (r : Rows K) (are : AreRows con
             ∙ lent-cells (cells_of content r) r.alive r.size group column (map text_cell (texts_meaning (content t))) has.cells i place here;
       }
 
-  -- the ticket is of the store of the others
-  pub number-here : (is_of : K → List ℕ → Type 0) (name : List ℕ) → AreAt is_of name r → (t : K) → clean_ticket r.number_objects o ≡ Some t → is_of t name
-  number-here is_of name here t clean = subst (λ (ticket : Option K). IfSome ticket (λ k. is_of k name)) (clean-is (dirty r.number_objects o) (ticket_of r.number_objects o) t clean).1 (here.numbers o)
+-- the far form of a row group of a column has the cells of its places
+pub copied : {K : Type 0} (content : K → List ℕ) (r : Rows K) → AreRows content r → (column group : ℕ) (t : K) → IsCopyOf content r t column group → IsCopy content r group column t
+copied {K} content r are column group t copy = by (object_at r column group) refl copy where
+  number : (o : ℕ) → object_at r column group ≡ Some (object.Number o) → (list : Option Numbers) → number_lists content r.number_objects o ≡ list → IsSomeAnd list (λ l. SpellsNumbers l (content t)) → IsCopy content r group column t
+  number o at None there spelled = absurd spelled
+  number o at (Some list) there spelled = copied-number content r are column group o at t list there spelled
 
-  pub text-here : (is_of : K → List ℕ → Type 0) (name : List ℕ) → AreAt is_of name r → (t : K) → clean_ticket r.text_objects o ≡ Some t → is_of t name
-  text-here is_of name here t clean = subst (λ (ticket : Option K). IfSome ticket (λ k. is_of k name)) (clean-is (dirty r.text_objects o) (ticket_of r.text_objects o) t clean).1 (here.texts o)
+  text : (o : ℕ) → object_at r column group ≡ Some (object.Text o) → (list : Option (List ℕ)) → lists_of content r.text_objects o ≡ list → IsSomeAnd list (λ l. SpellsTexts l (content t)) → IsCopy content r group column t
+  text o at None there spelled = absurd spelled
+  text o at (Some list) there spelled = copied-text content r are column group o at t list there spelled
+
+  by : (found : Option Object) → object_at r column group ≡ found → IsSomeAnd found (Spells content r t) → IsCopy content r group column t
+  by None at spells = absurd spells
+  by (Some (object.Number o)) at spells = number o at (number_lists content r.number_objects o) refl spells
+  by (Some (object.Text o)) at spells = text o at (lists_of content r.text_objects o) refl spells

@@ -14,7 +14,8 @@ use Rattle.far_aggregates.specs.Aggregates.{is_left}
 use Rattle.far_aggregates.specs.Lending.{IsServed}
 use Rattle.far_table.specs.State.{State}
 use Rattle.far_table.specs.Watching.{aggregate_at}
-use Rattle.far_table.specs.Offloading.{Build, HoldsStill, IsMergeable, HaveOneNumber, copy_of, ticket_for}
+use Rattle.far_rows.specs.Copies.{copy_of}
+use Rattle.far_table.specs.Offloading.{Build, HoldsStill, IsMergeable, HaveOneNumber, ticket_for}
 use Rattle.far_table.specs.FarGroups.{AllNeeded, IsCopy, AreCopies}
 
 -- a column that an aggregate needs is one of the table

@@ -25,21 +25,12 @@ use Rattle.far_rows.specs.declared.slot.Slot.{Slot}
 use Rattle.far_rows.specs.declared.object.Object.{Object}
 use Rattle.far_rows.specs.Rows.{Rows, object_of}
 use Rattle.far_rows.specs.Moving.{object_at, object_in, object_refusal}
-use Rattle.far_table.specs.Offloading.{ticket_for, copy_of, copy_in, dirty_from}
+use Rattle.far_rows.specs.Copies.{copy_of, copy_in}
+use Rattle.far_table.specs.Offloading.{ticket_for, dirty_from}
 use Rattle.far_table.specs.FarGroups.{contents_under, IsCopy}
 use Rattle.far_table.proofs.DueSet.{found-at}
 
--- what holds of what is there holds of what is found
-pub if-found : {A K : Type 0} (f : A → K) (found : Option A) (is : Option K) (P : K → Type 0) → option_map f found ≡ is → ((x : K) → is ≡ Some x → P x) → IfSome found (λ a. P (f a))
-if-found f None is P same holds = tt
-if-found f (Some a) is P same holds = holds (f a) (sym same)
-
--- likewise where something is known of what is found
-pub both-found : {A K : Type 0} (f : A → K) (found : Option A) (is : Option K) (Q P : K → Type 0) → option_map f found ≡ is → IfSome found (λ a. Q (f a)) → ((x : K) → is ≡ Some x → Q x → P x) → IfSome found (λ a. P (f a))
-both-found f None is Q P same known holds = tt
-both-found f (Some a) is Q P same known holds = holds (f a) (sym same) known
-
--- likewise of what it is made to
+-- what holds of what is found holds of what it is made to
 pub if-mapped : {A K : Type 0} (f : A → K) (found : Option A) (P : K → Type 0) → IfSome found (λ a. P (f a)) → IfSome (option_map f found) P
 if-mapped f None P holds = tt
 if-mapped f (Some a) P holds = holds

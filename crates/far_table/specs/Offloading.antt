@@ -1,20 +1,16 @@
 -- Offloaded builds: what they hold, how they begin, and when they are accepted.
 use Rattle.std.specs.Prelude.{◌≡◌, ℕ, ◌+◌, ◌==◌, ◌&&◌, not, Bool, true, nat_lt, cond, List, [], ◌∷◌, Option, None, Some, is_none, option_map, All, IsSomeAnd}
 use Rattle.std.specs.List.{find}
-use Rattle.std.specs.Option.{option_and_then}
 use Rattle.far_types.specs.declared.spec.Spec.{Spec}
 use Rattle.far_types.specs.declared.refusal.Refusal.{Refusal}
 use Rattle.far_types.specs.declared.refusal.Refusal.TheVariants as refusal
 use Rattle.far_types.specs.Bounds.{needs}
 use Rattle.far_types.specs.FirstOf.{first_of}
 use Rattle.far_types.specs.Table.{Registered, in_group, is_unbuilt}
-use Rattle.far_scopes.specs.Movement.{Movement, dirty, ticket_of}
 use Rattle.far_offload.specs.Jobs.{Job}
 use Rattle.far_rows.specs.declared.slot.Slot.{Slot}
-use Rattle.far_rows.specs.declared.object.Object.{Object}
-use Rattle.far_rows.specs.declared.object.Object.TheVariants as object
 use Rattle.far_rows.specs.Rows.{Rows}
-use Rattle.far_rows.specs.Moving.{object_at}
+use Rattle.far_rows.specs.Copies.{copy_of}
 use Rattle.far_table.specs.State.{State}
 use Rattle.far_table.specs.Watching.{aggregate_at, group_count, scanned_at}
 
@@ -41,19 +37,6 @@ module _ {K : Type 0} where
   HaveOneNumber number_of (Some own) (Some ticket) = number_of own ≡ number_of ticket
   HaveOneNumber number_of (Some own) None = ⊥
   HaveOneNumber number_of None ticket = ⊥
-
-  -- the ticket of an object that is clean
-  abbrev pub clean_ticket : {X : Type 0} → Movement X K → ℕ → Option K
-  clean_ticket m o = cond (dirty m o) None (ticket_of m o)
-
-  -- likewise of an object of either kind
-  abbrev pub copy_in : Rows K → Object → Option K
-  copy_in r (object.Number o) = clean_ticket r.number_objects o
-  copy_in r (object.Text o) = clean_ticket r.text_objects o
-
-  -- the ticket under which the far store has a row group of a column as it is now: none where its object is dirty, or there is none
-  abbrev pub copy_of : Rows K → ℕ → ℕ → Option K
-  copy_of r column group = option_and_then (copy_in r) (object_at r column group)
 
   -- the columns that an aggregate needs, among those of these slots, of which the first is the n-th of the table: the far store
   -- does not have the row group as it is now

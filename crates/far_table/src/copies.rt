@@ -2,40 +2,22 @@
 ghost use Rattle.std.specs.Prelude.{◌≡◌, ◌<◌, ◌*◌, ◌↔◌, ◌++◌, ◌&&◌, [], is_none, ℕ, List, None, true, false, cond, length, option_map, IsTrue, IfOk, IfErr, IfSome, IsSome, OnOk, IsSomeAnd};
 ghost use Rattle.std.specs.List.{cons_option};
 ghost use Rattle.far_codec.specs.Lent.{IsForm};
-ghost use Rattle.far_codec.specs.Spelling.{IsSpelled};
 ghost use Rattle.far_types.specs.Bounds.{needs};
 ghost use Rattle.far_types.specs.FirstOf.{first_of};
-ghost use Rattle.far_scopes.specs.Movement.{is_local};
 ghost use Rattle.far_scopes.specs.Refusing.{refusal_in};
 ghost use Rattle.far_offload.specs.Jobs.{AreForms};
 ghost use Rattle.far_rows.specs.Rows.{AreRows};
 ghost use Rattle.far_rows.specs.Refusing.{absent_in};
 ghost use Rattle.far_rows.specs.Jobs.{AreAt};
-ghost use Rattle.far_table.specs.Offloading.{ticket_for, AreTicketsOf, HaveOneNumber, clean_ticket, copy_of, dirty_from};
+ghost use Rattle.far_rows.specs.Copies.{copy_of};
+ghost use Rattle.far_table.specs.Offloading.{ticket_for, AreTicketsOf, HaveOneNumber, dirty_from};
 ghost use Rattle.far_table.specs.FarGroups.{IsCopy, AllNeeded};
 ghost use Rattle.far_table.specs.Groups.{has_column};
 
-use far_codec::Elem;
-use far_rows::{Object, Rows};
-use far_scopes::Objects;
+use far_rows::Rows;
 use far_store::FarTickets;
 use far_types::{Refusal, Spec};
 use std::alloc::Global;
-
-// The ticket of an object, if the object is clean. The ticket's content is a far form.
-fn clean_ticket<T: Elem, S: FarTickets>(objects: &Objects<T, S>, o: u32) -> Option<&S::Ticket>
-    requires { o < length objects.now.entries }
-    ensures ticket { option_map (λ ticket. ticket.now) result ≡ clean_ticket objects.now o }
-    ensures form { IfSome result (λ ticket. IsSpelled T.in_range T.has_spelling T.spelling (T.meaning (S.content ticket.now)) (S.content ticket.now)) }
-    ensures away { is_local objects.now o ≡ false → IsSome result }
-{
-    // For the proof: gives `AreTracked`.
-    let _number = objects.number();
-    if objects.word(o).dirty() {
-        return None;
-    }
-    objects.ticket(o)
-}
 
 /// The ticket under which the far store has a row group of a column as it is now; `None` if the object is dirty, or there is none.
 /// Allocates nothing.
@@ -47,11 +29,7 @@ pub(crate) fn copy_of<S: FarTickets>(rows: &Rows<S>, column: u32, group: u32) ->
 {
     // For the proof: gives `AreRows`.
     let _len = rows.len();
-    match rows.object(column as usize, group) {
-        Ok(Object::Number(o)) => clean_ticket(rows.number_objects(), o),
-        Ok(Object::Text(o)) => clean_ticket(rows.text_objects(), o),
-        Err(_) => None,
-    }
+    rows.copy(column as usize, group)
 }
 
 /// The ticket of a column of a row group, if an aggregate needs the column and its object is away. Allocates nothing.

@@ -86,7 +86,7 @@ impl<S: FarTickets> LiveTable<S> {
         let tickets = copies_of(self.alloc, held, store, spec, group)?;
         let alive = Vec::from_slice(self.alloc, held.flags(group))?;
         Ok(OffloadBuild {
-            number: held.number_objects().number(),
+            number: held.number(),
             aggregate: a,
             registration,
             group,
@@ -144,7 +144,7 @@ impl<S: FarTickets> LiveTable<S> {
         let Some(registration) = self.aggregates.registration(build.aggregate) else {
             unreachable!()
         };
-        if build.number != held.number_objects().number() || build.registration != registration {
+        if build.number != held.number() || build.registration != registration {
             return false;
         }
         let job = &build.job;

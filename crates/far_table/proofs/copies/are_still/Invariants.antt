@@ -1,5 +1,6 @@
 use Rattle.std.specs.Prelude.{IsSomeAnd}
-use Rattle.far_table.specs.Offloading.{HaveOneNumber, copy_of, ticket_for}
+use Rattle.far_rows.specs.Copies.{copy_of}
+use Rattle.far_table.specs.Offloading.{HaveOneNumber, ticket_for}
 use Rattle.far_table.specs.FarGroups.{AllNeeded, IsCopy}
 use Rattle.far_table.proofs.copies.are_still.Given as goal
 

@@ -3,7 +3,8 @@ use Rattle.std.specs.Prelude.{cond, option_map}
 use Rattle.far_types.specs.Bounds.{needs}
 use Rattle.far_codec.specs.Lent.{IsForm}
 use Rattle.far_offload.specs.Jobs.{AreForms}
-use Rattle.far_table.specs.Offloading.{AreTicketsOf, copy_of}
+use Rattle.far_rows.specs.Copies.{copy_of}
+use Rattle.far_table.specs.Offloading.{AreTicketsOf}
 use Rattle.far_table.proofs.Tickets.{AreTicketsBelow, one-more, all-below, all-with, no-needed, with-found, if-mapped}
 use Rattle.far_table.proofs.copies.copies_of.Goals as goal
 

@@ -1,7 +1,8 @@
 use Rattle.std.specs.Prelude.{cond, None}
 use Rattle.far_types.specs.Bounds.{needs}
 use Rattle.far_offload.specs.Jobs.{AreForms}
-use Rattle.far_table.specs.Offloading.{AreTicketsOf, copy_of}
+use Rattle.far_rows.specs.Copies.{copy_of}
+use Rattle.far_table.specs.Offloading.{AreTicketsOf}
 use Rattle.far_table.proofs.Tickets.{AreTicketsBelow}
 use Rattle.far_table.proofs.copies.copies_of.Given as goal
 

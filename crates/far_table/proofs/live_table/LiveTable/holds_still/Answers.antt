@@ -5,13 +5,13 @@ use Rattle.std.proofs.lemmas.Slice.Eq.{slice_eq-Decides}
 use Rattle.far_types.specs.declared.spec.Spec.{Spec}
 use Rattle.far_types.specs.Bounds.{spec_refusal}
 use Rattle.far_types.specs.Table.{in_group}
-use Rattle.far_scopes.specs.Movement.{Movement}
 use Rattle.far_rows.specs.Rows.{Rows}
 use Rattle.far_aggregates.specs.Aggregates.{aggregate_in}
 use Rattle.far_aggregates.specs.Kept.{registered_of}
 use Rattle.far_table.specs.State.{IsChecked}
 use Rattle.far_table.specs.Live.{state_of}
-use Rattle.far_table.specs.Offloading.{Build, HaveOneNumber, copy_of, ticket_for}
+use Rattle.far_rows.specs.Copies.{copy_of}
+use Rattle.far_table.specs.Offloading.{Build, HaveOneNumber, ticket_for}
 use Rattle.far_table.specs.FarGroups.{AllNeeded, IsCopy}
 use Rattle.far_table.proofs.LiveScanning.{an-aggregate, checked-at}
 use Rattle.far_table.proofs.Merging.{needed-below, still-alive, tickets-decide, still-copies}
@@ -29,7 +29,7 @@ returns-then-eq-clause-exact g c =
     let checked = subst (IsChecked t.schema) found.is (checked-at t.schema (registered_of slots) b.aggregate c.self.invariant.checked) in
     let right = ap (λ (s : Spec). spec_refusal t.schema s) (sym found.same) ∙ checked in
     let below = needed-below c.an_aggregate_is_served_by_the_columns_of_its_schema.ensures t.held t.schema c.held-held.ensures.kinds spec right in
-    let number = c.if-build-number.false ∙ c.number.ensures.number ∙ ap (λ (m : Movement _ g.row.S-Ticket.Denot). m.number) c.number_objects.ensures.objects ∙ ap (λ (r : Rows g.row.S-Ticket.Denot). r.number_objects.number) held in
+    let number = c.if-build-number.false ∙ c.number.ensures ∙ ap (λ (r : Rows g.row.S-Ticket.Denot). r.number_objects.number) held in
     let same = sym c.spec-2.ensures ∙ c.is_same.ensures.0 c.if-not-is_same.false in
     let alive = sym c.alive.ensures ∙ flags.0 c.if-eq.true ∙ c.flags.ensures ∙ ap (λ (r : Rows g.row.S-Ticket.Denot). in_group r.size b.group r.alive) held in
     let build : Build g.row.S-Ticket.Denot = record { number = b.number; aggregate = b.aggregate; registration = b.registration; group = b.group; job = b.job } in
