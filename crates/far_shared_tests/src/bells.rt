@@ -5,6 +5,9 @@ use std::thread;
 // For how many turns a session waits at most.
 const TURNS: u32 = 1_000_000;
 
+// So many times rung, a bell has rung often enough for all that wait.
+const FOR_ALL: u64 = 1 << 32;
+
 // How many sessions are there, how often they were told, and how often an answer was asked for.
 #[derive(Drop)]
 pub struct Bells {
@@ -38,10 +41,15 @@ impl Bells {
         }
     }
 
-    // Says that a session is there, and waits until so many are. Says whether they came: where a thread found no memory, some do not.
+    // Says that a session is there, and waits until so many are. Says whether they came: where a thread found no memory, some do not, or
+    // come when others are gone. These have then rung for all, so that who comes late waits for none of them.
     pub fn gathers(&self, sessions: u64) -> bool {
         self.there.fetch_add(1, Ordering::SeqCst);
-        reaches(&self.there, sessions)
+        let all = reaches(&self.there, sessions);
+        if !all {
+            self.rung.fetch_add(FOR_ALL, Ordering::SeqCst);
+        }
+        all
     }
 
     // Tells all sessions.
