@@ -1,11 +1,11 @@
 // Edits of a table of one's own.
-use crate::faults::no_clock;
-use crate::plan::{LIMITS, PLACES, row, schema, totals};
+use crate::clock::{nanoseconds, since};
+use crate::plan::{LIMITS, PLACES, row, schema};
 use far_frame::Frame;
 use far_store::FarTickets;
-use far_types::{Cell, Refusal};
+use far_types::{Cell, Refusal, Spec};
 use std::alloc::Global;
-use std::time::{Clock, Instant};
+use std::time::Clock;
 
 /// Inserts a row at each place.
 fn fill<S: FarTickets>(alloc: Global, frame: &mut Frame<S>) -> Result<(), Refusal> {
@@ -31,11 +31,11 @@ fn time_edits<S: FarTickets, R: Clock>(
     frame: &mut Frame<S>,
     edits: u32,
 ) -> Result<u128, Refusal> {
-    frame.watch(totals(alloc))?;
+    frame.watch(Spec::totals(alloc, 0))?;
     fill(alloc, frame)?;
-    let start = Instant::now(rt).map_err(no_clock)?;
+    let start = nanoseconds(rt);
     set_all(frame, edits)?;
-    Ok(start.elapsed(rt).map_err(no_clock)?.as_nanos())
+    Ok(since(rt, start))
 }
 
 /// The nanoseconds that so many edits take of a table of one's own, without a lock or a history.
@@ -44,6 +44,8 @@ pub fn measure<S: FarTickets, R: Clock>(
     alloc: Global,
     edits: u32,
 ) -> Result<u128, Refusal> {
-    let mut frame = Frame::<S>::open(alloc, schema(alloc)?, LIMITS, 0)?;
-    time_edits(rt, alloc, &mut frame, edits)
+    let opened = Frame::<S>::open(alloc, schema(alloc)?, LIMITS, 0);
+    opened.and_then(|mut frame: Frame<S>| -> Result<u128, Refusal> {
+        time_edits(rt, alloc, &mut frame, edits)
+    })
 }

@@ -6,8 +6,3 @@ use std::io;
 pub fn io_error(_refusal: Refusal) -> io::Error {
     io::Error::from(io::ErrorKind::OutOfMemory)
 }
-
-/// What a clock that cannot be read is to the measurements.
-pub fn no_clock(_error: io::Error) -> Refusal {
-    Refusal::FarFault
-}

@@ -3,12 +3,13 @@
 //!
 //! - `columns`: sums of a column, lent in place, beside sums of one list of the same values; and calls on rows.
 //! - `threads`: edits of a shared table by one session and by four, each on its home stripe, beside the same edits of a table of
-//!   one's own; and readings of a gauge.
+//!   one's own; and readings of a gauge, alone and while another session writes its stripe.
 //!
 //! With one of these arguments the work is done many times, and the times are printed on standard error; with another, as `all`,
 //! both are measured so. Without one the program does all of it once, and only shows that it ends.
 
 mod alone;
+mod clock;
 mod faults;
 mod opening;
 mod plan;
@@ -19,6 +20,7 @@ mod sums;
 
 use far_store::{AgentStore, FarTickets};
 use shared::SharedTimes;
+use std::time::Instant;
 use std::{env, io};
 
 /// How many calls a round makes of each kind where times are wanted.
@@ -31,6 +33,7 @@ fn main(rt: HostRuntime) -> io::Result<()> {
     let subject = env::args(&rt)?.nth(1);
     let subject = subject.as_deref();
     let with_times = subject.is_some();
+    let _start = Instant::now(&rt)?;
     if subject != Some("threads") {
         show_columns(&rt, with_times)?;
     }
@@ -58,14 +61,17 @@ fn show_sums<S: FarTickets>(rt: &HostRuntime, store: &S, with_times: bool) -> io
         if with_times { 200 } else { 1 },
     )?;
     println!(rt; "sums: ended")?;
-    if with_times {
-        eprintln!(rt; "sum of a list, by flags: {} ns", sums.plain)?;
-        eprintln!(rt; "sum of a column, by flags: {} ns", sums.lent)?;
-        eprintln!(rt; "sum of a list: {} ns", sums.plain_all)?;
-        eprintln!(rt; "sum of a column: {} ns", sums.lent_all)?;
-        eprintln!(rt; "seen: {}", sums.seen)?;
+    if !with_times {
+        return Ok(());
     }
-    Ok(())
+    let lines = [
+        ("sum of a list, by flags", sums.plain, 1),
+        ("sum of a column, by flags", sums.lent, 1),
+        ("sum of a list", sums.plain_all, 1),
+        ("sum of a column", sums.lent_all, 1),
+    ];
+    tell_all(rt, &lines)?;
+    eprintln!(rt; "seen: {}", sums.seen)
 }
 
 /// Measures the calls on rows.
@@ -77,37 +83,76 @@ fn show_rows<S: FarTickets>(rt: &HostRuntime, with_times: bool) -> io::Result<()
     )
     .map_err(faults::io_error)?;
     println!(rt; "rows: ended")?;
-    if with_times {
-        let calls = CALLS as u128;
-        tell(rt, "push of 1 number", times.one_number, calls)?;
-        tell(rt, "push of 4 numbers", times.four_numbers, calls)?;
-        tell(rt, "push of 16 numbers", times.sixteen_numbers, calls)?;
-        tell(rt, "push of 1 text", times.one_text, calls)?;
-        tell(rt, "push of 4 texts", times.four_texts, calls)?;
-        tell(rt, "set of a number", times.set, calls)?;
-        tell(rt, "read of a cell", times.read, calls)?;
-        tell(rt, "read of a row of 4 numbers", times.row, calls)?;
-        tell(rt, "place in a scan of row groups", times.scan, calls)?;
-        eprintln!(rt; "seen: {}", times.seen)?;
+    if !with_times {
+        return Ok(());
     }
-    Ok(())
+    let calls = CALLS as u128;
+    let lines = [
+        ("push of 1 number", times.one_number, calls),
+        ("push of 4 numbers", times.four_numbers, calls),
+        ("push of 16 numbers", times.sixteen_numbers, calls),
+        ("push of 1 text", times.one_text, calls),
+        ("push of 4 texts", times.four_texts, calls),
+        ("set of a number", times.set, calls),
+        ("read of a cell", times.read, calls),
+        ("read of a row of 4 numbers", times.row, calls),
+        ("place in a scan of row groups", times.scan, calls),
+    ];
+    tell_all(rt, &lines)?;
+    eprintln!(rt; "seen: {}", times.seen)
 }
 
 /// Tells what was measured of a table that threads share.
 fn show_threads(rt: &HostRuntime, times: &SharedTimes, with_times: bool) -> io::Result<()> {
     println!(rt; "threads: ended")?;
-    if with_times {
-        let calls = u128::from(EDITS);
-        let alone = "set of a number of a table of one's own";
-        tell(rt, alone, times.alone, calls)?;
-        let one = "the same of a shared table, by one session";
-        tell(rt, one, times.one.edits, calls)?;
-        let four = "the same by each of four sessions at once";
-        tell(rt, four, times.four.edits, calls)?;
-        let after_one = "reading of a gauge after one session";
-        tell(rt, after_one, times.one.readings, calls)?;
-        let beside_three = "reading of a gauge beside three sessions";
-        tell(rt, beside_three, times.four.readings, calls)?;
+    if !with_times {
+        return Ok(());
+    }
+    let calls = u128::from(EDITS);
+    let lines = [
+        (
+            "set of a number of a table of one's own",
+            times.alone,
+            calls,
+        ),
+        (
+            "the same of a shared table, by one session",
+            times.one.edits,
+            calls,
+        ),
+        (
+            "the same by each of four sessions at once",
+            times.four.edits,
+            calls,
+        ),
+        (
+            "the same by one session, while another reads its gauge",
+            times.beside.edits,
+            calls,
+        ),
+        (
+            "reading of a gauge after one session",
+            times.one.readings,
+            calls,
+        ),
+        (
+            "reading of a gauge beside three sessions",
+            times.four.readings,
+            calls,
+        ),
+        (
+            "reading of a gauge while another session writes its stripe",
+            times.beside.beside,
+            times.beside.readings_beside,
+        ),
+    ];
+    tell_all(rt, &lines)
+}
+
+/// Prints the times of calls: what they are, the nanoseconds of all, and how many they were.
+fn tell_all(rt: &HostRuntime, lines: &[(&str, u128, u128)]) -> io::Result<()> {
+    for line in lines {
+        tell(rt, line.0, line.1, line.2)?;
     }
     Ok(())
 }

@@ -3,7 +3,7 @@ ghost use Rattle.std.specs.Prelude.{◌≡◌};
 ghost use Rattle.far_shared.specs.Opening.{AreNamed};
 
 use crate::plan::plan;
-use crate::sessions::{Times, time_all};
+use crate::sessions::{Duties, Times, time_all};
 use far_history::Naming;
 use far_shared::{Made, Plan, Site};
 use far_store::{AgentStore, FarTickets};
@@ -20,11 +20,13 @@ fn opened<
     B: Site + Send + Sync,
     S: FarTickets,
     R: Threads + Wait + Clock + Sync,
->(rt: &R, alloc: Global, made: Made<N, S>, edits: u32) -> Result<Times, Refusal>
+>(rt: &R, alloc: Global, made: Made<N, S>, duties: Duties) -> Result<Times, Refusal>
     requires { AreNamed made B.cells }
 {
-    let (shared, sessions) = made.open::<B>(alloc)?;
-    time_all(rt, alloc, &shared, sessions, edits)
+    let Ok((shared, sessions)) = made.open::<B>(alloc) else {
+        return Err(Refusal::NoMemory);
+    };
+    time_all(rt, alloc, &shared, sessions, duties)
 }
 
 /// Gives the cells of a table their names.
@@ -32,9 +34,9 @@ fn named<N: Naming + Send + Sync, S: FarTickets, R: Threads + Wait + Clock + Syn
     rt: &R,
     alloc: Global,
     made: Made<N, S>,
-    edits: u32,
+    duties: Duties,
 ) -> Result<Times, Refusal> {
-    opened::<N, Brand, S, R>(rt, alloc, made, edits)
+    opened::<N, Brand, S, R>(rt, alloc, made, duties)
 }
 
 /// Measures on a table of a plan that has this name.
@@ -42,12 +44,12 @@ fn planned<N: Naming + Send + Sync, S: FarTickets, R: Threads + Wait + Clock + S
     rt: &R,
     alloc: Global,
     plan: Plan,
-    edits: u32,
+    duties: Duties,
 ) -> Result<Times, Refusal>
     requires { plan ≡ N.plan }
 {
     let made = plan.make::<N, S>(alloc);
-    made.and_then(|made: Made<N, S>| -> Result<Times, Refusal> { named(rt, alloc, made, edits) })
+    made.and_then(|made: Made<N, S>| -> Result<Times, Refusal> { named(rt, alloc, made, duties) })
 }
 
 /// The times of the slowest of so many sessions.
@@ -55,8 +57,8 @@ pub fn measure<R: Threads + Wait + Clock + Sync>(
     rt: &R,
     alloc: Global,
     sessions: u64,
-    edits: u32,
+    duties: Duties,
 ) -> Result<Times, Refusal> {
     let plan = plan(alloc, sessions)?;
-    planned::<Brand, AgentStore<&R>, R>(rt, alloc, plan, edits)
+    planned::<Brand, AgentStore<&R>, R>(rt, alloc, plan, duties)
 }

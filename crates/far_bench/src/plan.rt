@@ -1,6 +1,8 @@
 // The table that is measured: one column of numbers, with the totals of all as its gauge.
+ghost use Rattle.std.specs.Prelude.{◌≡◌, ◌∷◌, [], pos, IfOk};
+
 use far_shared::Plan;
-use far_types::{Cell, Filter, Fold, Kind, Limits, Refusal, Row, Schema, Spec};
+use far_types::{Cell, Kind, Limits, Refusal, Row, Schema, Spec};
 use std::alloc::{AllocError, Global};
 
 /// How many places a table has: 16 row groups of 64.
@@ -18,26 +20,23 @@ pub const LIMITS: Limits = Limits {
 };
 
 /// One column of numbers.
-pub fn schema(alloc: Global) -> Result<Schema, Refusal> {
+pub fn schema(alloc: Global) -> Result<Schema, Refusal>
+    ensures { IfOk result (λ schema. schema ≡ Kind.Int ∷ []) }
+{
     Schema::new(Vec::from_array(alloc, [Kind::Int])?)
 }
 
-/// The totals of the column.
-pub fn totals(alloc: Global) -> Spec {
-    Spec {
-        fold: Fold::Totals,
-        value: 0,
-        key: None,
-        filter: Filter::new(Vec::new(alloc)),
-    }
-}
-
-/// A table for so many sessions.
-pub fn plan(alloc: Global, sessions: u64) -> Result<Plan, Refusal> {
-    Plan::new(schema(alloc)?, LIMITS, totals(alloc), sessions)
+/// A table for so many sessions, with the totals of the column as its gauge.
+pub fn plan(alloc: Global, sessions: u64) -> Result<Plan, Refusal>
+    ensures schema { IfOk result (λ plan. plan.schema ≡ Kind.Int ∷ []) }
+    ensures sessions { IfOk result (λ plan. plan.sessions ≡ sessions) }
+{
+    Plan::new(schema(alloc)?, LIMITS, Spec::totals(alloc, 0), sessions)
 }
 
 /// A row of the number 1.
-pub fn row(alloc: Global) -> Result<Row, AllocError> {
+pub fn row(alloc: Global) -> Result<Row, AllocError>
+    ensures { IfOk result (λ row. row ≡ Cell.Int (pos 1) ∷ []) }
+{
     Ok(Row::new(Vec::from_array(alloc, [Cell::Int(1)])?))
 }

@@ -8,12 +8,11 @@ ghost use Rattle.far_rows.specs.Setting.{cell_of, kind_in, set_refusal};
 
 mod values;
 
-use crate::faults::no_clock;
+use crate::clock::{nanoseconds, since};
 use far_rows::{LentColumn, NewCell, NewRow, Rows};
 use far_store::FarTickets;
 use far_types::{CellRef, Kind, Limits, Refusal, Schema};
 use std::alloc::Global;
-use std::time::Instant;
 use values::{four_numbers, four_texts, one_number, one_text, sixteen_numbers};
 
 /// Row groups of 64 places; 1,024 objects of numbers, or about 1,350 of 64 texts of eight bytes, find room in a segment.
@@ -126,9 +125,9 @@ fn time_pushes<S: FarTickets>(
     requires texts { length row.now.texts ≡ length (texts_from 64 1048576 0 kinds.items) }
 {
     let mut rows = no_rows::<S>(rt.alloc(), &LIMITS, kinds)?;
-    let start = Instant::now(rt).map_err(no_clock)?;
+    let start = nanoseconds(rt);
     push_all(rt.alloc(), &mut rows, row, count)?;
-    Ok(start.elapsed(rt).map_err(no_clock)?.as_nanos())
+    Ok(since(rt, start))
 }
 
 fn push_one_number<S: FarTickets>(rt: &HostRuntime, count: usize) -> Result<u128, Refusal> {
@@ -263,16 +262,12 @@ fn time_readings<S: FarTickets>(
     count: usize,
     times: &mut RowTimes,
 ) -> Result<(), Refusal> {
-    let start = Instant::now(rt).map_err(no_clock)?;
+    let start = nanoseconds(rt);
     let sum = read_rows(rows, count)?;
-    times.row = times
-        .row
-        .min(start.elapsed(rt).map_err(no_clock)?.as_nanos());
-    let start = Instant::now(rt).map_err(no_clock)?;
+    times.row = times.row.min(since(rt, start));
+    let start = nanoseconds(rt);
     let scanned = scan_all(rows, count)?;
-    times.scan = times
-        .scan
-        .min(start.elapsed(rt).map_err(no_clock)?.as_nanos());
+    times.scan = times.scan.min(since(rt, start));
     times.seen = times.seen.wrapping_add(sum).wrapping_add(scanned);
     Ok(())
 }
@@ -284,18 +279,30 @@ fn time_cells<S: FarTickets>(
     count: usize,
     times: &mut RowTimes,
 ) -> Result<(), Refusal> {
-    let start = Instant::now(rt).map_err(no_clock)?;
+    let start = nanoseconds(rt);
     set_all(rt.alloc(), rows, count)?;
-    times.set = times
-        .set
-        .min(start.elapsed(rt).map_err(no_clock)?.as_nanos());
-    let start = Instant::now(rt).map_err(no_clock)?;
+    times.set = times.set.min(since(rt, start));
+    let start = nanoseconds(rt);
     let sum = read_all(rows, count)?;
-    times.read = times
-        .read
-        .min(start.elapsed(rt).map_err(no_clock)?.as_nanos());
+    times.read = times.read.min(since(rt, start));
     times.seen = times.seen.wrapping_add(sum);
     Ok(())
+}
+
+/// One round of the calls on these rows, which are filled with one row first.
+fn time_calls<S: FarTickets>(
+    rt: &HostRuntime,
+    rows: &mut Rows<S>,
+    row: &NewRow,
+    count: usize,
+    times: &mut RowTimes,
+) -> Result<(), Refusal>
+    requires numbers { length row.now.numbers ≡ length rows.old.numbers }
+    requires texts { length row.now.texts ≡ length rows.old.texts }
+{
+    push_all(rt.alloc(), rows, row, count)?;
+    time_cells(rt, rows, count, times)?;
+    time_readings(rt, rows, count, times)
 }
 
 /// One round of the calls on cells, of a table of four columns of numbers.
@@ -307,9 +314,7 @@ fn cells_of_four<S: FarTickets>(
     let row = four_numbers(rt.alloc())?;
     let kinds = Vec::from_array(rt.alloc(), [Kind::Int; 4])?;
     let mut rows = no_rows::<S>(rt.alloc(), &LIMITS, kinds)?;
-    push_all(rt.alloc(), &mut rows, &row, count)?;
-    time_cells(rt, &mut rows, count, times)?;
-    time_readings(rt, &rows, count, times)
+    time_calls(rt, &mut rows, &row, count, times)
 }
 
 /// One round of pushes.

@@ -1,5 +1,7 @@
-// Sessions on threads, each with its edits on its home stripe.
-use crate::faults::no_clock;
+// Sessions on threads: some write their home stripes, and others read the gauge of a stripe meanwhile.
+ghost use Rattle.std.specs.Prelude.{◌<◌};
+
+use crate::clock::{nanoseconds, since};
 use crate::plan::{PLACES, row};
 use far_history::Naming;
 use far_sessions::{Cells, Session};
@@ -9,18 +11,50 @@ use far_types::{Cell, Edit, Refusal};
 use std::alloc::{AllocError, Global};
 use std::sync::Wait;
 use std::thread::{self, Threads};
-use std::time::{Clock, Instant};
+use std::time::Clock;
 
-/// The nanoseconds of the slowest session, for all its edits and for as many readings of its gauge.
+/// How often a gauge is read at most while another session writes.
+const MOST_READINGS: u64 = 1_073_741_824;
+
+/// What the sessions do: how many edits a writer makes, and how many sessions write. The others read, the first of them the gauge of
+/// stripe 0.
 #[derive(Clone, Copy)]
-pub struct Times {
-    pub edits: u128,
-    pub readings: u128,
+pub struct Duties {
+    pub edits: u32,
+    pub writers: u64,
 }
 
-/// The stripe of a session.
-fn home_of<B: Site>(me: &Session<B>) -> u32 {
-    (me.number() % 4) as u32
+/// The nanoseconds of the slowest session.
+#[derive(Clone, Copy)]
+pub struct Times {
+    /// For all its edits.
+    pub edits: u128,
+    /// For as many readings of its gauge after them.
+    pub readings: u128,
+    /// For readings of a gauge while another session wrote that stripe.
+    pub beside: u128,
+    /// How many these were.
+    pub readings_beside: u128,
+}
+
+/// Nothing yet.
+const NO_TIMES: Times = Times {
+    edits: 0,
+    readings: 0,
+    beside: 0,
+    readings_beside: 0,
+};
+
+/// The stripe of a session: the writers' own, and those that readers read, from 0 on.
+fn stripe_of<B: Site>(me: &Session<B>, duties: Duties) -> u32
+    ensures { result < 4 }
+{
+    let number = me.number();
+    if number < duties.writers {
+        (number % 4) as u32
+    } else {
+        (number.wrapping_sub(duties.writers) % 4) as u32
+    }
 }
 
 /// Inserts a row at each place of a stripe.
@@ -73,25 +107,79 @@ fn read_all<N: Naming, B: Site, R: Wait>(
     Ok(most)
 }
 
-/// What a session's edits and readings take.
+/// Reads the gauge of a stripe until it has so many edits. Returns how often it was read.
+#[inline(never)]
+fn read_until<N: Naming, B: Site, R: Wait>(
+    rt: &R,
+    cells: &Cells<N, B>,
+    me: &mut Session<B>,
+    stripe: u32,
+    edits: u64,
+) -> Result<u64, Refusal> {
+    for before in 0..MOST_READINGS {
+        if cells.gauge(rt, me, stripe)?.edits >= edits {
+            return Ok(before.wrapping_add(1));
+        }
+    }
+    Err(Refusal::OutOfRange)
+}
+
+/// What a session's edits take, and as many readings after them.
+fn time_writer<N: Naming, B: Site, S: FarTickets, R: Wait + Clock>(
+    rt: &R,
+    alloc: Global,
+    shared: &Shared<N, B, S>,
+    me: &mut Session<B>,
+    stripe: u32,
+    edits: u32,
+) -> Result<Times, Refusal> {
+    fill(rt, alloc, shared, me, stripe)?;
+    let start = nanoseconds(rt);
+    set_all(rt, shared, me, stripe, edits)?;
+    let edited = since(rt, start);
+    let start = nanoseconds(rt);
+    read_all(rt, shared.cells(), me, stripe, edits)?;
+    Ok(Times {
+        edits: edited,
+        readings: since(rt, start),
+        ..NO_TIMES
+    })
+}
+
+/// What a session's readings take, from the writer's first set to its last.
+fn time_reader<N: Naming, B: Site, R: Wait + Clock>(
+    rt: &R,
+    cells: &Cells<N, B>,
+    me: &mut Session<B>,
+    stripe: u32,
+    edits: u32,
+) -> Result<Times, Refusal> {
+    let inserts = u64::from(PLACES);
+    read_until(rt, cells, me, stripe, inserts.wrapping_add(1))?;
+    let start = nanoseconds(rt);
+    let last = inserts.wrapping_add(u64::from(edits));
+    let readings = read_until(rt, cells, me, stripe, last)?;
+    Ok(Times {
+        beside: since(rt, start),
+        readings_beside: u128::from(readings),
+        ..NO_TIMES
+    })
+}
+
+/// What a session's duty takes.
 fn time_session<N: Naming, B: Site, S: FarTickets, R: Wait + Clock>(
     rt: &R,
     alloc: Global,
     shared: &Shared<N, B, S>,
     me: &mut Session<B>,
-    edits: u32,
+    duties: Duties,
 ) -> Result<Times, Refusal> {
-    let home = home_of(me);
-    fill(rt, alloc, shared, me, home)?;
-    let start = Instant::now(rt).map_err(no_clock)?;
-    set_all(rt, shared, me, home, edits)?;
-    let edited = start.elapsed(rt).map_err(no_clock)?.as_nanos();
-    let start = Instant::now(rt).map_err(no_clock)?;
-    read_all(rt, shared.cells(), me, home, edits)?;
-    Ok(Times {
-        edits: edited,
-        readings: start.elapsed(rt).map_err(no_clock)?.as_nanos(),
-    })
+    let stripe = stripe_of(me, duties);
+    if me.number() < duties.writers {
+        time_writer(rt, alloc, shared, me, stripe, duties.edits)
+    } else {
+        time_reader(rt, shared.cells(), me, stripe, duties.edits)
+    }
 }
 
 /// The times of all sessions, each in a thread of its own.
@@ -105,29 +193,28 @@ fn time_each<
     alloc: Global,
     shared: &Shared<N, B, S>,
     sessions: Vec<Session<B>>,
-    edits: u32,
+    duties: Duties,
 ) -> Result<Vec<Result<Times, Refusal>>, AllocError> {
     let time_one = |mut me: Session<B>| -> Result<Times, Refusal> {
-        time_session(rt, alloc, shared, &mut me, edits)
+        time_session(rt, alloc, shared, &mut me, duties)
     };
     thread::map_vec(rt, sessions, &time_one)
 }
 
 /// The slowest.
 fn slowest(all: Vec<Result<Times, Refusal>>) -> Result<Times, Refusal> {
-    let mut slowest = Times {
-        edits: 0,
-        readings: 0,
-    };
+    let mut slowest = NO_TIMES;
     for times in all {
         let times = times?;
         slowest.edits = slowest.edits.max(times.edits);
         slowest.readings = slowest.readings.max(times.readings);
+        slowest.beside = slowest.beside.max(times.beside);
+        slowest.readings_beside = slowest.readings_beside.max(times.readings_beside);
     }
     Ok(slowest)
 }
 
-/// The times of the slowest session, when all make their edits at once.
+/// The times of the slowest session, when all do their duties at once.
 pub fn time_all<
     N: Naming + Send + Sync,
     B: Site + Send + Sync,
@@ -138,7 +225,7 @@ pub fn time_all<
     alloc: Global,
     shared: &Shared<N, B, S>,
     sessions: Vec<Session<B>>,
-    edits: u32,
+    duties: Duties,
 ) -> Result<Times, Refusal> {
-    slowest(time_each(rt, alloc, shared, sessions, edits)?)
+    slowest(time_each(rt, alloc, shared, sessions, duties)?)
 }

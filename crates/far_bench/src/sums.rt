@@ -2,6 +2,7 @@
 ghost use Rattle.far_vector.specs.Vector.{IsVector};
 ghost use Rattle.far_columns.specs.Numbers.{number_lists};
 
+use crate::clock::{nanoseconds, since};
 use crate::faults::io_error;
 use far_columns::{Alive, IntColumn};
 use far_scopes::{ObjectLimits, Objects};
@@ -9,7 +10,6 @@ use far_store::FarTickets;
 use far_types::Refusal;
 use std::alloc::Global;
 use std::io;
-use std::time::Instant;
 
 /// Room for 2,097,152 numbers, and no bound on writes.
 const LIMITS: ObjectLimits = ObjectLimits {
@@ -110,20 +110,14 @@ fn lent_whole_sum<S: FarTickets>(
 }
 
 /// One round of the sums of a list.
-fn time_list(
-    rt: &HostRuntime,
-    numbers: &[Option<i64>],
-    alive: &[bool],
-    times: &mut SumTimes,
-) -> io::Result<()> {
-    let start = Instant::now(rt)?;
+fn time_list(rt: &HostRuntime, numbers: &[Option<i64>], alive: &[bool], times: &mut SumTimes) {
+    let start = nanoseconds(rt);
     let live = live_sum(numbers, alive);
-    times.plain = times.plain.min(start.elapsed(rt)?.as_nanos());
-    let start = Instant::now(rt)?;
+    times.plain = times.plain.min(since(rt, start));
+    let start = nanoseconds(rt);
     let whole = whole_sum(numbers);
-    times.plain_all = times.plain_all.min(start.elapsed(rt)?.as_nanos());
+    times.plain_all = times.plain_all.min(since(rt, start));
     times.seen = times.seen.wrapping_add(live).wrapping_add(whole);
-    Ok(())
 }
 
 /// One round of the sums of a column. They are taken away from what the list's sums have added, so that nothing is left
@@ -134,15 +128,15 @@ fn time_column<S: FarTickets>(
     column: &IntColumn,
     alive: &Alive,
     times: &mut SumTimes,
-) -> io::Result<()>
+) -> Result<(), Refusal>
     requires { IsVector (number_lists S.content objects.now) column.now }
 {
-    let start = Instant::now(rt)?;
-    let live = lent_live_sum(objects, column, alive).map_err(io_error)?;
-    times.lent = times.lent.min(start.elapsed(rt)?.as_nanos());
-    let start = Instant::now(rt)?;
-    let whole = lent_whole_sum(objects, column, alive).map_err(io_error)?;
-    times.lent_all = times.lent_all.min(start.elapsed(rt)?.as_nanos());
+    let start = nanoseconds(rt);
+    let live = lent_live_sum(objects, column, alive)?;
+    times.lent = times.lent.min(since(rt, start));
+    let start = nanoseconds(rt);
+    let whole = lent_whole_sum(objects, column, alive)?;
+    times.lent_all = times.lent_all.min(since(rt, start));
     times.seen = times.seen.wrapping_sub(live).wrapping_sub(whole);
     Ok(())
 }
@@ -192,14 +186,14 @@ fn time_rounds<S: FarTickets>(
     column: &IntColumn,
     numbers: &[Option<i64>],
     rounds: u32,
-) -> io::Result<SumTimes>
+) -> Result<SumTimes, Refusal>
     requires { IsVector (number_lists S.content objects.now) column.now }
 {
-    let alive = all_alive(rt.alloc(), numbers.len()).map_err(io_error)?;
+    let alive = all_alive(rt.alloc(), numbers.len())?;
     let flags = Vec::from_elem(rt.alloc(), true, numbers.len())?;
     let mut times = NO_TIMES;
     for _ in 0..rounds {
-        time_list(rt, numbers, &flags, &mut times)?;
+        time_list(rt, numbers, &flags, &mut times);
         time_column(rt, objects, column, &alive, &mut times)?;
     }
     Ok(times)
@@ -212,11 +206,11 @@ fn time_filled<S: FarTickets>(
     column: &mut IntColumn,
     count: usize,
     rounds: u32,
-) -> io::Result<SumTimes>
+) -> Result<SumTimes, Refusal>
     requires { IsVector (number_lists S.content objects.old) column.old }
 {
-    let numbers = numbers(rt.alloc(), count).map_err(io_error)?;
-    fill(objects, column, &numbers).map_err(io_error)?;
+    let numbers = numbers(rt.alloc(), count)?;
+    fill(objects, column, &numbers)?;
     time_rounds(rt, objects, column, &numbers, rounds)
 }
 
@@ -226,10 +220,10 @@ fn time_in<S: FarTickets>(
     objects: &mut Objects<Option<i64>, S>,
     count: usize,
     rounds: u32,
-) -> io::Result<SumTimes> {
+) -> Result<SumTimes, Refusal> {
     match IntColumn::new(rt.alloc(), 0, 4_096) {
         Ok(mut column) => time_filled(rt, objects, &mut column, count, rounds),
-        Err(refusal) => Err(io_error(refusal)),
+        Err(refusal) => Err(refusal),
     }
 }
 
@@ -242,7 +236,7 @@ pub fn measure<S: FarTickets>(
     rounds: u32,
 ) -> io::Result<SumTimes> {
     match Objects::<Option<i64>, S>::new(rt.alloc(), 0, LIMITS) {
-        Ok(mut objects) => time_in(rt, &mut objects, count, rounds),
+        Ok(mut objects) => time_in(rt, &mut objects, count, rounds).map_err(io_error),
         Err(refusal) => Err(io_error(refusal)),
     }
 }
