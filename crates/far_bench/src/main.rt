@@ -33,7 +33,8 @@ fn main(rt: HostRuntime) -> io::Result<()> {
     let subject = env::args(&rt)?.nth(1);
     let subject = subject.as_deref();
     let with_times = subject.is_some();
-    let _start = Instant::now(&rt)?;
+    // A clock that cannot be read would tell times of 0: it ends the program.
+    let _now = Instant::now(&rt)?;
     if subject != Some("threads") {
         show_columns(&rt, with_times)?;
     }
