@@ -4,6 +4,8 @@
 #[cfg(test)]
 mod coldest;
 #[cfg(test)]
+mod copying;
+#[cfg(test)]
 mod filling;
 #[cfg(test)]
 mod fixture;

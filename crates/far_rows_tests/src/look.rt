@@ -1,9 +1,12 @@
 // What a table is, as far as one call tells.
+mod naming;
+
 use crate::fixture::Values;
 use far_codec::text_of;
 use far_rows::{LentColumn, Rows, Slot};
 use far_store::FarTickets;
 use far_types::{CellRef, Kind, Name, Refusal};
+use naming::{numbers_named, texts_named};
 
 /// What is due of a table. Where a refusal is due, `None` stands for none.
 pub enum Look {
@@ -21,6 +24,12 @@ pub enum Look {
     Slots(&'static [Slot]),
     /// The kind of a column; `None` where there is no such column.
     Kind(usize, Option<Kind>),
+    /// Whether the far store has a row group of a column as it is.
+    Copy(usize, u32, bool),
+    /// The number that the table bears.
+    Number(u32),
+    /// How many objects of numbers, and of texts, are found by the column and the row group that they are named by.
+    Named(u32, u32),
     /// Why a row group is not here.
     Here(u32, Option<Refusal>),
     /// Why a column has no cell at a place.
@@ -65,6 +74,11 @@ pub fn is_so<S: FarTickets>(rows: &Rows<S>, look: &Look) -> bool {
         Look::Numbers(column, group, numbers) => has_numbers(rows, *column, *group, numbers),
         Look::Texts(column, group, first, second) => {
             has_texts(rows, *column, *group, *first, *second)
+        }
+        Look::Copy(column, group, due) => rows.copy(*column, *group).is_some() == *due,
+        Look::Number(number) => rows.number() == *number,
+        Look::Named(numbers, texts) => {
+            numbers_named(rows) == *numbers && texts_named(rows) == *texts
         }
         Look::Pieces(column, from, to, due) => pieces(rows, *column, *from, *to) == *due,
         Look::Here(_, due)
