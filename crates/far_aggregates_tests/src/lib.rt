@@ -1,14 +1,7 @@
 #![tactic(auto)]
-//! Tests of far_groups and far_extrema: what no clause says, that calls succeed with ample memory, worked examples, and
-//! what a refused growth leaves.
+//! Tests of accumulators (far_groups, far_extrema) and of partial aggregates (far_offload).
 
 #[cfg(test)]
-mod extrema;
+mod accumulators;
 #[cfg(test)]
-mod keys;
-#[cfg(test)]
-mod live_extrema;
-#[cfg(test)]
-mod many_keys;
-#[cfg(test)]
-mod totals;
+mod offload;

@@ -202,6 +202,3 @@ fn is_set(bits: u64, bit: u32) -> bool
 {
     bits >> bit & 1 == 1
 }
-
-#[cfg(test)]
-mod tests;

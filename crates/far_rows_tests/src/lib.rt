@@ -1,29 +1,8 @@
 #![tactic(auto)]
-//! What no clause of far_rows says: that calls are served, and that worked examples come out as they should.
+//! Tests of columns (far_columns, far_texts) and of rows (far_rows): what no clause says, that calls are served, that worked examples come
+//! out as they should, and that random calls agree with plain lists.
 
 #[cfg(test)]
-mod coldest;
+mod columns;
 #[cfg(test)]
-mod copying;
-#[cfg(test)]
-mod filling;
-#[cfg(test)]
-mod fixture;
-#[cfg(test)]
-mod grouping;
-#[cfg(test)]
-mod look;
-#[cfg(test)]
-mod moving;
-#[cfg(test)]
-mod opening;
-#[cfg(test)]
-mod pushing;
-#[cfg(test)]
-mod random_run;
-#[cfg(test)]
-mod renewing;
-#[cfg(test)]
-mod script;
-#[cfg(test)]
-mod setting;
+mod rows;

@@ -1,11 +1,10 @@
 #![tactic(auto)]
-//! Tests of far_scopes: what no clause says, that calls are served, and that worked examples come out as they should.
+//! Tests of objects (far_scopes), of lists over them (far_vector) and of jobs that move them (far_evacuator): what no clause says, that
+//! calls are served, that worked examples come out as they should, and that random calls agree with plain lists and records.
 
 #[cfg(test)]
-mod calls;
+mod evacuator;
 #[cfg(test)]
-mod play;
+mod scopes;
 #[cfg(test)]
-mod script;
-#[cfg(test)]
-mod scripts;
+mod vector;

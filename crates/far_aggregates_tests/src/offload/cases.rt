@@ -1,0 +1,119 @@
+// Row groups, and the lines of their answers.
+use crate::offload::folding::{Case, Lines, Name, Passing, RowGroup};
+use far_store::{AgentStore, FaultyStore};
+use far_types::{Op, Refusal};
+use std::test::Fail;
+
+/// Six rows under keys: three under `ab`, of which one has no value and one is dead, one under `b`, one under `ac` and one
+/// under no key.
+pub const SIX_ROWS: RowGroup = RowGroup {
+    numbers: &[Some(3), Some(4), None, Some(5), Some(7), Some(9)],
+    words: &[
+        Some("ab"),
+        Some("b"),
+        Some("ab"),
+        None,
+        Some("ab"),
+        Some("ac"),
+    ],
+    alive: &[true, true, true, true, false, true],
+};
+
+const WITH_A_DEAD_PLACE: Case = Case {
+    name: "a dead place is not folded",
+    rows: RowGroup {
+        numbers: &[Some(1), Some(2), Some(3), Some(4)],
+        words: &[],
+        alive: &[true, false, true, true],
+    },
+    key: None,
+    passing: Passing::All,
+    lines: Lines::Totals(&[(Name::Nobody, 3, 8)]),
+};
+
+static CASES: [Case; 7] = [
+    Case {
+        name: "rows are folded under their texts",
+        rows: SIX_ROWS,
+        key: Some(1),
+        passing: Passing::TextBegins("a"),
+        lines: Lines::Totals(&[(Name::Word("ab"), 1, 3), (Name::Word("ac"), 1, 9)]),
+    },
+    Case {
+        name: "extrema are those of the rows that pass",
+        rows: SIX_ROWS,
+        key: Some(1),
+        passing: Passing::Number(Op::Ge, 4),
+        lines: Lines::Extrema(&[(Name::Word("ac"), 9, 9), (Name::Word("b"), 4, 4)]),
+    },
+    Case {
+        name: "rows are folded under their numbers",
+        rows: SIX_ROWS,
+        key: Some(0),
+        passing: Passing::Number(Op::Lt, 9),
+        lines: Lines::Totals(&[
+            (Name::Number(3), 1, 3),
+            (Name::Number(4), 1, 4),
+            (Name::Number(5), 1, 5),
+        ]),
+    },
+    Case {
+        name: "a test for a text passes that text alone",
+        rows: SIX_ROWS,
+        key: Some(0),
+        passing: Passing::TextIs("b"),
+        lines: Lines::Extrema(&[(Name::Number(4), 4, 4)]),
+    },
+    WITH_A_DEAD_PLACE,
+    Case {
+        name: "a missing value, and one for which there is no place, are not folded",
+        rows: RowGroup {
+            numbers: &[Some(1), Some(2), None, Some(4), Some(5)],
+            words: &[],
+            alive: &[true, false, true, true],
+        },
+        key: None,
+        passing: Passing::All,
+        lines: Lines::Totals(&[(Name::Nobody, 2, 5)]),
+    },
+    Case {
+        name: "extrema under no key",
+        rows: SIX_ROWS,
+        key: None,
+        passing: Passing::All,
+        lines: Lines::Extrema(&[(Name::Nobody, 3, 9)]),
+    },
+];
+
+#[test]
+fn contents_are_folded(rt: HostRuntime) -> Result<(), Fail> {
+    let store = AgentStore::new(&rt, rt.alloc(), 32)?;
+    for case in &CASES {
+        let name = case.name;
+        assert!(rt;
+            case.is_carried(rt.alloc(), &store, 0) == Ok(true),
+            "{name}"
+        );
+    }
+    Ok(())
+}
+
+#[test]
+fn columns_at_hand_are_folded_as_contents_are(rt: HostRuntime) {
+    for case in &CASES {
+        let name = case.name;
+        assert!(rt; case.is_folded(rt.alloc()) == Ok(true), "{name}");
+    }
+}
+
+/// A store whose first get fails.
+fn faulty(rt: &HostRuntime) -> Result<FaultyStore<AgentStore<&HostRuntime>>, Refusal> {
+    Ok(FaultyStore::new(AgentStore::new(rt, rt.alloc(), 8)?, 0, 1))
+}
+
+#[test]
+fn a_job_that_met_a_fault_comes_back_and_is_carried_again(rt: HostRuntime) -> Result<(), Fail> {
+    let store = faulty(&rt)?;
+    assert!(rt; WITH_A_DEAD_PLACE.is_carried(rt.alloc(), &store, 1) == Ok(true));
+    Ok(())
+}

@@ -1,0 +1,8 @@
+// Tests of far_codec: forms known from the description of the format, and bytes near them.
+mod case;
+mod changes;
+mod forms;
+mod no_forms;
+mod numbers;
+mod random;
+mod texts;

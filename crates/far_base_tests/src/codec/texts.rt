@@ -1,0 +1,80 @@
+// Forms of texts.
+ghost use Rattle.far_codec.specs.TextForm.{IsTextsForm};
+
+use crate::codec::case::{Case, holds};
+use crate::codec::forms::{E_ACUTE, MISSING_AND_A, THREE_TEXTS, are_elements, kind_of_rewritten};
+use far_codec::{Elem, Values, count_texts, decode, kind_of, text_at, text_of, texts_length};
+use far_types::{Kind, Refusal};
+use std::alloc::Global;
+
+/// Whether the texts are lent from bytes that are known to be a form.
+fn are_lent(form: &[u8], texts: &[Option<&str>]) -> bool
+    requires { IsTextsForm form.now }
+{
+    for i in 0..texts.len() {
+        if text_of(form, i) != texts[i] || text_at(form, i) != texts[i] {
+            return false;
+        }
+    }
+    count_texts(form) == texts.len() && text_at(form, texts.len()).is_none()
+}
+
+/// Whether the texts, and none behind them, are found in the bytes.
+fn are_found(alloc: Global, bytes: &[u8], texts: &[Option<&str>]) -> Result<bool, Refusal> {
+    match <u8 as Elem>::unspell(alloc, bytes)? {
+        Some(form) => Ok(are_lent(form.as_slice(), texts)),
+        None => Ok(false),
+    }
+}
+
+/// Whether the values that are read from the bytes are texts whose form is as long.
+fn are_values(alloc: Global, bytes: &[u8]) -> Result<bool, Refusal> {
+    let Some(Values::Texts(list)) = decode(alloc, bytes)? else {
+        return Ok(false);
+    };
+    Ok(texts_length(list.as_slice()) == bytes.len())
+}
+
+/// A form made by hand, and its texts.
+struct Texts {
+    form: &'static [u8],
+    texts: &'static [Option<&'static str>],
+}
+
+impl Case for Texts {
+    /// Whether every call that reads and writes texts agrees that the bytes are their form.
+    fn is_right(&self, alloc: Global) -> Result<bool, Refusal> {
+        let kinds = [kind_of(self.form), kind_of_rewritten(alloc, self.form)?];
+        let elements = are_elements(alloc, self.form, self.form)?;
+        let found = are_found(alloc, self.form, self.texts)?;
+        let values = are_values(alloc, self.form)?;
+        Ok(kinds == [Some(Kind::Text); 2] && elements && found && values)
+    }
+}
+
+static TEXTS: [Texts; 4] = [
+    Texts {
+        form: THREE_TEXTS,
+        texts: &[Some("a"), Some(""), Some("bc")],
+    },
+    Texts {
+        form: &[1, 1, 0, 0, 0, 0],
+        texts: &[],
+    },
+    Texts {
+        form: E_ACUTE,
+        texts: &[Some("é")],
+    },
+    Texts {
+        form: MISSING_AND_A,
+        texts: &[None, Some("a")],
+    },
+];
+
+#[test]
+fn texts_are_written_and_read(rt: HostRuntime) {
+    for case in &TEXTS {
+        let texts = case.texts;
+        assert!(rt; holds(rt.alloc(), case), "{texts:?}");
+    }
+}

@@ -1,0 +1,16 @@
+#![tactic(auto)]
+//! Tests of what stands below objects: the words of the table (far_types), pointer words (far_pointer), encodings (far_codec), far
+//! stores (far_store), local memory (far_log), and proposals of row groups (far_prefetcher).
+
+#[cfg(test)]
+mod codec;
+#[cfg(test)]
+mod log;
+#[cfg(test)]
+mod pointer;
+#[cfg(test)]
+mod prefetcher;
+#[cfg(test)]
+mod store;
+#[cfg(test)]
+mod types;

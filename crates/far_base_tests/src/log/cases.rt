@@ -1,0 +1,153 @@
+// Parts that are placed, found, written, dropped and moved.
+use crate::log::script::Case;
+use crate::log::script::Line::{
+    Capacity, Compact, Drop, DropEach, Fits, Has, HasEach, IsFull, Place, PlaceEach, Uses,
+    WriteFirst, WriteRange,
+};
+use far_log::Region;
+use far_types::Refusal;
+use std::test::Fail;
+
+static CASES: [Case; 10] = [
+    Case {
+        name: "a place is full where no segment has the space",
+        segments: 2,
+        size: 4,
+        lines: &[
+            Fits(4, true),
+            Fits(5, false),
+            Place(&[1, 2, 3, 4], (0, 0)),
+            Place(&[5, 6, 7, 8], (1, 0)),
+            IsFull(&[9]),
+            Drop((0, 0)),
+            Place(&[9], (0, 0)),
+            Has((0, 0), &[9]),
+        ],
+    },
+    Case {
+        name: "space is what lies behind the last parts",
+        segments: 2,
+        size: 4,
+        lines: &[
+            Uses(0, 8),
+            Place(&[1, 2], (0, 0)),
+            Place(&[3], (0, 2)),
+            Uses(3, 5),
+            Drop((0, 0)),
+            Uses(1, 5),
+        ],
+    },
+    Case {
+        name: "capacity is the sizes of all segments",
+        segments: 3,
+        size: 5,
+        lines: &[Capacity(15, 5), Place(&[1, 2], (0, 0)), Capacity(15, 5)],
+    },
+    Case {
+        name: "without segments there is no capacity",
+        segments: 0,
+        size: 5,
+        lines: &[Capacity(0, 0)],
+    },
+    Case {
+        name: "parts are found in a table of many chunks",
+        segments: 1,
+        size: 1_000,
+        lines: &[PlaceEach(0, 1_000, 0), HasEach(0, 1_000, 0)],
+    },
+    Case {
+        name: "the space of dropped parts is free once the last is dropped",
+        segments: 1,
+        size: 1_000,
+        lines: &[
+            PlaceEach(0, 1_000, 0),
+            DropEach(1, 999),
+            Fits(1, false),
+            Drop((0, 999)),
+            Fits(999, true),
+            Place(&[9, 9], (0, 1)),
+            Uses(3, 997),
+        ],
+    },
+    Case {
+        name: "a table that was cut takes new parts where old ones lay",
+        segments: 1,
+        size: 1_000,
+        lines: &[
+            PlaceEach(0, 500, 0),
+            DropEach(63, 500),
+            PlaceEach(63, 700, 5_000),
+            HasEach(0, 63, 0),
+            HasEach(63, 700, 5_000),
+            Uses(700, 300),
+        ],
+    },
+    Case {
+        name: "a range and a first element are written in place",
+        segments: 1,
+        size: 8,
+        lines: &[
+            Place(&[1, 2], (0, 0)),
+            Place(&[3, 4, 5], (0, 2)),
+            WriteRange((0, 2), 1, 3, 0),
+            Has((0, 2), &[3, 0, 0]),
+            WriteFirst((0, 2), 9),
+            Has((0, 2), &[9, 0, 0]),
+            Has((0, 0), &[1, 2]),
+        ],
+    },
+    Case {
+        name: "a compaction moves what is left of a segment, which is empty then",
+        segments: 3,
+        size: 4,
+        lines: &[
+            Place(&[1, 2], (0, 0)),
+            Place(&[3, 4], (0, 2)),
+            Drop((0, 0)),
+            Compact(0, &[2], Ok((1, &[0]))),
+            Has((1, 0), &[3, 4]),
+            Uses(2, 10),
+            Place(&[5, 6, 7, 8], (0, 0)),
+        ],
+    },
+    Case {
+        name: "a compaction needs its segment and another without parts",
+        segments: 3,
+        size: 4,
+        lines: &[
+            Place(&[1, 2, 3, 4], (0, 0)),
+            Place(&[5, 6, 7, 8], (1, 0)),
+            Place(&[9], (2, 0)),
+            Compact(0, &[0], Err(Refusal::RegionFull)),
+            Compact(3, &[], Err(Refusal::OutOfRange)),
+            Uses(9, 3),
+        ],
+    },
+];
+
+#[test]
+fn a_region_answers_as_each_case_says(rt: HostRuntime) {
+    for case in &CASES {
+        let name = case.name;
+        assert!(rt; case.is_right(rt.alloc()) == Ok(true), "{name}");
+    }
+}
+
+/// Whether lists of 4 and 1; 1, 2 and 2; 2 and 4; 1, 4 and 1 elements, and no lists, fit in order.
+fn fit_in_order(region: &Region<u8>) -> [bool; 5] {
+    [
+        region.fits_in_order(&[4, 1]),
+        region.fits_in_order(&[1, 2, 2]),
+        region.fits_in_order(&[2, 4]),
+        region.fits_in_order(&[1, 4, 1]),
+        region.fits_in_order(&[]),
+    ]
+}
+
+#[test]
+fn lists_fit_in_order_where_each_finds_the_space(rt: HostRuntime) -> Result<(), Fail> {
+    let mut region = Region::<u8>::new(rt.alloc(), 2, 4)?;
+    region.place(b"abc")?;
+    assert!(rt; fit_in_order(&region) == [true, true, false, false, true]);
+    Ok(())
+}

@@ -1,0 +1,82 @@
+// The agent store: worked examples, four threads at once, and memory that is refused.
+use crate::store::case::{AGENT, Case};
+use crate::store::generic::Why::Full;
+use crate::store::script::Line::{
+    Fill, FourThreads, FromShelf, Get, Put, StaysFull, TellsApart, ToShelf,
+};
+
+static CASES: [Case; 7] = [
+    Case {
+        name: "a store of capacity one takes one content and keeps it",
+        capacity: 1,
+        lines: &[
+            Put(&[0x61], Ok(0)),
+            Get(Ok(&[0x61])),
+            Put(&[1], Err(Full)),
+            Get(Ok(&[0x61])),
+        ],
+        ..AGENT
+    },
+    Case {
+        name: "numbers are drawn from 0 up to the capacity",
+        capacity: 100,
+        lines: &[Fill(100), StaysFull(3, 1)],
+        ..AGENT
+    },
+    // A store that kept them would have 1,000 GiB then.
+    Case {
+        name: "a full store takes no memory for what it refuses",
+        capacity: 0,
+        lines: &[StaysFull(1_000_000, 1 << 20)],
+        ..AGENT
+    },
+    Case {
+        name: "a get replaces what the buffer had",
+        lines: &[
+            Put(&[9, 9, 9], Ok(0)),
+            Get(Ok(&[9, 9, 9])),
+            Put(&[7; 300], Ok(1)),
+            Get(Ok(&[7; 300])),
+            Put(&[], Ok(2)),
+            Get(Ok(&[])),
+        ],
+        ..AGENT
+    },
+    Case {
+        name: "the tickets of two contents are told apart",
+        lines: &[Put(&[7; 300], Ok(0)), TellsApart(&[])],
+        ..AGENT
+    },
+    Case {
+        name: "generic callers are served by an agent and a shelf",
+        capacity: 4,
+        lines: &[ToShelf, FromShelf, Put(&[1], Err(Full))],
+        ..AGENT
+    },
+    Case {
+        name: "a call refused for want of memory can be made again",
+        capacity: 2,
+        lines: &[Put(&[1, 2, 3], Ok(0)), Get(Ok(&[1, 2, 3]))],
+        ..AGENT
+    },
+];
+
+#[test]
+fn an_agent_answers_as_each_case_says(rt: HostRuntime) {
+    for case in &CASES {
+        let name = case.name;
+        assert!(rt; case.holds(&rt, rt.alloc()), "{name}");
+    }
+}
+
+static FILLED_BY_FOUR: Case = Case {
+    name: "four threads fill a store together, and each reads back all of its own",
+    capacity: 40_000,
+    lines: &[FourThreads(10_000, 4, 0), Put(&[1], Err(Full))],
+    ..AGENT
+};
+
+#[test]
+fn four_threads_read_back_their_own(rt: HostRuntime) {
+    assert!(rt; FILLED_BY_FOUR.holds(&rt, rt.alloc()));
+}

@@ -1,0 +1,104 @@
+// A store that is made for a case, and what is tried on it.
+use crate::store::planned_engine::{PlannedEngine, Turn};
+use crate::store::script::{Line, plays};
+use far_byte_log::ByteLog;
+use far_store::{AgentStore, EngineStore, FaultyStore};
+use far_types::Refusal;
+use std::alloc::Global;
+use std::sync::Wait;
+use std::thread::Threads;
+
+// Where a store keeps its contents.
+#[derive(Clone, Copy)]
+pub enum Base {
+    // In an agent.
+    Agent,
+    // In a log of so many bytes, whose calls turn out as planned.
+    Log(usize, &'static [Turn]),
+}
+
+// Each store of a case stands under a `FaultyStore`.
+#[derive(Clone, Copy)]
+pub struct Case {
+    pub name: &'static str,
+    pub base: Base,
+    pub capacity: u64,
+    // Which put fails, of those that find memory; 0 for none.
+    pub failing_put: u64,
+    // Which get fails, likewise.
+    pub failing_get: u64,
+    pub lines: &'static [Line],
+}
+
+// An agent that does not fail.
+pub const AGENT: Case = Case {
+    name: "an agent",
+    base: Base::Agent,
+    capacity: 8,
+    failing_put: 0,
+    failing_get: 0,
+    lines: &[],
+};
+
+// A log that does not fail.
+pub const LOG: Case = Case {
+    name: "a log",
+    base: Base::Log(64, &[]),
+    ..AGENT
+};
+
+// A store of so many contents over a log of so many bytes, whose calls turn out as planned.
+pub fn logged<R: Drop>(
+    rt: R,
+    alloc: Global,
+    size: usize,
+    plan: &[Turn],
+    capacity: u64,
+) -> Result<EngineStore<PlannedEngine<ByteLog>, R>, Refusal> {
+    let plan = Vec::from_slice(alloc, plan)?;
+    let engine = PlannedEngine::new(ByteLog::new(alloc, size)?, plan);
+    EngineStore::new(rt, alloc, engine, capacity)
+}
+
+impl Case {
+    // Whether the store answers each line as it should. One that finds no memory is made again.
+    pub fn holds<R: Threads + Wait + Sync + Drop>(&self, rt: &R, alloc: Global) -> bool {
+        match self.tried(rt, alloc) {
+            Err(Refusal::NoMemory) => self.tried(rt, alloc) == Ok(true),
+            answer => answer == Ok(true),
+        }
+    }
+
+    fn tried<R: Threads + Wait + Sync + Drop>(
+        &self,
+        rt: &R,
+        alloc: Global,
+    ) -> Result<bool, Refusal> {
+        match self.base {
+            Base::Agent => self.on_agent(rt, alloc),
+            Base::Log(size, plan) => self.on_log(rt, alloc, size, plan),
+        }
+    }
+
+    fn on_agent<R: Threads + Wait + Sync + Drop>(
+        &self,
+        rt: &R,
+        alloc: Global,
+    ) -> Result<bool, Refusal> {
+        let agent = AgentStore::new(rt, alloc, self.capacity)?;
+        let store = FaultyStore::new(agent, self.failing_put, self.failing_get);
+        Ok(plays(rt, &store, alloc, self.lines))
+    }
+
+    fn on_log<R: Threads + Wait + Sync + Drop>(
+        &self,
+        rt: &R,
+        alloc: Global,
+        size: usize,
+        plan: &[Turn],
+    ) -> Result<bool, Refusal> {
+        let log = logged(rt, alloc, size, plan, self.capacity)?;
+        let store = FaultyStore::new(log, self.failing_put, self.failing_get);
+        Ok(plays(rt, &store, alloc, self.lines))
+    }
+}

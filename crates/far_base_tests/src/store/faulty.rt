@@ -1,0 +1,143 @@
+// When a planned fault comes: no clause can say it, since no clause knows what an atomic holds.
+use crate::store::case::{AGENT, Base, Case, LOG};
+use crate::store::generic::Why::{Fault, Full, NoMemory};
+use crate::store::planned_engine::Turn;
+use crate::store::script::Line::{self, FourThreads, Get, JoinsMeters, Put};
+
+// What five puts draw of which the first fails, the second or the third: the one that fails draws nothing.
+const FIRST_FAILS: &[Line] = &[
+    Put(&[1], Err(Fault)),
+    Put(&[1], Ok(0)),
+    Put(&[1], Ok(1)),
+    Put(&[1], Ok(2)),
+    Put(&[1], Ok(3)),
+];
+
+const SECOND_FAILS: &[Line] = &[
+    Put(&[1], Ok(0)),
+    Put(&[1], Err(Fault)),
+    Put(&[1], Ok(1)),
+    Put(&[1], Ok(2)),
+    Put(&[1], Ok(3)),
+];
+
+const THIRD_FAILS: &[Line] = &[
+    Put(&[1], Ok(0)),
+    Put(&[1], Ok(1)),
+    Put(&[1], Err(Fault)),
+    Put(&[1], Ok(2)),
+    Put(&[1], Ok(3)),
+];
+
+static CASES: [Case; 11] = [
+    Case {
+        name: "the first put fails once and its repeat is served",
+        failing_put: 1,
+        lines: FIRST_FAILS,
+        ..AGENT
+    },
+    Case {
+        name: "the second put fails once and its repeat is served",
+        failing_put: 2,
+        lines: SECOND_FAILS,
+        ..AGENT
+    },
+    Case {
+        name: "the planned put does not reach the store under it",
+        failing_put: 3,
+        lines: THIRD_FAILS,
+        ..AGENT
+    },
+    Case {
+        name: "the planned put into a log fails once",
+        failing_put: 2,
+        lines: SECOND_FAILS,
+        ..LOG
+    },
+    Case {
+        name: "the planned put does not reach the log under it",
+        failing_put: 3,
+        lines: THIRD_FAILS,
+        ..LOG
+    },
+    Case {
+        name: "the planned get fails once and leaves nothing",
+        failing_get: 2,
+        lines: &[
+            Put(&[1, 2], Ok(0)),
+            Get(Ok(&[1, 2])),
+            Get(Err(Fault)),
+            Get(Ok(&[1, 2])),
+        ],
+        ..AGENT
+    },
+    Case {
+        name: "a 0 plans no fault",
+        failing_put: 0,
+        failing_get: 0,
+        lines: &[
+            Put(&[0], Ok(0)),
+            Get(Ok(&[0])),
+            Put(&[1], Ok(1)),
+            Get(Ok(&[1])),
+            Put(&[2], Ok(2)),
+            Get(Ok(&[2])),
+        ],
+        ..AGENT
+    },
+    // The first put and the first get that find memory are the second ones.
+    Case {
+        name: "a call that finds no memory is not counted",
+        base: Base::Log(
+            64,
+            &[Turn::NoMemory, Turn::Serve, Turn::Serve, Turn::NoMemory],
+        ),
+        failing_put: 2,
+        failing_get: 2,
+        lines: &[
+            Put(&[1, 2], Err(NoMemory)),
+            Put(&[1, 2], Ok(0)),
+            Put(&[1, 2], Err(Fault)),
+            Put(&[1, 2], Ok(1)),
+            Get(Err(NoMemory)),
+            Get(Ok(&[1, 2])),
+            Get(Err(Fault)),
+            Get(Ok(&[1, 2])),
+        ],
+        ..LOG
+    },
+    Case {
+        name: "a put into a full store is counted",
+        capacity: 1,
+        failing_put: 3,
+        lines: &[
+            Put(&[1], Ok(0)),
+            Put(&[1], Err(Full)),
+            Put(&[1], Err(Fault)),
+            Put(&[1], Err(Full)),
+        ],
+        ..AGENT
+    },
+    Case {
+        name: "joined meters add up",
+        failing_put: 2,
+        failing_get: 1,
+        lines: &[Put(&[1], Ok(0)), JoinsMeters],
+        ..AGENT
+    },
+    Case {
+        name: "one of four threads meets the planned fault",
+        capacity: 4_000,
+        failing_put: 2_000,
+        lines: &[FourThreads(1_000, 3, 1)],
+        ..AGENT
+    },
+];
+
+#[test]
+fn a_faulty_store_fails_where_each_case_says(rt: HostRuntime) {
+    for case in &CASES {
+        let name = case.name;
+        assert!(rt; case.holds(&rt, rt.alloc()), "{name}");
+    }
+}

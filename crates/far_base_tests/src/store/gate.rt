@@ -1,0 +1,174 @@
+// What a gate does to a put, which no clause can say.
+use crate::store::case::logged;
+use crate::store::generic::Why::{self, Fault};
+use crate::store::generic::put;
+use crate::store::script::Line::{self, Get, Put};
+use crate::store::script::plays;
+use crate::store::threads::had;
+use far_store::{AgentStore, FarStore, GateStore};
+use far_types::Refusal;
+use std::alloc::Global;
+use std::sync::Wait;
+use std::thread::{self, Threads};
+
+// What opens a gate.
+#[derive(Clone, Copy)]
+enum Opener {
+    // A release.
+    Release,
+    // The second put.
+    SecondPut,
+    // A release before any put.
+    Early,
+}
+
+// What is tried on a gate.
+#[derive(Clone, Copy)]
+enum Trial {
+    // Lines are answered one after another, and a put was at the gate.
+    Plays(&'static [Line]),
+    // A put is served that is held until it is released, and the next one without.
+    ServesTheReleased,
+    // Of two threads that put once each, so many meet a fault, and so many are served.
+    AnswersTwo(usize, usize),
+}
+
+fn gated<S: FarStore>(store: S, opener: Opener) -> GateStore<S> {
+    match opener {
+        Opener::Release => GateStore::new(store),
+        Opener::SecondPut => GateStore::two(store),
+        Opener::Early => {
+            let gate = GateStore::new(store);
+            gate.release();
+            gate
+        }
+    }
+}
+
+// Waits until a put is held, and then opens the gate. Says whether one came.
+fn release_when_held<S>(gate: &GateStore<S>) -> bool {
+    for _ in 0..1_000_000 {
+        if gate.held() {
+            gate.release();
+            return true;
+        }
+        thread::yield_now();
+    }
+    false
+}
+
+// Why a put is not served, if it is not.
+fn unserved<S: FarStore>(store: &S, alloc: Global) -> Option<Why> {
+    put(store, alloc, &[1]).err()
+}
+
+// Whether a put is served that is held until it is released, and the next one without.
+fn serves_the_released<R: Threads, S: FarStore>(
+    rt: &R,
+    gate: &GateStore<S>,
+    alloc: Global,
+) -> bool {
+    let is_held_before = gate.held();
+    let (held, came) = thread::join(rt, || unserved(gate, alloc), || release_when_held(gate));
+    !is_held_before && came && [held, unserved(gate, alloc)] == [None, None]
+}
+
+// How two puts at once are answered.
+fn two_at_once<R: Threads, S: FarStore>(
+    rt: &R,
+    gate: &GateStore<S>,
+    alloc: Global,
+) -> [Option<Why>; 2] {
+    let (one, other) = thread::join(rt, || unserved(gate, alloc), || unserved(gate, alloc));
+    [one, other]
+}
+
+// Whether a trial comes out on a gate.
+fn comes_out<R: Threads + Sync, S: FarStore>(
+    rt: &R,
+    gate: &GateStore<S>,
+    alloc: Global,
+    trial: Trial,
+) -> bool {
+    match trial {
+        Trial::Plays(lines) => plays(rt, gate, alloc, lines) && gate.held(),
+        Trial::ServesTheReleased => serves_the_released(rt, gate, alloc),
+        Trial::AnswersTwo(faults, served) => {
+            let answers = two_at_once(rt, gate, alloc);
+            had(&answers, &Some(Fault)) == faults && had(&answers, &None) == served
+        }
+    }
+}
+
+fn on_agent<R: Threads + Wait + Sync + Drop>(
+    rt: &R,
+    alloc: Global,
+    opener: Opener,
+    trial: Trial,
+) -> Result<bool, Refusal> {
+    let gate = gated(AgentStore::new(rt, alloc, 8)?, opener);
+    Ok(comes_out(rt, &gate, alloc, trial))
+}
+
+fn on_log<R: Threads + Wait + Sync + Drop>(
+    rt: &R,
+    alloc: Global,
+    trial: Trial,
+) -> Result<bool, Refusal> {
+    let gate = gated(logged(rt, alloc, 8, &[], 8)?, Opener::Release);
+    Ok(comes_out(rt, &gate, alloc, trial))
+}
+
+// The first put is held until it is a fault, and the second is served.
+const UNRELEASED: Trial = Trial::Plays(&[Put(&[1], Err(Fault)), Put(&[1], Ok(0))]);
+
+static CASES: [(&str, Opener, Trial); 5] = [
+    (
+        "a held put goes on when it is released",
+        Opener::Release,
+        Trial::ServesTheReleased,
+    ),
+    (
+        "a second put passes a gate that waits for release and does not open it",
+        Opener::Release,
+        Trial::AnswersTwo(1, 1),
+    ),
+    (
+        "the second put opens the gate of two",
+        Opener::SecondPut,
+        Trial::AnswersTwo(0, 2),
+    ),
+    (
+        "a put that no second releases is a fault",
+        Opener::SecondPut,
+        UNRELEASED,
+    ),
+    (
+        "an open gate lets everything through",
+        Opener::Early,
+        Trial::Plays(&[
+            Put(&[0], Ok(0)),
+            Get(Ok(&[0])),
+            Put(&[1], Ok(1)),
+            Get(Ok(&[1])),
+        ]),
+    ),
+];
+
+#[test]
+fn a_gate_over_an_agent_opens_as_each_case_says(rt: HostRuntime) {
+    for (name, opener, trial) in &CASES {
+        let came_out = on_agent(&rt, rt.alloc(), *opener, *trial);
+        assert!(rt; came_out == Ok(true), "{name}");
+    }
+}
+
+#[test]
+fn a_put_that_nobody_releases_is_a_fault(rt: HostRuntime) {
+    assert!(rt; on_agent(&rt, rt.alloc(), Opener::Release, UNRELEASED) == Ok(true));
+}
+
+#[test]
+fn a_held_put_into_a_log_goes_on_when_it_is_released(rt: HostRuntime) {
+    assert!(rt; on_log(&rt, rt.alloc(), Trial::ServesTheReleased) == Ok(true));
+}

@@ -1,0 +1,185 @@
+// What is tried on a store, line by line.
+ghost use Rattle.std.specs.Prelude.{IfSome};
+
+use crate::store::carrying::{is_carried_from_shelf, is_carried_to_shelf};
+use crate::store::generic::{Why, get, put};
+use crate::store::threads::read_back_by_four;
+use far_store::{FarRead, FarStore, FarTickets, Meter};
+use std::alloc::Global;
+use std::thread::Threads;
+
+// A call, or many, and the answer.
+#[derive(Clone, Copy)]
+pub enum Line {
+    // A put of these bytes draws this number, or is not served.
+    Put(&'static [u8], Result<u64, Why>),
+    // A get of what was put last replaces what the buffer has by these bytes, or is not served and leaves none.
+    Get(Result<&'static [u8], Why>),
+    // So many puts draw the numbers from 0 upwards.
+    Fill(u64),
+    // So many puts of so many bytes find the store full.
+    StaysFull(u32, usize),
+    // The ticket of these bytes is not the same as the one before, and its copy is.
+    TellsApart(&'static [u8]),
+    // The generic callers are served by the store and a shelf, which is full then.
+    ToShelf,
+    // The generic callers are served by a shelf and the store.
+    FromShelf,
+    // The meter of a put that meets a fault has 1, so has that of such a get, and joined they have 2.
+    JoinsMeters,
+    // Of four threads that put so many contents each, so many read back all of their own, and so many meet a fault.
+    FourThreads(u64, usize, usize),
+}
+
+// Whether a store answers each line as it should.
+pub fn plays<R: Threads + Sync, S: FarStore>(
+    rt: &R,
+    store: &S,
+    alloc: Global,
+    lines: &[Line],
+) -> bool {
+    let mut last = None;
+    let mut buffer = Vec::new(alloc);
+    for line in lines {
+        if !line.holds(rt, store, alloc, &mut last, &mut buffer) {
+            return false;
+        }
+    }
+    true
+}
+
+impl Line {
+    // Whether a store answers so, given the ticket that it gave last.
+    fn holds<R: Threads + Sync, S: FarStore>(
+        self,
+        rt: &R,
+        store: &S,
+        alloc: Global,
+        last: &mut Option<S::Ticket>,
+        buffer: &mut Vec<u8>,
+    ) -> bool
+        requires { IfSome last.old (λ t. S.is_of t (S.name store.now)) }
+        ensures { IfSome last.new (λ t. S.is_of t (S.name store.now)) }
+    {
+        match self {
+            Line::Put(bytes, wanted) => is_put(store, alloc, last, bytes, wanted),
+            Line::Get(wanted) => is_got(store, alloc, last, buffer, wanted),
+            Line::Fill(count) => are_drawn(store, alloc, count),
+            Line::StaysFull(puts, length) => stays_full(store, alloc, puts, length),
+            Line::TellsApart(bytes) => is_told_apart(store, alloc, last, bytes),
+            Line::ToShelf => is_carried_to_shelf(store, alloc),
+            Line::FromShelf => is_carried_from_shelf(store, alloc),
+            Line::JoinsMeters => are_joined(store, alloc, last, buffer),
+            Line::FourThreads(puts, read, faults) => {
+                read_back_by_four(rt, store, alloc, puts) == Ok((read, faults))
+            }
+        }
+    }
+}
+
+// Whether a put is answered so. One that finds no memory, where that is not wanted, is made again.
+fn is_put<S: FarStore>(
+    store: &S,
+    alloc: Global,
+    last: &mut Option<S::Ticket>,
+    bytes: &[u8],
+    wanted: Result<u64, Why>,
+) -> bool
+    requires { IfSome last.old (λ t. S.is_of t (S.name store.now)) }
+    ensures { IfSome last.new (λ t. S.is_of t (S.name store.now)) }
+{
+    let answer = match put(store, alloc, bytes) {
+        Err(Why::NoMemory) if wanted != Err(Why::NoMemory) => put(store, alloc, bytes),
+        answer => answer,
+    };
+    match answer {
+        Ok(ticket) => {
+            let number = store.number(&ticket);
+            *last = Some(ticket);
+            wanted == Ok(number)
+        }
+        Err(why) => wanted == Err(why),
+    }
+}
+
+// Whether a get by a copy of the last ticket is answered so, and again where it finds no memory, which is not wanted.
+fn is_got<S: FarRead>(
+    store: &S,
+    alloc: Global,
+    last: &Option<S::Ticket>,
+    buffer: &mut Vec<u8>,
+    wanted: Result<&[u8], Why>,
+) -> bool
+    requires { IfSome last.now (λ t. S.is_of t (S.name store.now)) }
+{
+    let Some(ticket) = last else {
+        return false;
+    };
+    let copy = store.again(ticket);
+    let answer = match get(store, alloc, &copy, buffer) {
+        Err(Why::NoMemory) if wanted != Err(Why::NoMemory) => get(store, alloc, &copy, buffer),
+        answer => answer,
+    };
+    match wanted {
+        Ok(bytes) => answer == Ok(()) && buffer.as_slice() == bytes,
+        Err(why) => answer == Err(why) && buffer.is_empty(),
+    }
+}
+
+// Whether so many puts draw the numbers from 0 upwards.
+fn are_drawn<S: FarStore>(store: &S, alloc: Global, count: u64) -> bool {
+    for number in 0..count {
+        if !is_put(store, alloc, &mut None, &[1, 2, 3], Ok(number)) {
+            return false;
+        }
+    }
+    true
+}
+
+// Whether so many puts of so many bytes find the store full.
+fn stays_full<S: FarStore>(store: &S, alloc: Global, puts: u32, length: usize) -> bool {
+    let Ok(content) = vec![in alloc; 0x61; length] else {
+        return false;
+    };
+    for _ in 0..puts {
+        if !is_put(store, alloc, &mut None, &content, Err(Why::Full)) {
+            return false;
+        }
+    }
+    true
+}
+
+// Whether the ticket of a content is not the same as the last.
+fn is_told_apart<S: FarStore>(
+    store: &S,
+    alloc: Global,
+    last: &Option<S::Ticket>,
+    bytes: &[u8],
+) -> bool
+    requires { IfSome last.now (λ t. S.is_of t (S.name store.now)) }
+{
+    match (last, put(store, alloc, bytes)) {
+        (Some(earlier), Ok(ticket)) => !store.same(earlier, &ticket),
+        _ => false,
+    }
+}
+
+// Whether the meters of a put and a get that meet a fault have 1 each, and joined they have 2.
+fn are_joined<S: FarStore>(
+    store: &S,
+    alloc: Global,
+    last: &Option<S::Ticket>,
+    buffer: &mut Vec<u8>,
+) -> bool
+    requires { IfSome last.now (λ t. S.is_of t (S.name store.now)) }
+{
+    let Some(ticket) = last else {
+        return false;
+    };
+    let (mut first, mut second) = (Meter::new(), Meter::new());
+    let _ = store.put(alloc, &mut first, &[1]).err();
+    let _ = store.get(alloc, &mut second, ticket, buffer).err();
+    let apart = [first.faults(), second.faults()];
+    first.join(second);
+    apart == [1, 1] && first.faults() == 2
+}

@@ -1,0 +1,9 @@
+// Tests of far_types: what no clause says, and that calls succeed with ample memory.
+mod aggregates;
+mod answers;
+mod clones;
+mod lent;
+mod limits;
+mod pairs;
+mod refusals;
+mod samples;

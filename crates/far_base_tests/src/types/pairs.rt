@@ -1,0 +1,100 @@
+// What rows give to an aggregate, in hand and lent.
+use crate::types::samples::{row_of, spec, text};
+use far_types::{Key, LentRow, Op, Refusal, Row, Spec, Test};
+use std::alloc::Global;
+
+/// Whether a row gives this pair, in hand and lent.
+fn gives(
+    alloc: Global,
+    spec: &Spec,
+    row: &Row,
+    pair: &Option<(Option<Key>, i64)>,
+) -> Result<bool, Refusal> {
+    if row.len() > 16 {
+        return Ok(false);
+    }
+    let in_hand = spec.pair_of(alloc, row)?;
+    let lent = spec.pair_of(alloc, &LentRow::of_row(row))?;
+    Ok(in_hand == *pair && lent == *pair)
+}
+
+/// A row, and the value that it gives under its text to the extrema of column 0 by column 1, over the rows whose number is not
+/// 4 and whose text begins with `a`.
+struct Folded {
+    number: Option<i64>,
+    bytes: &'static str,
+    value: Option<i64>,
+}
+
+impl Folded {
+    fn spec(alloc: Global) -> Result<Spec, Refusal> {
+        let not_4 = Test::Int {
+            column: 0,
+            op: Op::Ne,
+            value: 4,
+        };
+        spec(alloc, 0, 1, 1)?.only(not_4)
+    }
+
+    /// The pair that the row gives.
+    fn pair(&self, alloc: Global) -> Result<Option<(Option<Key>, i64)>, Refusal> {
+        match self.value {
+            Some(value) => Ok(Some((Some(Key::Text(text(alloc, self.bytes)?)), value))),
+            None => Ok(None),
+        }
+    }
+
+    /// Whether the row is kept, and gives its pair and nothing else.
+    fn is_right(&self, alloc: Global) -> Result<bool, Refusal> {
+        let spec = Folded::spec(alloc)?;
+        let row = row_of(alloc, self.number, self.bytes)?;
+        let is_kept = spec.filter.keeps(&row) == self.value.is_some();
+        Ok(is_kept && gives(alloc, &spec, &row, &self.pair(alloc)?)?)
+    }
+
+    /// The value that the row has under a key.
+    fn value_under(&self, alloc: Global, key: &str) -> Result<Option<i64>, Refusal> {
+        let row = row_of(alloc, self.number, self.bytes)?;
+        let key = Some(Key::Text(text(alloc, key)?));
+        Ok(Folded::spec(alloc)?.value_under(&row, &key))
+    }
+}
+
+static ROWS: [Folded; 4] = [
+    Folded {
+        number: Some(5),
+        bytes: "ab",
+        value: Some(5),
+    },
+    Folded {
+        number: Some(4),
+        bytes: "ab",
+        value: None,
+    },
+    Folded {
+        number: Some(5),
+        bytes: "b",
+        value: None,
+    },
+    Folded {
+        number: None,
+        bytes: "ab",
+        value: None,
+    },
+];
+
+#[test]
+fn a_row_gives_its_value_under_its_key_where_all_tests_pass(rt: HostRuntime) {
+    for row in &ROWS {
+        let (number, bytes) = (row.number, row.bytes);
+        assert!(rt; row.is_right(rt.alloc()) == Ok(true), "{number:?} {bytes}");
+        assert!(rt;
+            row.value_under(rt.alloc(), bytes) == Ok(row.value),
+            "{number:?} {bytes}"
+        );
+        assert!(rt;
+            row.value_under(rt.alloc(), "a") == Ok(None),
+            "{number:?} {bytes} under a"
+        );
+    }
+}

@@ -1,7 +1,0 @@
-use Rattle.std.proofs.Common.{ℕ, ◌<◌, IsSome}
-use Rattle.std.specs.Prelude.{Contains}
-use Rattle.far_log.specs.Room.{segment_of, list_at}
-use Rattle.far_log_tests.proofs.order.are_all.Given as goal
-
-abbrev pub invariant-loop-offset : goal.invariant-loop-offset
-invariant-loop-offset g l = (offset : ℕ) → offset < l.offset-counter → IsSome (list_at (segment_of l.region l.segment).parts offset) → Contains l.order offset

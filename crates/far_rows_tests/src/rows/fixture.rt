@@ -1,0 +1,133 @@
+// A table with its store, and calls on it: a column of texts, one of numbers, and one more of each.
+ghost use Rattle.std.specs.Prelude.{◌≡◌, ℕ, List, length, IfOk};
+ghost use Rattle.far_scopes.specs.Movement.{AreHere};
+
+mod moving;
+mod writing;
+
+use crate::rows::script::Call;
+use far_rows::Rows;
+use far_store::{FarStore, Meter};
+use far_types::{CellRef, Kind, Limits, Refusal, Schema};
+use std::alloc::Global;
+use std::marker::Model;
+pub use writing::row;
+
+/// The values of a row, in the order of the columns.
+pub type Values<'a> = (CellRef<'a>, CellRef<'a>, CellRef<'a>, CellRef<'a>);
+
+/// Row groups of two places, and room for the objects of two of them.
+pub const LIMITS: Limits = Limits {
+    group: 2,
+    places: 100,
+    edits: 9,
+    int_segments: 4,
+    int_size: 2,
+    text_segments: 8,
+    text_size: 64,
+};
+
+/// A table with its store, and another store that it may go into.
+#[derive(Drop)]
+pub struct Fixture<'a, S: FarStore> {
+    store: &'a S,
+    other: &'a S,
+    rows: Rows<S>,
+}
+
+impl<'a, S: FarStore> Model for Fixture<'a, S> {
+    ghost use Rattle.std.specs.Prelude.{◌≡◌, length};
+    ghost use Rattle.far_scopes.specs.Movement.{AreHere};
+    ghost use Rattle.far_rows.specs.Rows.{Rows};
+
+    ghost Value = { Rows S.Ticket };
+
+    ghost view = { λ fixture. fixture.rows };
+
+    ghost invariant = { λ fixture. (length fixture.rows.numbers ≡ 2) × (length fixture.rows.texts ≡ 2) × AreHere S.is_of (S.name fixture.store.now) fixture.rows.number_objects × AreHere S.is_of (S.name fixture.store.now) fixture.rows.text_objects };
+}
+
+impl<'a, S: FarStore> Fixture<'a, S> {
+    /// No row.
+    pub fn new(
+        alloc: Global,
+        store: &'a S,
+        other: &'a S,
+        limits: &Limits,
+    ) -> Result<Fixture<'a, S>, Refusal> {
+        Ok(Fixture {
+            store,
+            other,
+            rows: no_rows(alloc, limits)?,
+        })
+    }
+
+    /// The rows, lent in place.
+    pub fn rows(&self) -> &Rows<S> {
+        &self.rows
+    }
+
+    /// The same rows, whose far copies are in the other store. The call is made once.
+    pub fn moved(self, alloc: Global) -> Result<Fixture<'a, S>, Refusal> {
+        let rows = self.rows;
+        let renewal = rows.renewal(alloc, self.store, self.other, &mut Meter::new())?;
+        Ok(Fixture {
+            store: self.other,
+            other: self.store,
+            rows: rows.renew(renewal),
+        })
+    }
+
+    // Puts what is away into the other store, and leaves the table where it is.
+    fn put_again(&self, alloc: Global) -> Result<(), Refusal> {
+        let renewal = self
+            .rows
+            .renewal(alloc, self.store, self.other, &mut Meter::new());
+        match renewal {
+            Err(refusal) => Err(refusal),
+            Ok(_) => Ok(()),
+        }
+    }
+
+    /// What a call answers. One that is refused for want of memory is made once more.
+    pub fn answer(&mut self, alloc: Global, call: &Call) -> Result<(), Refusal> {
+        match self.reply(alloc, call) {
+            Err(Refusal::NoMemory) => self.reply(alloc, call),
+            reply => reply,
+        }
+    }
+
+    fn reply(&mut self, alloc: Global, call: &Call) -> Result<(), Refusal> {
+        match call {
+            Call::MayPush(values) => self.may_push(alloc, values),
+            Call::Push(values) => self.push(alloc, values),
+            Call::MaySet(column, place, value) => self.may_set(alloc, *column, *place, *value),
+            Call::Set(column, place, value) => self.set(alloc, *column, *place, *value),
+            Call::Clear(place) => self.clear(*place),
+            Call::Pin(column, group) => self.rows.pin(*column, *group),
+            Call::Unpin(column, group) => self.rows.unpin(*column, *group),
+            Call::Touch(column, group) => self.rows.touch(*column, *group),
+            Call::Evacuate(column, group) => self.evacuate(alloc, *column, *group),
+            Call::FetchBack(column, group) => self.fetch_back(alloc, *column, *group),
+            Call::CompactNumbers(segment) => self.rows.compact_numbers(alloc, *segment),
+            Call::CompactTexts(segment) => self.rows.compact_texts(alloc, *segment),
+            Call::PutAgain => self.put_again(alloc),
+        }
+    }
+}
+
+// A table without a row.
+fn no_rows<S: FarStore>(alloc: Global, limits: &Limits) -> Result<Rows<S>, Refusal>
+    ensures numbers { IfOk result (λ rows. length rows.numbers ≡ 2) }
+    ensures texts { IfOk result (λ rows. length rows.texts ≡ 2) }
+    ensures number_store { IfOk result (λ rows. (name : List ℕ) → AreHere S.is_of name rows.number_objects) }
+    ensures text_store { IfOk result (λ rows. (name : List ℕ) → AreHere S.is_of name rows.text_objects) }
+{
+    let kinds = [Kind::Text, Kind::Int, Kind::Text, Kind::Int];
+    let schema = Schema::new(Vec::from_array(alloc, kinds)?)?;
+    limits.check()?;
+    match Rows::new(alloc, &schema, limits, 7) {
+        Err(Refusal::NoMemory) => Rows::new(alloc, &schema, limits, 7),
+        reply => reply,
+    }
+}

@@ -1,4 +1,0 @@
-use Rattle.far_scopes_tests.proofs.calls.pin_together.Goals as goal
-
-pub returns : goal.returns
-returns g c = λ name here. c.close.ensures.store name (c.in_ok-scope.ensures.store name here)

@@ -1,0 +1,6 @@
+use Rattle.std.proofs.Common.{ℕ, List}
+use Rattle.far_scopes.specs.Movement.{AreHere}
+use Rattle.far_scopes_tests.proofs.scopes.calls.pin_often.Given as goal
+
+abbrev pub invariant-loop : goal.invariant-loop
+invariant-loop g l = (name : List ℕ) → AreHere g.S.FarTickets.is_of name l.fn.objects → AreHere g.S.FarTickets.is_of name l.objects

@@ -1,0 +1,155 @@
+// Jobs that are begun, carried, accepted and found stale: cases, each played on objects of its own.
+mod cases;
+
+use crate::evacuator::call::Call::{self, Create, Move};
+use crate::evacuator::call::Phase::{self, Begin, BeginFetch, Carry, CarryFetch, Commit, Install};
+use crate::evacuator::call::away;
+use crate::evacuator::desk::Desk;
+use crate::evacuator::stores::{Plan, logged};
+use far_byte_log::ByteLog;
+use far_evacuator::Want;
+use far_scopes::ObjectLimits;
+use far_store::{EngineStore, FarStore};
+use far_types::Refusal;
+use std::alloc::Global;
+use std::sync::Wait;
+use std::test::Fail;
+
+/// What is played, beginning with no object.
+struct Case {
+    /// What it shows, in a sentence.
+    name: &'static str,
+    store: Plan,
+    limits: ObjectLimits,
+    steps: &'static [Step],
+}
+
+/// What is done, and how it turns out.
+enum Step {
+    /// The call is accepted.
+    Done(Call<&'static [i64]>),
+    /// The call is refused so.
+    Refused(Call<&'static [i64]>, Refusal),
+    /// The object is sent away.
+    SentAway(u32),
+    /// The object is brought back.
+    BroughtBack(u32),
+    /// The object is away: it is neither lent nor may it be written.
+    IsAway(u32),
+    /// The object is local, with this list.
+    Has(u32, &'static [i64]),
+    /// The object is local and clean: the store has the far form of its list.
+    HasCopy(u32),
+    /// The frame has this number from now on, and eight new objects alone.
+    Frame(u32),
+}
+
+/// The index of the first step of a case that turns out otherwise.
+fn play<R: Wait + Sync + Drop + Copy>(
+    rt: R,
+    alloc: Global,
+    case: &Case,
+) -> Result<Option<usize>, Refusal> {
+    let store = logged(rt, alloc, case.store)?;
+    play_over(alloc, &store, case)
+}
+
+fn play_over<S: FarStore>(alloc: Global, store: &S, case: &Case) -> Result<Option<usize>, Refusal> {
+    match Desk::new(alloc, store, 0, case.limits) {
+        Ok(mut desk) => Ok(first_wrong(&mut desk, alloc, case)),
+        Err(refusal) => Err(refusal),
+    }
+}
+
+fn first_wrong<S: FarStore>(
+    desk: &mut Desk<'_, i64, S>,
+    alloc: Global,
+    case: &Case,
+) -> Option<usize> {
+    for (index, step) in case.steps.iter().enumerate() {
+        if !turns_out(desk, alloc, case.limits, step) {
+            return Some(index);
+        }
+    }
+    None
+}
+
+fn turns_out<S: FarStore>(
+    desk: &mut Desk<'_, i64, S>,
+    alloc: Global,
+    limits: ObjectLimits,
+    step: &Step,
+) -> bool {
+    match step {
+        Step::Done(call) => desk.make(alloc, call).is_ok(),
+        Step::Refused(call, refusal) => desk.make(alloc, call) == Err(*refusal),
+        Step::SentAway(o) => are_done(desk, alloc, &[Begin(Want::Object(*o)), Carry, Commit]),
+        Step::BroughtBack(o) => are_done(desk, alloc, &[BeginFetch(*o), CarryFetch, Install]),
+        Step::Frame(number) => begins_frame(desk, alloc, limits, *number),
+        Step::Has(o, list) => desk.list(*o) == Ok(*list),
+        Step::HasCopy(o) => desk.has_copy(alloc, *o) == Ok(true),
+        Step::IsAway(o) => is_away(desk, *o),
+    }
+}
+
+// Whether these phases are accepted, one after the other.
+fn are_done<S: FarStore>(desk: &mut Desk<'_, i64, S>, alloc: Global, phases: &[Phase]) -> bool {
+    for phase in phases {
+        if desk.make(alloc, &Move(*phase)).is_err() {
+            return false;
+        }
+    }
+    true
+}
+
+// Whether an object is neither lent nor may be written since it is away.
+fn is_away<S: FarStore>(desk: &Desk<'_, i64, S>, o: u32) -> bool {
+    desk.list(o) == Err(away(o)) && desk.may_write(o) == Err(away(o))
+}
+
+fn begins_frame<S: FarStore>(
+    desk: &mut Desk<'_, i64, S>,
+    alloc: Global,
+    limits: ObjectLimits,
+    number: u32,
+) -> bool {
+    let mut begins = desk.clear(alloc, number, limits).is_ok();
+    for first in 0..8 {
+        begins &= desk.make(alloc, &Create([first, 5].as_slice())).is_ok();
+    }
+    begins
+}
+
+/// Whether a case turns out over one log, and so many of its bytes are used then.
+fn uses_log<R: Wait + Sync + Drop + Copy>(
+    rt: R,
+    alloc: Global,
+    case: &Case,
+    bytes: usize,
+) -> Result<bool, Refusal> {
+    let log = ByteLog::new(alloc, case.store.bytes)?;
+    let store = EngineStore::new(rt, alloc, log, case.store.capacity)?;
+    Ok(play_over(alloc, &store, case)?.is_none() && store.engine().used() == bytes)
+}
+
+#[test]
+fn cases_turn_out(rt: HostRuntime) -> Result<(), Fail> {
+    for case in cases::CASES {
+        // Once more where the making of the store or of the objects finds no memory.
+        let wrong = match play(&rt, rt.alloc(), case) {
+            Err(Refusal::NoMemory) => play(&rt, rt.alloc(), case),
+            reply => reply,
+        };
+        if let Some(step) = wrong? {
+            return Err(Fail::new(format_args!("{}: step {step}", case.name)));
+        }
+    }
+    Ok(())
+}
+
+#[test]
+fn objects_come_and_go_over_one_log(rt: HostRuntime) {
+    // Three far forms of two numbers, of 22 bytes each: a log takes a form for each write, and none for an object that was not
+    // written.
+    assert!(rt; uses_log(&rt, rt.alloc(), &cases::COME_AND_GO, 66) == Ok(true));
+}

@@ -1,5 +1,0 @@
-use Rattle.std.specs.Prelude.{All}
-use Rattle.far_store_tests.proofs.generic.puts_all.Given as goal
-
-abbrev pub invariant-loop-n : goal.invariant-loop-n
-invariant-loop-n g l = All (λ t. g.S.FarTickets.is_of t (g.S.FarTickets.name l.store)) l.tickets.items

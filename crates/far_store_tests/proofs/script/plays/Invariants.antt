@@ -1,5 +1,0 @@
-use Rattle.std.specs.Prelude.{IfSome}
-use Rattle.far_store_tests.proofs.script.plays.Given as goal
-
-abbrev pub invariant-loop-line : goal.invariant-loop-line
-invariant-loop-line g l = IfSome l.last (λ t. g.S.FarTickets.is_of t (g.S.FarTickets.name l.store))
