@@ -16,3 +16,4 @@ pub mod NextLengths
 pub mod PlainWords
 pub mod PresentNumbers
 pub mod TextForms
+pub mod TextParts

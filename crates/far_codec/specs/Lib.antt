@@ -11,3 +11,4 @@ pub mod ReadingLaws
 pub mod Spelling
 pub mod TextForm
 pub mod TextLaws
+pub mod TextParts

@@ -1,9 +1,10 @@
 // Texts that may be missing: the parts of their far form, and how they are read from them.
-ghost use Rattle.std.specs.Prelude.{◌≡◌, ◌↔◌, ◌≤◌, ◌<◌, ℕ, List, [], ◌∷◌, Option, true, false, length, slice_get, slice_index, option_and_then, IfOk, IfErr, IfSome, IsSome, IsTrue};
+ghost use Rattle.std.specs.Prelude.{◌≡◌, ◌↔◌, ◌≤◌, ◌<◌, ℕ, List, [], ◌∷◌, Option, length, slice_get, slice_index, option_and_then, IfOk, IfErr, IfSome, IsSome, IsTrue};
 ghost use Rattle.std.specs.Option.{option_copied};
 ghost use Rattle.std.specs.Int.{w32, from_le_bytes};
 ghost use Rattle.std.specs.Str.{IsUtf8};
 ghost use Rattle.far_codec.specs.TextForm.{texts_form, texts_of, ends_in, AreTexts, AreTextParts};
+ghost use Rattle.far_codec.specs.TextParts.{Ascend, MissingAreEmpty, AreUtf8};
 
 use crate::head::{Masked, is_set, split_head};
 use far_types::{Refusal, Text};
@@ -32,21 +33,9 @@ pub(crate) fn start_in(ends: &[[u8; 4]], i: usize) -> usize
     if i == 0 { 0 } else { end_in(&ends[i - 1]) }
 }
 
-/// Whether the bytes are a text: none where it is missing, else UTF-8.
-fn is_text(missing: bool, bytes: &[u8]) -> bool
-    ensures missing { missing ≡ true → (IsTrue result ↔ (length bytes.now ≡ 0)) }
-    ensures there { missing ≡ false → (IsTrue result ↔ IsUtf8 bytes.now) }
-{
-    if missing {
-        bytes.is_empty()
-    } else {
-        str::from_utf8(bytes).is_ok()
-    }
-}
-
-/// Whether the parts are those of texts.
-fn are_texts(mask: &[u8], ends: &[[u8; 4]], body: &[u8]) -> bool
-    ensures { IsTrue result ↔ AreTextParts mask.now (ends_in ends.now) body.now }
+/// Whether the ends ascend from 0 to the last.
+fn ascend_to(ends: &[[u8; 4]], last: usize) -> bool
+    ensures { IsTrue result ↔ Ascend (ends_in ends.now) last }
 {
     let mut start = 0;
     for i in 0..ends.len() {
@@ -54,15 +43,62 @@ fn are_texts(mask: &[u8], ends: &[[u8; 4]], body: &[u8]) -> bool
         if end < start {
             return false;
         }
-        if body.len() < end {
-            return false;
-        }
-        if !is_text(is_set(mask, i), &body[start..end]) {
-            return false;
-        }
         start = end;
     }
-    start == body.len()
+    start == last
+}
+
+/// Whether each missing text ends where it begins.
+fn missing_are_empty(mask: &[u8], ends: &[[u8; 4]]) -> bool
+    ensures { IsTrue result ↔ MissingAreEmpty mask.now (ends_in ends.now) }
+{
+    if mask.is_empty() {
+        return true;
+    }
+    for i in 0..ends.len() {
+        if is_set(mask, i) && start_in(ends, i) != end_in(&ends[i]) {
+            return false;
+        }
+    }
+    true
+}
+
+/// Whether the bytes are UTF-8.
+fn is_utf8(bytes: &[u8]) -> bool
+    ensures { IsTrue result ↔ IsUtf8 bytes.now }
+{
+    str::from_utf8(bytes).is_ok()
+}
+
+/// Whether each text is UTF-8.
+fn are_utf8(ends: &[[u8; 4]], body: &[u8]) -> bool
+    requires { Ascend (ends_in ends.now) (length body.now) }
+    ensures { IsTrue result ↔ AreUtf8 (ends_in ends.now) body.now }
+{
+    for i in 0..ends.len() {
+        let start = start_in(ends, i);
+        let end = end_in(&ends[i]);
+        if !is_utf8(&body[start..end]) {
+            return false;
+        }
+    }
+    true
+}
+
+/// Whether the parts are those of texts. Where all text bytes are ASCII, no text is looked at by itself.
+fn are_texts(mask: &[u8], ends: &[[u8; 4]], body: &[u8]) -> bool
+    ensures { IsTrue result ↔ AreTextParts mask.now (ends_in ends.now) body.now }
+{
+    if !ascend_to(ends, body.len()) {
+        return false;
+    }
+    if !missing_are_empty(mask, ends) {
+        return false;
+    }
+    if body.is_ascii() {
+        return true;
+    }
+    are_utf8(ends, body)
 }
 
 /// The parts of a form of texts, where the bytes are one.
