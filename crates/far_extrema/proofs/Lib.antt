@@ -2,5 +2,6 @@ pub mod GoneLaws
 pub mod GroupLaws
 pub mod HolderLaws
 pub mod RoomLaws
+pub mod SlotLaws
 pub mod SpreadLaws
 pub mod TournamentLaws

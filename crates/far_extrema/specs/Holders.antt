@@ -16,7 +16,7 @@ pub record Holding : Type 0 where
 
 abbrev pub held : Option Spread → Bool → Holding
 held None room = record { spans = []; top = None; room = room }
-held (Some spread) room = record { spans = spread.spans; top = Some spread.top; room = room }
+held (Some spread) room = record { spans = spread.spans; top = spread.top; room = room }
 
 -- by key, the row groups in which it occurs
 abbrev pub Holders : Type 0

@@ -6,11 +6,11 @@ use Rattle.far_types.specs.Changes.{join_spans, together}
 abbrev pub Spans : Type 0
 Spans = List (ℕ × (ℤ × ℤ))
 
--- the spans of the row groups in which a key occurs, their span together, how many branches there are at most on the way
--- to one, and the range in which they are
+-- the spans of the row groups in which a key occurs, their span together if there are some, how many branches there are at
+-- most on the way to one, and the range in which they are
 pub record Spread : Type 0 where
   pub spans : Spans
-  pub top : ℤ × ℤ
+  pub top : Option (ℤ × ℤ)
   pub depth : ℕ
   pub first : ℕ
   pub last : ℕ
@@ -37,10 +37,10 @@ joined_to (suc n) f = together join_spans (joined_to n f) (f n)
 abbrev pub IsTopOf : Spans → Option (ℤ × ℤ) → Type 0
 IsTopOf spans top = (n : ℕ) → IsBelow n spans → joined_to n (at spans) ≡ top
 
--- there are row groups, and all their spans joined are this one
-abbrev pub IsTop : Spans → ℤ × ℤ → Type 0
-IsTop spans top = IsTopOf spans (Some top)
-
 -- a row group has this span, or none, and the others have what they had
 abbrev pub IsSet : Spans → ℕ → Option (ℤ × ℤ) → Spans → Type 0
 IsSet old group span new = (q : ℕ) → at new q ≡ cond (q == group) span (at old q)
+
+-- each row group has what it had
+abbrev pub AreSame : Spans → Spans → Type 0
+AreSame old new = (q : ℕ) → at new q ≡ at old q

@@ -64,7 +64,7 @@ impl Holder {
         ensures top { IsTopOf self.now.spans result }
     {
         match &self.groups {
-            Some(groups) => Some(groups.top()),
+            Some(groups) => groups.top(),
             None => None,
         }
     }
@@ -99,7 +99,11 @@ impl Holder {
         ensures memory { IfErr result (λ e. e ≡ Refusal.NoMemory) }
     {
         match &mut self.groups {
-            Some(groups) => groups.add(Spare::new(alloc)?, group, span),
+            Some(groups) => {
+                if !groups.set(group, Some(span)) {
+                    groups.add(Spare::new(alloc)?, group, span);
+                }
+            }
             None => self.groups = Some(Tournament::new(group, span)),
         }
         Ok(())
@@ -113,7 +117,11 @@ impl Holder {
     {
         match self.spare.take() {
             Some(spare) => match &mut self.groups {
-                Some(groups) => groups.add(spare, group, span),
+                Some(groups) => {
+                    if !groups.set(group, Some(span)) {
+                        groups.add(spare, group, span);
+                    }
+                }
                 None => self.groups = Some(Tournament::new(group, span)),
             },
             None => unreachable!(),
@@ -127,7 +135,11 @@ impl Holder {
         ensures room { self.new.room ≡ self.old.room }
     {
         match &mut self.groups {
-            Some(groups) => groups.put(group, span),
+            Some(groups) => {
+                if !groups.set(group, Some(span)) {
+                    unreachable!();
+                }
+            }
             None => unreachable!(),
         }
     }
@@ -138,11 +150,16 @@ impl Holder {
         ensures spans { IsSet self.old.spans group None self.new.spans }
         ensures room { self.new.room ≡ self.old.room }
     {
-        if let Some(groups) = &mut self.groups {
-            if !groups.is_one() {
-                groups.leave(group);
-                return;
+        match &mut self.groups {
+            Some(groups) => {
+                if !groups.set(group, None) {
+                    unreachable!();
+                }
+                if groups.top().is_some() {
+                    return;
+                }
             }
+            None => unreachable!(),
         }
         self.groups = None;
     }

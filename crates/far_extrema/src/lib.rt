@@ -2,6 +2,7 @@
 //! Extrema by key that are kept up to date: the least and the greatest value of the rows folded under each key, row
 //! group by row group, so that a row group that lost a row is looked at again by itself.
 
+mod block;
 pub mod group_extrema;
 mod holder;
 mod holders;

@@ -1,30 +1,33 @@
 // The spans of the row groups in which one key occurs.
-ghost use Rattle.std.specs.Prelude.{◌≡◌, ◌+◌, ◌∷◌, [], ◌≢◌, ◌<◌, ◌≤◌, ◌==◌, ℕ, cond, Some, None, true, false, IsTrue, IfErr};
+ghost use Rattle.std.specs.Prelude.{◌≡◌, ◌+◌, ◌-◌, ◌%◌, ◌∷◌, [], ◌<◌, ◌≤◌, Option, Some, None, false, IsTrue, IfErr};
 ghost use Rattle.std.specs.Option.{option_copied};
-ghost use Rattle.far_types.specs.Changes.{join_spans, together};
-ghost use Rattle.far_extrema.specs.Spreads.{at, IsTop, IsFrom, IsBelow, IsSet};
+ghost use Rattle.far_extrema.specs.Blocks.{slotted};
+ghost use Rattle.far_extrema.specs.Spreads.{at, IsTopOf, IsFrom, IsBelow, IsSet, AreSame};
 
-use super::spans::{Span, together};
+use super::block::{Block, either, range_of};
+use super::spans::Span;
 use far_types::Refusal;
 use std::alloc::Global;
 use std::marker::Model;
 use std::mem;
 
 /// The spans of the row groups in which a key occurs, and their span together: a tournament whose winners stand at the
-/// branches. A branch parts its row groups at a number, which is that of the middle of the least aligned range of row
-/// groups in which they all are. So there are no more branches on the way to a row group than its number has bits, and
-/// one branch less than row groups.
+/// branches, over blocks of sixteen row groups. A branch parts its row groups at a number, which is that of the middle of
+/// the least aligned range of row groups in which they all are. So there are no more branches on the way to a block than
+/// its number has bits, and one branch less than blocks. A row group that is alone in its block's range takes no block.
 #[cycle(tournament)]
 #[derive(Drop)]
 pub struct Tournament {
     node: Node,
 }
 
+/// A node keeps the span of its row groups together; there is none where the last of them went.
 #[cycle(tournament)]
 #[derive(Drop)]
 enum Node {
-    One(u32, Span),
-    Several(Span, Box<Branch>),
+    One(u32, Option<Span>),
+    Few(Option<Span>, Box<Block>),
+    Several(Option<Span>, Box<Branch>),
 }
 
 /// The row groups from `first` to `last`: those before `split`, and those from it on.
@@ -38,9 +41,21 @@ struct Branch {
     after: Tournament,
 }
 
-/// A branch that stands nowhere yet: the memory of a row group more.
+impl Branch {
+    /// Whether a row group is in the range.
+    fn reaches(&self, group: u32) -> bool
+        ensures first { IsTrue result → self.now.first ≤ group }
+        ensures last { IsTrue result → group ≤ self.now.last }
+        ensures outside { result ≡ false → self.now.first ≤ group → self.now.last < group }
+    {
+        self.first <= group && group <= self.last
+    }
+}
+
+/// A block and a branch that stand nowhere yet: the memory of a row group more, which takes one of them or none.
 #[derive(Drop)]
 pub struct Spare {
+    block: Box<Block>,
     branch: Box<Branch>,
 }
 
@@ -57,6 +72,7 @@ impl Spare {
             after: Tournament::new(0, (0, 0)),
         };
         Ok(Spare {
+            block: Box::new(alloc, Block::new(0, None))?,
             branch: Box::new(alloc, branch)?,
         })
     }
@@ -86,17 +102,18 @@ impl Tournament {
         ensures { result.spans ≡ (group, span) ∷ [] }
     {
         Tournament {
-            node: Node::One(group, span),
+            node: Node::One(group, Some(span)),
         }
     }
 
-    /// The span of all row groups together.
-    pub fn top(&self) -> Span
+    /// The span of all row groups together, or `None` where there is none.
+    pub fn top(&self) -> Option<Span>
         ensures is { result ≡ self.now.top }
-        ensures top { IsTop self.now.spans result }
+        ensures top { IsTopOf self.now.spans result }
     {
         match &self.node {
-            Node::One(_, span) => *span,
+            Node::One(_, top) => *top,
+            Node::Few(top, _) => *top,
             Node::Several(top, _) => *top,
         }
     }
@@ -113,7 +130,17 @@ impl Tournament {
         ensures { option_copied result ≡ at self.now.spans group }
     {
         match &self.node {
-            Node::One(holder, span) => { if *holder == group { Some(span) } else { None } }
+            Node::One(holder, span) => {
+                if *holder == group {
+                    span.as_ref()
+                } else {
+                    None
+                }
+            }
+            Node::Few(_, block) => {
+                let block = &**block;
+                block.look_up(group)
+            }
             Node::Several(_, branch) => {
                 let branch = &**branch;
                 if group < branch.split {
@@ -125,37 +152,72 @@ impl Tournament {
         }
     }
 
-    /// A span in place of that of a row group in which the key occurs. Takes no memory.
-    pub fn put(&mut self, group: u32, span: Span)
-        requires { at self.old.spans group ≢ None }
-        ensures { IsSet self.old.spans group (Some span) self.new.spans }
+    /// A span, or none, in place of that of a row group, where there is a slot for it. Says whether there is. Takes no
+    /// memory.
+    pub fn set(&mut self, group: u32, span: Option<Span>) -> bool
+        ensures set { IsTrue result → IsSet self.old.spans group span self.new.spans }
+        ensures same { result ≡ false → self.new ≡ self.old }
+        ensures absent { result ≡ false → at self.old.spans group ≡ None }
     {
         match &mut self.node {
-            Node::One(_, stood) => *stood = span,
+            Node::One(holder, stood) => {
+                if *holder != group {
+                    return false;
+                }
+                *stood = span;
+            }
+            Node::Few(top, block) => {
+                let block = &mut **block;
+                if !block.covers(group) {
+                    return false;
+                }
+                block.put(group, span);
+                *top = block.joined();
+            }
             Node::Several(top, branch) => {
                 let branch = &mut **branch;
-                if group < branch.split {
-                    branch.before.put(group, span);
-                } else {
-                    branch.after.put(group, span);
+                if !branch.reaches(group) {
+                    return false;
                 }
-                *top = together(branch.before.top(), branch.after.top());
+                let is_set = if group < branch.split {
+                    branch.before.set(group, span)
+                } else {
+                    branch.after.set(group, span)
+                };
+                if !is_set {
+                    return false;
+                }
+                *top = either(branch.before.top(), branch.after.top());
             }
         }
-    }
-
-    /// Whether the key occurs in one row group alone.
-    pub fn is_one(&self) -> bool
-        ensures one { result ≡ (self.now.depth == 0) }
-        ensures only { IsTrue result → (q : ℕ) → (r : ℕ) → at self.now.spans q ≢ None → at self.now.spans r ≢ None → q ≡ r }
-    {
-        match &self.node {
-            Node::One(_, _) => true,
-            Node::Several(_, _) => false,
+        if span.is_none() {
+            self.prune();
         }
+        true
     }
 
-    /// A row group more in which the key occurs, which gets a branch that was made for it. Takes no memory.
+    /// A branch one of whose parts has no row group gives way to the other part.
+    fn prune(&mut self)
+        ensures { AreSame self.old.spans self.new.spans }
+    {
+        let rest = match &mut self.node {
+            Node::One(_, _) => return,
+            Node::Few(_, _) => return,
+            Node::Several(_, branch) => {
+                let branch = &mut **branch;
+                if branch.before.top().is_none() {
+                    mem::replace(&mut branch.after, Tournament::new(0, (0, 0)))
+                } else if branch.after.top().is_none() {
+                    mem::replace(&mut branch.before, Tournament::new(0, (0, 0)))
+                } else {
+                    return;
+                }
+            }
+        };
+        *self = rest;
+    }
+
+    /// A row group more in which the key occurs, which gets a block or a branch that was made for it. Takes no memory.
     pub fn add(&mut self, spare: Spare, group: u32, span: Span)
         requires { at self.old.spans group ≡ None }
         ensures { IsSet self.old.spans group (Some span) self.new.spans }
@@ -170,7 +232,14 @@ impl Tournament {
             return;
         }
         match &mut self.node {
-            Node::One(_, _) => unreachable!(),
+            Node::One(holder, stood) => {
+                *self = widened(spare, *holder, *stood, group, span);
+            }
+            Node::Few(top, block) => {
+                let block = &mut **block;
+                block.put(group, Some(span));
+                *top = block.joined();
+            }
             Node::Several(top, branch) => {
                 let branch = &mut **branch;
                 if group < branch.split {
@@ -178,7 +247,7 @@ impl Tournament {
                 } else {
                     branch.after.add(spare, group, span);
                 }
-                *top = together(branch.before.top(), branch.after.top());
+                *top = either(branch.before.top(), branch.after.top());
             }
         }
     }
@@ -190,10 +259,13 @@ impl Tournament {
         ensures from { IsFrom result.0 self.now.spans }
         ensures below { IsBelow (result.1 + 1) self.now.spans }
         ensures order { result.0 ≤ result.1 }
-        ensures one { self.now.depth ≡ 0 → (result.0 ≡ result.1) × (at self.now.spans result.0 ≢ None) }
     {
         match &self.node {
-            Node::One(group, _) => (*group, *group),
+            Node::One(group, _) => range_of(*group),
+            Node::Few(_, block) => {
+                let block = &**block;
+                block.reach()
+            }
             Node::Several(_, branch) => {
                 let branch = &**branch;
                 (branch.first, branch.last)
@@ -210,7 +282,7 @@ impl Tournament {
         ensures { IsSet self.old.spans group (Some span) self.new.spans }
     {
         let split = middle(group, first);
-        let top = together(span, self.top());
+        let top = either(Some(span), self.top());
         let mut branch = spare.branch;
         *branch = Branch {
             first: split.0.min(group),
@@ -231,7 +303,7 @@ impl Tournament {
         ensures { IsSet self.old.spans group (Some span) self.new.spans }
     {
         let split = middle(last, group);
-        let top = together(self.top(), span);
+        let top = either(self.top(), Some(span));
         let mut branch = spare.branch;
         *branch = Branch {
             first: split.0.min(first),
@@ -242,35 +314,21 @@ impl Tournament {
         };
         self.node = Node::Several(top, branch);
     }
+}
 
-    /// A row group in which the key occurs no more. Takes no memory.
-    pub fn leave(&mut self, group: u32)
-        requires held { at self.old.spans group ≢ None }
-        requires several { self.old.depth ≢ 0 }
-        ensures { IsSet self.old.spans group None self.new.spans }
-    {
-        let rest = match &mut self.node {
-            Node::One(_, _) => unreachable!(),
-            Node::Several(top, branch) => {
-                let branch = &mut **branch;
-                if group < branch.split {
-                    if !branch.before.is_one() {
-                        branch.before.leave(group);
-                        *top = together(branch.before.top(), branch.after.top());
-                        return;
-                    }
-                    mem::replace(&mut branch.after, Tournament::new(group, (0, 0)))
-                } else {
-                    if !branch.after.is_one() {
-                        branch.after.leave(group);
-                        *top = together(branch.before.top(), branch.after.top());
-                        return;
-                    }
-                    mem::replace(&mut branch.before, Tournament::new(group, (0, 0)))
-                }
-            }
-        };
-        *self = rest;
+/// A row group alone, and one more in the range of its block. Takes no memory.
+fn widened(spare: Spare, holder: u32, stood: Option<Span>, group: u32, span: Span) -> Tournament
+    requires first { holder - holder % 16 ≤ group }
+    requires last { group < holder - holder % 16 + 16 }
+    ensures { IsSet (slotted holder (stood ∷ [])) group (Some span) result.spans }
+{
+    let mut few = Block::new(holder, stood);
+    few.put(group, Some(span));
+    let top = few.joined();
+    let mut block = spare.block;
+    *block = few;
+    Tournament {
+        node: Node::Few(top, block),
     }
 }
 

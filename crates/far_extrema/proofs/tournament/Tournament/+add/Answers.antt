@@ -5,7 +5,7 @@ use Rattle.far_extrema.specs.Tournaments.{seen, IsKept}
 use Rattle.far_extrema.proofs.SpreadLaws.{at-before, at-after}
 use Rattle.far_extrema.proofs.TournamentLaws.{whole, IsChanged, branch-before, branch-after}
 use Rattle.far_extrema.proofs.tournament.Tournament.+add.Goals as goal
-use Rattle.far_extrema.proofs.tournament.Tournament.+add.Goals.{then-group-branch, else-group-branch}
+use Rattle.far_extrema.proofs.tournament.Tournament.+add.Goals.{After-either, then-group-branch, else-group-branch}
 
 pub add-requires : goal.add-requires
 add-requires t c =
@@ -31,7 +31,7 @@ add-requires-else-group-branch t c =
           ∙ sym (at-after _ _ _ c.args.group kept.1 (omega (arith, c.if-group-branch.false, here))) ∙ sym (ap (λ (s : Spread). at s.spans c.args.group) seen_is) ∙ c.requires,
     )
 
-changed : (t : ℕ) (c : goal.After-together t) → IsChanged c.in-Several.branch.value c.args.group (Some c.args.span) c.if-group-branch.branch' c.together.result
+changed : (t : ℕ) (c : After-either t) → IsChanged c.in-Several.branch.value c.args.group (Some c.args.span) c.if-group-branch.branch' c.either.result
 changed t c =
     let kept = (subst IsKept c.in-Several.is c.self.invariant).1 in
     let seen_is = sym c.self.view_is ∙ ap seen c.in-Several.is in
@@ -40,14 +40,14 @@ changed t c =
     let low : c.in-Several.branch.value.first ≤ c.args.group = omega (arith, first, c.reach-first.ensures.first, c.if-group-first.false) in
     let high : c.args.group ≤ c.in-Several.branch.value.last = omega (arith, last, c.reach-first.ensures.last, c.if-last-group.false) in
     elim c.if-group-branch.branch [
-      | then-group-branch w ↦ branch-before c.in-Several.branch.value c.deref_mut-branch.result.now c.if-group-branch.branch' w.add.new.self c.together.result c.top.result c.top-in-Several.result c.args.group (Some c.args.span)
-          c.deref_mut-branch.ensures.value kept low w.if-group-branch.true w.add.ensures w.branch'-is c.top.ensures.top c.top-in-Several.ensures.top c.together.ensures
-      | else-group-branch w ↦ branch-after c.in-Several.branch.value c.deref_mut-branch.result.now c.if-group-branch.branch' w.add-else-group-branch.new.self c.together.result c.top.result c.top-in-Several.result c.args.group (Some c.args.span)
-          c.deref_mut-branch.ensures.value kept w.if-group-branch.false high w.add-else-group-branch.ensures w.branch'-is c.top.ensures.top c.top-in-Several.ensures.top c.together.ensures
+      | then-group-branch w ↦ branch-before c.in-Several.branch.value c.deref_mut-branch.result.now c.if-group-branch.branch' w.add.new.self c.either.result c.top.result c.top-in-Several.result c.args.group (Some c.args.span)
+          c.deref_mut-branch.ensures.value kept low w.if-group-branch.true w.add.ensures w.branch'-is c.top.ensures.top c.top-in-Several.ensures.top c.either.ensures
+      | else-group-branch w ↦ branch-after c.in-Several.branch.value c.deref_mut-branch.result.now c.if-group-branch.branch' w.add-else-group-branch.new.self c.either.result c.top.result c.top-in-Several.result c.args.group (Some c.args.span)
+          c.deref_mut-branch.ensures.value kept w.if-group-branch.false high w.add-else-group-branch.ensures w.branch'-is c.top.ensures.top c.top-in-Several.ensures.top c.either.ensures
     ]
 
-pub invariant_of-self : goal.invariant_of-self
-invariant_of-self t c = (changed t c).0
+pub invariant_of-self-in-Several : goal.invariant_of-self-in-Several
+invariant_of-self-in-Several t c = (changed t (goal.at.invariant_of-self-in-Several t c).After-either).0
 
-pub returns : goal.returns
-returns t c = subst (λ s. IsSet s c.args.group (Some c.args.span) (whole c.if-group-branch.branch')) (ap (λ (s : Spread). s.spans) (sym (ap seen c.in-Several.is) ∙ c.self.view_is)) (changed t c).1
+pub returns-after-group-branch : goal.returns-after-group-branch
+returns-after-group-branch t c = subst (λ s. IsSet s c.args.group (Some c.args.span) (whole c.if-group-branch.branch')) (ap (λ (s : Spread). s.spans) (sym (ap seen c.in-Several.is) ∙ c.self.view_is)) (changed t (goal.at.returns-after-group-branch t c).After-either).1

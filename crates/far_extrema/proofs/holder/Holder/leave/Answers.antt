@@ -1,0 +1,13 @@
+use Rattle.std.proofs.Common.{◌==◌, cond, sym, ap, subst, ◌∙◌, None}
+use Rattle.std.specs.Prelude.{is_some}
+use Rattle.far_extrema.specs.Spreads.{at, IsTopOf}
+use Rattle.far_extrema.specs.Holders.{Holding, held}
+use Rattle.far_extrema.proofs.SpreadLaws.{gone-last}
+use Rattle.far_extrema.proofs.TournamentLaws.{no_top}
+use Rattle.far_extrema.proofs.holder.Holder.leave.Goals as goal
+
+pub returns-clause-spans : goal.returns-clause-spans
+returns-clause-spans c q =
+    let none_left = subst (IsTopOf c.set.new.self.spans) (no_top c.top.result c.is_some.result c.is_some.ensures c.if-is_some.false) c.top.ensures.top in
+    gone-last c.in-Some.groups.spans c.set.new.self.spans c.args.group (c.set.ensures.set c.if-not-set.false) none_left q
+    ∙ ap (λ (h : Holding). cond (q == c.args.group) None (at h.spans q)) (ap (λ o. held o (is_some c.self.inside.spare)) (sym c.in-Some.is) ∙ c.self.view_is)

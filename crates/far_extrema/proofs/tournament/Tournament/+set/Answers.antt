@@ -1,0 +1,73 @@
+use Rattle.std.proofs.Common.{ℕ, ◌∷◌, [], sym, ap, subst, ◌∙◌, arith}
+use Rattle.far_extrema.specs.declared.tournament.Branch.{Branch}
+use Rattle.far_extrema.specs.Blocks.{Slots, slotted}
+use Rattle.far_extrema.specs.Spreads.{Spread, at, IsSet}
+use Rattle.far_extrema.specs.Tournaments.{seen, IsKept}
+use Rattle.far_extrema.specs.declared.tournament.Tournament.TheInside.{Inside}
+use Rattle.far_extrema.proofs.SlotLaws.{top-slot, set-slot}
+use Rattle.far_extrema.proofs.SpreadLaws.{at-before, at-after, absent-parted}
+use Rattle.far_extrema.proofs.TournamentLaws.{whole, IsChanged, branch-before, branch-after}
+use Rattle.far_extrema.proofs.tournament.Tournament.+set.Goals as goal
+use Rattle.far_extrema.proofs.tournament.Tournament.+set.Goals.{Joined-self, in-One+else-holder-group, in-Few+else-not-covers, in-Several+else-not-reaches+else-not-is_set, then-group-branch, else-group-branch}
+
+pub returns-then-not-reaches-clause-absent : goal.returns-then-not-reaches-clause-absent
+returns-then-not-reaches-clause-absent t c h =
+    let kept = (subst IsKept c.in-Several.is c.self.invariant).1 in
+    let first = ap (λ (b : Branch). b.first) c.deref_mut-branch.ensures.value in
+    let last = ap (λ (b : Branch). b.last) c.deref_mut-branch.ensures.value in
+    ap (λ (s : Spread). at s.spans c.args.group) (sym c.self.view_is ∙ ap seen c.in-Several.is)
+    ∙ absent-parted _ _ _ _ _ c.args.group kept (λ l. omega (arith, first, last, c.reaches.ensures.outside c.if-not-reaches.true (omega (arith, first, l))))
+
+pub returns-then-not-is_set-clause-absent : goal.returns-then-not-is_set-clause-absent
+returns-then-not-is_set-clause-absent t c h =
+    let kept = (subst IsKept c.in-Several.is c.self.invariant).1 in
+    let here = ap (λ (b : Branch). b.split) c.deref_mut-branch.ensures.value in
+    let spans = ap (λ (s : Spread). at s.spans c.args.group) (sym c.self.view_is ∙ ap seen c.in-Several.is) in
+    elim c.if-group-branch.branch [
+      | then-group-branch w ↦
+          spans ∙ at-before _ _ _ c.args.group kept.2 (omega (arith, w.if-group-branch.true, here))
+          ∙ sym (ap (λ (b : Branch). at b.before.spans c.args.group) c.deref_mut-branch.ensures.value) ∙ w.set-is_set.ensures.absent (sym w.is_set-is ∙ c.if-not-is_set.true)
+      | else-group-branch w ↦
+          spans ∙ at-after _ _ _ c.args.group kept.1 (omega (arith, w.if-group-branch.false, here))
+          ∙ sym (ap (λ (b : Branch). at b.after.spans c.args.group) c.deref_mut-branch.ensures.value) ∙ w.set-is_set-else-group-branch.ensures.absent (sym w.is_set-is ∙ c.if-not-is_set.true)
+    ]
+
+result : (t : ℕ) (c : Joined-self t) → IsKept c.match-self.self-inside.node × IsSet c.args.self.now.spans c.args.group c.args.span (seen c.match-self.self-inside.node).spans
+result t c = elim c.match-self.branch [
+  | in-One+else-holder-group w ↦
+      let spans = ap (λ (s : Spread). s.spans) (sym (ap seen w.in-One.is) ∙ c.self.view_is) in
+      subst (λ (i : Inside). IsKept i.node × IsSet c.args.self.now.spans c.args.group c.args.span (seen i.node).spans) (sym w.self-inside-is) (
+        (top-slot w.in-One.holder c.args.span, tt),
+        subst (λ s. IsSet s c.args.group c.args.span (slotted w.in-One.holder (c.args.span ∷ []))) spans
+            (subst (λ g. IsSet (slotted w.in-One.holder (w.in-One.stood ∷ [])) g c.args.span (slotted w.in-One.holder (c.args.span ∷ []))) w.if-holder-group.false (set-slot w.in-One.holder w.in-One.stood c.args.span)),
+      )
+  | in-Few+else-not-covers w ↦
+      let spans = ap (λ (s : Spread). s.spans) (sym (ap seen w.in-Few.is) ∙ c.self.view_is) in
+      subst (λ (i : Inside). IsKept i.node × IsSet c.args.self.now.spans c.args.group c.args.span (seen i.node).spans) (sym w.self-inside-is)
+      ((w.joined.ensures, tt), subst (λ s. IsSet s c.args.group c.args.span w.put.new.self.spans) (ap (λ (b : Slots). b.spans) w.deref_mut-block.ensures.value ∙ spans) w.put.ensures.set)
+  | in-Several+else-not-reaches+else-not-is_set w ↦
+      let kept = (subst IsKept w.in-Several.is c.self.invariant).1 in
+      let spans = ap (λ (s : Spread). s.spans) (sym (ap seen w.in-Several.is) ∙ c.self.view_is) in
+      let first = ap (λ (b : Branch). b.first) w.deref_mut-branch.ensures.value in
+      let last = ap (λ (b : Branch). b.last) w.deref_mut-branch.ensures.value in
+      let changed : IsChanged w.in-Several.branch.value c.args.group c.args.span w.if-group-branch.branch' w.either.result = elim w.if-group-branch.branch [
+        | then-group-branch v ↦ branch-before w.in-Several.branch.value w.deref_mut-branch.result.now w.if-group-branch.branch' v.set-is_set.new.self w.either.result w.top.result w.top-in-Several.result c.args.group c.args.span
+            w.deref_mut-branch.ensures.value kept (omega (arith, first, w.reaches.ensures.first w.if-not-reaches.false)) v.if-group-branch.true (v.set-is_set.ensures.set (sym v.is_set-is ∙ w.if-not-is_set.false)) v.branch'-is w.top.ensures.top w.top-in-Several.ensures.top w.either.ensures
+        | else-group-branch v ↦ branch-after w.in-Several.branch.value w.deref_mut-branch.result.now w.if-group-branch.branch' v.set-is_set-else-group-branch.new.self w.either.result w.top.result w.top-in-Several.result c.args.group c.args.span
+            w.deref_mut-branch.ensures.value kept v.if-group-branch.false (omega (arith, last, w.reaches.ensures.last w.if-not-reaches.false)) (v.set-is_set-else-group-branch.ensures.set (sym v.is_set-is ∙ w.if-not-is_set.false)) v.branch'-is w.top.ensures.top w.top-in-Several.ensures.top w.either.ensures
+      ] in
+      subst (λ (i : Inside). IsKept i.node × IsSet c.args.self.now.spans c.args.group c.args.span (seen i.node).spans) (sym w.self-inside-is)
+      (changed.0, subst (λ s. IsSet s c.args.group c.args.span (whole w.if-group-branch.branch')) spans changed.1)
+]
+
+pub invariant_of-self-then-is_none : goal.invariant_of-self-then-is_none
+invariant_of-self-then-is_none t c = (result t (goal.at.invariant_of-self-then-is_none t c).Joined-self).0
+
+pub invariant_of-self-else-is_none : goal.invariant_of-self-else-is_none
+invariant_of-self-else-is_none t c = (result t (goal.at.invariant_of-self-else-is_none t c).Joined-self).0
+
+pub returns-then-is_none-clause-set : goal.returns-then-is_none-clause-set
+returns-then-is_none-clause-set t c h q = c.prune.ensures q ∙ (result t (goal.at.returns-then-is_none-clause-set t c).Joined-self).1 q
+
+pub returns-else-is_none-clause-set : goal.returns-else-is_none-clause-set
+returns-else-is_none-clause-set t c h = (result t (goal.at.returns-else-is_none-clause-set t c).Joined-self).1
