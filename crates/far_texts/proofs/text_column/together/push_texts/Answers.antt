@@ -15,7 +15,7 @@ returns-in_err-may_make_forms-clause-refused g c =
     let texts = c.args.texts.now in
     err-handed c.from_residual.result c.in_err-may_make_forms.field-0.0
     (λ e. (push_texts_refusal content m columns texts ≡ Some e) ⊎ ((first_of (first_tests content m columns texts) ≡ None) × (e ≡ NoMemory)))
-    (inl (due-first content m columns texts c.in_err-may_make_forms.field-0.0 c.in_err-may_make_forms.ensures.refused)) c.from_residual.ensures.1
+    (inl (due-first content m columns texts c.in_err-may_make_forms.field-0.0 c.in_err-may_make_forms.ensures)) c.from_residual.ensures.1
 
 pub make_forms-requires-clause-first : goal.make_forms-requires-clause-first
-make_forms-requires-clause-first g c κs within = sym c.in_ok-may_make_forms.ensures.refused
+make_forms-requires-clause-first g c κs within = sym c.in_ok-may_make_forms.ensures
