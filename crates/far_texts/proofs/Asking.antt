@@ -1,6 +1,8 @@
 -- What is asked of the new forms of several columns before they are made.
-use Rattle.std.proofs.Common.{◌≡◌, ℕ, ◌+◌, ◌<◌, Bool, true, false, cond, List, [], ◌∷◌, ◌++◌, length, map, get_or, take, drop, Option, None, refl, sym, ap, ◌∙◌, arith, append_assoc}
-use Rattle.std.specs.Prelude.{not, ◌||◌, slice_set, All}
+use Rattle.std.proofs.Common.{◌≡◌, ℕ, ◌+◌, ◌<◌, Bool, true, false, cond, List, [], ◌∷◌, ◌++◌, length, map, get_or, take, drop, Option, None, Some, refl, sym, ap, ◌∙◌, arith, append_assoc}
+use Rattle.std.specs.Prelude.{not, ◌||◌, slice_set, All, Result, OnOk}
+use Rattle.std.specs.declared.result.Result.TheVariants.{Ok, Err}
+use Rattle.std.specs.Option.{option_or}
 use Rattle.std.specs.List.{list_any}
 use Rattle.std.proofs.lemmas.List.{take_more_set, length-map}
 use Rattle.std.proofs.lemmas.List.Elements.{All-nil, All-cons, All-head, All-tail}
@@ -11,13 +13,14 @@ use Rattle.far_types.specs.FormLengths.{texts_length}
 use Rattle.far_codec.specs.TextForm.{texts_form}
 use Rattle.far_codec.proofs.Laws.{texts_form_length}
 use Rattle.far_scopes.specs.Movement.{Movement}
-use Rattle.far_scopes.specs.Refusing.{absent, written_out}
+use Rattle.far_scopes.specs.Refusing.{refusal_in, absent, written_out}
+use Rattle.far_scopes.proofs.FirstCases.{first-append, first-none}
 use Rattle.far_scopes.proofs.MarkedAll.{next-is}
-use Rattle.far_texts.specs.Texts.{Texts, Lists}
+use Rattle.far_texts.specs.Texts.{Texts, Lists, lists_of}
 use Rattle.far_texts.specs.Changes.{begins_group, last_object, group_with_next}
 use Rattle.far_texts.specs.Refusing.{next_length_refusal}
-use Rattle.far_texts.specs.Together.{next_forms}
-use Rattle.far_texts.specs.RefusingTogether.{some_written_out}
+use Rattle.far_texts.specs.Together.{all_begin, next_forms}
+use Rattle.far_texts.specs.RefusingTogether.{any_too_long, any_full, absents, some_written_out, first_tests, last_tests, push_texts_refusal}
 use Rattle.far_texts.proofs.NextForms.{length-next}
 use Rattle.far_texts.proofs.OnePushed.{object-longer}
 
@@ -82,3 +85,38 @@ pub room-longer : (used : Bool × Refusal) (fits begins : Bool) → fits ≡ tru
 room-longer used false begins room begun = absurd cc
 room-longer used true true room begun = absurd cc
 room-longer used true false room begun = refl
+
+module _ {K : Type 0} (content : K → List ℕ) (m : Movement ℕ K) (columns : List Texts) (texts : List (Option (List ℕ))) where
+  abbrev away : List (Bool × Refusal)
+  away = cond (all_begin columns) [] (absents m columns)
+
+  abbrev full : Bool × Refusal
+  full = any_full (lists_of content m) columns texts
+
+  -- what is asked before lengths are found, and what is asked of the lengths
+  pub first-measured : first_of (first_tests content m columns texts) ≡ option_or (first_of (any_too_long texts ∷ away)) (first_of (full ∷ []))
+  first-measured = first-append (any_too_long texts ∷ away) (full ∷ [])
+
+  pub due-measured : push_texts_refusal content m columns texts ≡ option_or (first_of (any_too_long texts ∷ away)) (first_of (full ∷ last_tests content m columns texts))
+  due-measured =
+      ap (λ cases. first_of (any_too_long texts ∷ cases)) (append_assoc away (full ∷ []) (last_tests content m columns texts))
+      ∙ first-append (any_too_long texts ∷ away) (full ∷ last_tests content m columns texts)
+
+-- the answer of two questions, of which the first refuses nothing, or something
+pub second-asked : (all first second : Option Refusal) → all ≡ option_or first second → None ≡ first → second ≡ all
+second-asked all first second is free = sym (is ∙ ap (λ r. option_or r second) (sym free))
+
+pub first-asked : (all first second : Option Refusal) (e : Refusal) → all ≡ option_or first second → Some e ≡ first → Some e ≡ all
+first-asked all first second e is due = sym (is ∙ ap (λ r. option_or r second) (sym due))
+
+-- where no text is too long, what is left is whether an object is away
+pub away-asked : (short : Bool × Refusal) (away : List (Bool × Refusal)) (begins : Bool) → None ≡ first_of (short ∷ []) → begins ≡ false → first_of away ≡ first_of (short ∷ cond begins [] away)
+away-asked short away begins fits begun = sym (first-none short (cond begins [] away) fits ∙ ap (λ (b : Bool). first_of (cond b [] away)) begun)
+
+pub begun-asked : (short : Bool × Refusal) (away : List (Bool × Refusal)) (begins : Bool) → None ≡ first_of (short ∷ []) → begins ≡ true → None ≡ first_of (short ∷ cond begins [] away)
+begun-asked short away begins fits begin = sym (first-none short (cond begins [] away) fits ∙ ap (λ (b : Bool). first_of (cond b [] away)) begin)
+
+-- what follows where nothing was refused
+pub ok-follows : {A : Type 0} (r : Result A Refusal) (due : Option Refusal) (P : Type 0) → refusal_in r ≡ due → (None ≡ due → P) → OnOk r P
+ok-follows (Ok x) due P is then = then is
+ok-follows (Err e) due P is then = tt

@@ -19,3 +19,4 @@ pub mod GivenForms
 pub mod DueTogether
 pub mod Asking
 pub mod StayColumns
+pub mod Free

@@ -4,4 +4,4 @@
 pub mod laws;
 mod text_column;
 
-pub use text_column::{TextCell, TextCells, TextColumn, may_push_texts, push_texts};
+pub use text_column::{TextCell, TextCells, TextColumn, fill_texts, may_push_texts, push_texts};

@@ -12,7 +12,7 @@ mod together;
 pub use cells::{TextCell, TextCells};
 use std::alloc::Global;
 use std::marker::Model;
-pub use together::{may_push_texts, push_texts};
+pub use together::{fill_texts, may_push_texts, push_texts};
 
 /// A column of texts, each of which may be missing. The texts of a row group lie together as one far form, which is the
 /// list of one object of the `Objects<u8, S>` that each call names.

@@ -18,10 +18,8 @@ use checking::may_make_forms;
 use far_scopes::Objects;
 use far_store::FarTickets;
 use far_types::{Refusal, Text};
-use forms::{known_together, next_form, next_forms};
-use giving::give_forms;
+use giving::make_forms;
 use std::alloc::Global;
-use std::slice::from_ref;
 
 /// Appends a text to each of several columns, to all or to none. Where the next places begin row groups an object is made
 /// for each column; else the last object of each gets another form, and all new forms are placed, in the order of the
@@ -58,12 +56,36 @@ pub fn push_texts<S: FarTickets>(
     ensures err { OnErr result ((columns.new ≡ columns.old) × (objects.new ≡ objects.old)) }
 {
     may_make_forms(objects, columns, texts)?;
-    known_together(objects, columns);
-    if columns.len() == 1 {
-        // The one form needs no list of forms, which would be memory of its own.
-        let form = next_form(alloc, objects, columns, texts)?;
-        return give_forms(objects, columns, texts, from_ref(&form));
-    }
-    let forms = next_forms(alloc, objects, columns, texts)?;
-    give_forms(objects, columns, texts, &forms)
+    make_forms(alloc, objects, columns, texts)
+}
+
+/// Appends a text to each of several columns, to all or to none, as `push_texts` does, once `may_push_texts` told that none is
+/// refused. So no text is measured and no object is asked before the forms are made.
+///
+/// Refused with `NoMemory` (1) alone, where a growth was refused; then nothing is changed.
+pub fn fill_texts<S: FarTickets>(
+    alloc: Global,
+    objects: &mut Objects<u8, S>,
+    columns: &mut [TextColumn],
+    texts: &[Option<Text>],
+) -> Result<(), Refusal>
+    requires are { AreColumns (lists_of S.content objects.old) columns.old }
+    requires even { length texts.now ≡ length columns.old }
+    requires few { all_begin columns.old ≡ true → length objects.old.entries + length columns.old ≤ 2 ^ 28 }
+    requires free { push_texts_refusal S.content objects.old columns.old texts.now ≡ None }
+    ensures pushed { OnOk result (columns.new ≡ all_pushed (length objects.old.entries) columns.old) }
+    ensures begun { OnOk result (all_begin columns.old ≡ true → objects.new ≡ all_created objects.old columns.old (next_forms (lists_of S.content objects.old) (length objects.old.entries) columns.old texts.now)) }
+    ensures replaced { OnOk result (all_begin columns.old ≡ false → AreReplaced objects.old (next_forms (lists_of S.content objects.old) (length objects.old.entries) columns.old texts.now) objects.new) }
+    ensures count { OnOk result (length objects.new.entries ≡ length objects.old.entries + (if all_begin columns.old then length columns.old else 0)) }
+    ensures lists { OnOk result (ChangesTo (lists_of S.content objects.old) (lists_of S.content objects.new) (next_forms (lists_of S.content objects.old) (length objects.old.entries) columns.old texts.now)) }
+    ensures are { AreColumns (lists_of S.content objects.new) columns.new }
+    ensures texts { OnOk result (map (texts_in (lists_of S.content objects.new)) columns.new ≡ all_texts_with (lists_of S.content objects.old) columns.old texts.now) }
+    ensures others { KeepsColumns (lists_of S.content objects.old) (lists_of S.content objects.new) columns.old }
+    ensures apart { (d : Texts) → IsTextColumn (lists_of S.content objects.old) d → All (λ c. AreApart c d) columns.old → All (λ c. AreApart c d) columns.new }
+    ensures clean { AreClean (λ bytes. bytes) S.content objects.old → AreClean (λ bytes. bytes) S.content objects.new }
+    ensures store { (name : List ℕ) → AreHere S.is_of name objects.old → AreHere S.is_of name objects.new }
+    ensures memory { IfErr result (λ e. e ≡ Refusal.NoMemory) }
+    ensures err { OnErr result ((columns.new ≡ columns.old) × (objects.new ≡ objects.old)) }
+{
+    make_forms(alloc, objects, columns, texts)
 }

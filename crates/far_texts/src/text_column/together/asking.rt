@@ -1,5 +1,5 @@
 // Whether several columns of texts may get a text each, asked before anything is changed.
-ghost use Rattle.std.specs.Prelude.{◌≡◌, ◌<◌, ◌≤◌, ◌∷◌, ℕ, [], length, map, take, false, None, All};
+ghost use Rattle.std.specs.Prelude.{◌≡◌, ◌<◌, ◌≤◌, ◌∷◌, ℕ, [], length, map, take, false, None, All, IfOk};
 ghost use Rattle.std.specs.List.{list_any};
 ghost use Rattle.far_types.specs.FirstOf.{first_of};
 ghost use Rattle.far_scopes.specs.Refusing.{refusal_in, write_refusal, written_out};
@@ -7,34 +7,37 @@ ghost use Rattle.far_texts.specs.Texts.{lists_of, IsTextColumn};
 ghost use Rattle.far_texts.specs.Changes.{begins_group, last_object};
 ghost use Rattle.far_texts.specs.Refusing.{next_length_refusal};
 ghost use Rattle.far_texts.specs.Together.{AreColumns, next_forms};
-ghost use Rattle.far_texts.specs.RefusingTogether.{last_tests, push_texts_refusal};
+ghost use Rattle.far_texts.specs.RefusingTogether.{any_full, last_tests, push_texts_refusal};
 
-use super::checking::{all_begin, known_groups, may_make_forms};
+use super::checking::{all_begin, known_groups, may_measure_forms};
 use crate::text_column::TextColumn;
 use far_scopes::Objects;
 use far_store::FarTickets;
 use far_types::{Refusal, Text};
 
-// How long the new forms are, in the order of the columns, of which a table has at most 16.
+// How long the new forms are, in the order of the columns, of which a table has at most 16; none is longer than it may be.
 fn next_lens<S: FarTickets>(
     objects: &Objects<u8, S>,
     columns: &[TextColumn],
     texts: &[Option<Text>],
-) -> [usize; 16]
+) -> Result<[usize; 16], Refusal>
     requires each { All (IsTextColumn (lists_of S.content objects.now)) columns.now }
     requires even { length texts.now ≡ length columns.now }
     requires few { length columns.now ≤ 16 }
     requires here { All (λ c. next_length_refusal S.content objects.now c ≡ None) columns.now }
-    ensures { (n : ℕ) → take (length columns.now) result ≡ map (λ form. length form.1) (next_forms (lists_of S.content objects.now) n columns.now texts.now) }
+    ensures lens { IfOk result (λ lens. (n : ℕ) → take (length columns.now) lens ≡ map (λ form. length form.1) (next_forms (lists_of S.content objects.now) n columns.now texts.now)) }
+    ensures refused { refusal_in result ≡ first_of (any_full (lists_of S.content objects.now) columns.now texts.now ∷ []) }
 {
     let mut lens = [0; 16];
     for k in 0..columns.len() {
-        let Ok(len) = columns[k].form_length_with_next(objects, &texts[k]) else {
-            unreachable!()
-        };
+        let column = &columns[k];
+        let len = column.form_length_with_next(objects, &texts[k])?;
+        if len > column.limit {
+            return Err(Refusal::ChunkFull);
+        }
         lens[k] = len;
     }
-    lens
+    Ok(lens)
 }
 
 impl TextColumn {
@@ -65,7 +68,8 @@ fn all_writable<S: FarTickets>(
     Ok(())
 }
 
-// Whether the new forms, which may be made, find room, and objects that get another form may be written.
+// Whether no new form is longer than it may be, the new forms find room, and objects that get another form may be written. The
+// length of each form is found once.
 fn may_place_forms<S: FarTickets>(
     objects: &Objects<u8, S>,
     columns: &[TextColumn],
@@ -75,10 +79,10 @@ fn may_place_forms<S: FarTickets>(
     requires even { length texts.now ≡ length columns.now }
     requires few { length columns.now ≤ 16 }
     requires here { All (λ c. next_length_refusal S.content objects.now c ≡ None) columns.now }
-    ensures { refusal_in result ≡ first_of (last_tests S.content objects.now columns.now texts.now) }
+    ensures { refusal_in result ≡ first_of (any_full (lists_of S.content objects.now) columns.now texts.now ∷ last_tests S.content objects.now columns.now texts.now) }
 {
     known_groups(columns);
-    let lens = next_lens(objects, columns, texts);
+    let lens = next_lens(objects, columns, texts)?;
     if !objects.fits_in_order(&lens[..columns.len()]) {
         return Err(Refusal::RegionFull);
     }
@@ -95,7 +99,7 @@ fn may_place_forms<S: FarTickets>(
 /// naming the first such; else with `ChunkFull` (11) exactly where some new form would be longer than its column's may be;
 /// else with `RegionFull` (17) exactly where the new forms, placed one after the other, do not find room beside all that is
 /// there; else with `EditsUsedUp` (24) exactly where the row groups are begun and some last object was written as often as
-/// objects may be. Where it is not refused, `push_texts` can be refused with `NoMemory` (1) alone.
+/// objects may be. Where it is not refused, `push_texts` and `fill_texts` can be refused with `NoMemory` (1) alone.
 pub fn may_push_texts<S: FarTickets>(
     objects: &Objects<u8, S>,
     columns: &[TextColumn],
@@ -106,6 +110,6 @@ pub fn may_push_texts<S: FarTickets>(
     requires few { length columns.now ≤ 16 }
     ensures { refusal_in result ≡ push_texts_refusal S.content objects.now columns.now texts.now }
 {
-    may_make_forms(objects, columns, texts)?;
+    may_measure_forms(objects, columns, texts)?;
     may_place_forms(objects, columns, texts)
 }

@@ -1,5 +1,5 @@
 // Whether several columns of texts may get a text each.
-ghost use Rattle.std.specs.Prelude.{◌≡◌, ◌∷◌, [], length, false, None, All, OnOk};
+ghost use Rattle.std.specs.Prelude.{◌≡◌, if◌then◌else◌, ◌∷◌, [], length, false, None, All, OnOk};
 ghost use Rattle.far_types.specs.FirstOf.{first_of};
 ghost use Rattle.far_scopes.specs.Refusing.{refusal_in};
 ghost use Rattle.far_texts.specs.Texts.{lists_of, HasGroups, IsTextColumn};
@@ -80,6 +80,25 @@ fn none_full<S: FarTickets>(
     Ok(())
 }
 
+// Whether no text is too long, and the objects of row groups that are begun are local: then the lengths of the new forms can be
+// found.
+pub(super) fn may_measure_forms<S: FarTickets>(
+    objects: &Objects<u8, S>,
+    columns: &[TextColumn],
+    texts: &[Option<Text>],
+) -> Result<(), Refusal>
+    requires { AreColumns (lists_of S.content objects.now) columns.now }
+    ensures refused { refusal_in result ≡ first_of (any_too_long texts.now ∷ (if all_begin columns.now then [] else absents objects.now columns.now)) }
+    ensures here { OnOk result (All (λ c. next_length_refusal S.content objects.now c ≡ None) columns.now) }
+{
+    all_short(texts)?;
+    known_groups(columns);
+    if all_begin(columns) {
+        return Ok(());
+    }
+    all_here(objects, columns)
+}
+
 // Whether the next places may get these texts, but for what is seen while the new forms are made and placed.
 pub(super) fn may_make_forms<S: FarTickets>(
     objects: &Objects<u8, S>,
@@ -88,14 +107,8 @@ pub(super) fn may_make_forms<S: FarTickets>(
 ) -> Result<(), Refusal>
     requires are { AreColumns (lists_of S.content objects.now) columns.now }
     requires even { length texts.now ≡ length columns.now }
-    ensures refused { refusal_in result ≡ first_of (first_tests S.content objects.now columns.now texts.now) }
-    ensures here { OnOk result (All (λ c. next_length_refusal S.content objects.now c ≡ None) columns.now) }
-    ensures short { OnOk result (first_of (any_full (lists_of S.content objects.now) columns.now texts.now ∷ []) ≡ None) }
+    ensures { refusal_in result ≡ first_of (first_tests S.content objects.now columns.now texts.now) }
 {
-    all_short(texts)?;
-    known_groups(columns);
-    if !all_begin(columns) {
-        all_here(objects, columns)?;
-    }
+    may_measure_forms(objects, columns, texts)?;
     none_full(objects, columns, texts)
 }

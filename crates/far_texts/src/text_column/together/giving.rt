@@ -8,11 +8,14 @@ ghost use Rattle.far_texts.specs.Together.{AreColumns, AreNextForms, all_begin, 
 ghost use Rattle.far_texts.specs.RefusingTogether.{first_tests, push_texts_refusal};
 
 use super::checking::all_begin;
+use super::forms::{known_together, next_form, next_forms};
 use super::growing::{begin_groups, extend_groups};
 use crate::text_column::TextColumn;
 use far_scopes::{Objects, Replacement};
 use far_store::FarTickets;
 use far_types::{Refusal, Text};
+use std::alloc::Global;
+use std::slice::from_ref;
 
 // Each column gets the form of its next text, which may be made: all of them, or none.
 pub(super) fn give_forms<S: FarTickets>(
@@ -51,4 +54,41 @@ pub(super) fn give_forms<S: FarTickets>(
     } else {
         extend_groups(objects, columns, forms)
     }
+}
+
+// Makes the form for each column's next text, where no first test refuses one, and gives them to the columns: all of them, or
+// none.
+pub(super) fn make_forms<S: FarTickets>(
+    alloc: Global,
+    objects: &mut Objects<u8, S>,
+    columns: &mut [TextColumn],
+    texts: &[Option<Text>],
+) -> Result<(), Refusal>
+    requires are { AreColumns (lists_of S.content objects.old) columns.old }
+    requires even { length texts.now ≡ length columns.old }
+    requires few { all_begin columns.old ≡ true → length objects.old.entries + length columns.old ≤ 2 ^ 28 }
+    requires first { first_of (first_tests S.content objects.old columns.old texts.now) ≡ None }
+    ensures pushed { OnOk result (columns.new ≡ all_pushed (length objects.old.entries) columns.old) }
+    ensures begun { OnOk result (all_begin columns.old ≡ true → objects.new ≡ all_created objects.old columns.old (next_forms (lists_of S.content objects.old) (length objects.old.entries) columns.old texts.now)) }
+    ensures replaced { OnOk result (all_begin columns.old ≡ false → AreReplaced objects.old (next_forms (lists_of S.content objects.old) (length objects.old.entries) columns.old texts.now) objects.new) }
+    ensures count { OnOk result (length objects.new.entries ≡ length objects.old.entries + (if all_begin columns.old then length columns.old else 0)) }
+    ensures lists { OnOk result (ChangesTo (lists_of S.content objects.old) (lists_of S.content objects.new) (next_forms (lists_of S.content objects.old) (length objects.old.entries) columns.old texts.now)) }
+    ensures are { AreColumns (lists_of S.content objects.new) columns.new }
+    ensures texts { OnOk result (map (texts_in (lists_of S.content objects.new)) columns.new ≡ all_texts_with (lists_of S.content objects.old) columns.old texts.now) }
+    ensures others { KeepsColumns (lists_of S.content objects.old) (lists_of S.content objects.new) columns.old }
+    ensures apart { (d : Texts) → IsTextColumn (lists_of S.content objects.old) d → All (λ c. AreApart c d) columns.old → All (λ c. AreApart c d) columns.new }
+    ensures clean { AreClean (λ bytes. bytes) S.content objects.old → AreClean (λ bytes. bytes) S.content objects.new }
+    ensures store { (name : List ℕ) → AreHere S.is_of name objects.old → AreHere S.is_of name objects.new }
+    ensures free { OnOk result (push_texts_refusal S.content objects.old columns.old texts.now ≡ None) }
+    ensures refused { IfErr result (λ e. (push_texts_refusal S.content objects.old columns.old texts.now ≡ Some e) ⊎ ((first_of (first_tests S.content objects.old columns.old texts.now) ≡ None) × (e ≡ Refusal.NoMemory))) }
+    ensures err { OnErr result ((columns.new ≡ columns.old) × (objects.new ≡ objects.old)) }
+{
+    known_together(objects, columns);
+    if columns.len() == 1 {
+        // The one form needs no list of forms, which would be memory of its own.
+        let form = next_form(alloc, objects, columns, texts)?;
+        return give_forms(objects, columns, texts, from_ref(&form));
+    }
+    let forms = next_forms(alloc, objects, columns, texts)?;
+    give_forms(objects, columns, texts, &forms)
 }

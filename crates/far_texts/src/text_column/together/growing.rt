@@ -72,6 +72,30 @@ fn lengthen(columns: &mut [TextColumn])
     lengthen(columns);
 }
 
+// Listed objects get other lists: all of them, or none. The one object of a list of one gets it without what is there to take
+// back others.
+fn replace_forms<S: FarTickets>(
+    objects: &mut Objects<u8, S>,
+    forms: &[Replacement<u8>],
+) -> Result<(), Refusal>
+    requires some { All (λ r. 0 < length r.list.items) forms.now }
+    requires within { All (λ r. r.object < length objects.old.entries) forms.now }
+    requires once { AreListedOnce forms.now }
+    ensures replaced { OnOk result (objects.new ≡ replaced_all objects.old forms.now) }
+    ensures lists { OnOk result (ChangesLists (lists_of S.content objects.old) (lists_of S.content objects.new) forms.now) }
+    ensures clean { AreClean (λ bytes. bytes) S.content objects.old → AreClean (λ bytes. bytes) S.content objects.new }
+    ensures store { (name : List ℕ) → AreHere S.is_of name objects.old → AreHere S.is_of name objects.new }
+    ensures free { OnOk result (replace_all_refusal objects.old forms.now ≡ None) }
+    ensures refused { IfErr result (λ e. (replace_all_refusal objects.old forms.now ≡ Some e) ⊎ ((first_absent objects.old (map (λ r. r.object) forms.now) ≡ None) × (e ≡ Refusal.NoMemory))) }
+    ensures err { OnErr result (objects.new ≡ objects.old) }
+{
+    if forms.len() == 1 {
+        let form = &forms[0];
+        return objects.replace(form.object, &form.list);
+    }
+    objects.replace_all(forms)
+}
+
 // The last row groups, which are not full, get these forms: all of them, or none.
 pub(super) fn extend_groups<S: FarTickets>(
     objects: &mut Objects<u8, S>,
@@ -93,7 +117,7 @@ pub(super) fn extend_groups<S: FarTickets>(
     ensures err { OnErr result (objects.new ≡ objects.old) }
     ensures kept { OnErr result (columns.new ≡ columns.old) }
 {
-    objects.replace_all(forms)?;
+    replace_forms(objects, forms)?;
     lengthen(columns);
     Ok(())
 }

@@ -1,0 +1,44 @@
+use Rattle.std.proofs.Common.{ap, ◌∙◌}
+use Rattle.std.proofs.lemmas.List.Sums.{list_all-from_AllPass}
+use Rattle.far_texts.specs.Texts.{Lists, lists_of}
+use Rattle.far_texts.specs.Changes.{begins_group}
+use Rattle.far_texts.specs.Together.{given_forms}
+use Rattle.far_texts.proofs.Checking.{all-begin}
+use Rattle.far_texts.proofs.Free.{none-full, all-here}
+use Rattle.far_texts.proofs.text_column.together.giving.make_forms.Goals as goal
+
+pub next_form-requires-clause-few : goal.next_form-requires-clause-few
+next_form-requires-clause-few g c κs within =
+    let columns = c.args.columns.now in
+    let old : Lists = lists_of g.S.FarTickets.content c.args.objects.now in
+    λ k d below begins. c.requires.few (list_all-from_AllPass begins_group columns (all-begin old columns c.requires.are c.known_together.ensures.groups k d below begins))
+
+pub next_form-requires-clause-here : goal.next_form-requires-clause-here
+next_form-requires-clause-here g c κs within = all-here g.S.FarTickets.content c.args.objects.now c.args.columns.now c.args.texts.now c.requires.first c.requires.are c.known_together.ensures.groups
+
+pub next_form-requires-clause-short : goal.next_form-requires-clause-short
+next_form-requires-clause-short g c κs within = none-full g.S.FarTickets.content c.args.objects.now c.args.columns.now c.args.texts.now c.requires.first
+
+pub give_forms-requires-clause-here : goal.give_forms-requires-clause-here
+give_forms-requires-clause-here g c κs within = all-here g.S.FarTickets.content c.args.objects.now c.args.columns.now c.args.texts.now c.requires.first c.requires.are c.known_together.ensures.groups
+
+pub give_forms-requires-clause-forms : goal.give_forms-requires-clause-forms
+give_forms-requires-clause-forms g c κs within = ap given_forms c.from_ref.ensures.value ∙ c.in_ok-form.ensures.form
+
+pub next_forms-requires-clause-few : goal.next_forms-requires-clause-few
+next_forms-requires-clause-few g c κs within =
+    let columns = c.args.columns.now in
+    let old : Lists = lists_of g.S.FarTickets.content c.args.objects.now in
+    λ k d below begins. c.requires.few (list_all-from_AllPass begins_group columns (all-begin old columns c.requires.are c.known_together.ensures.groups k d below begins))
+
+pub next_forms-requires-clause-here : goal.next_forms-requires-clause-here
+next_forms-requires-clause-here g c κs within = all-here g.S.FarTickets.content c.args.objects.now c.args.columns.now c.args.texts.now c.requires.first c.requires.are c.known_together.ensures.groups
+
+pub next_forms-requires-clause-short : goal.next_forms-requires-clause-short
+next_forms-requires-clause-short g c κs within = none-full g.S.FarTickets.content c.args.objects.now c.args.columns.now c.args.texts.now c.requires.first
+
+pub give_forms-requires-2-clause-here : goal.give_forms-requires-2-clause-here
+give_forms-requires-2-clause-here g c κs within = all-here g.S.FarTickets.content c.args.objects.now c.args.columns.now c.args.texts.now c.requires.first c.requires.are c.known_together.ensures.groups
+
+pub give_forms-requires-2-clause-forms : goal.give_forms-requires-2-clause-forms
+give_forms-requires-2-clause-forms g c κs within = ap given_forms c.deref.ensures.value ∙ c.in_ok-forms.ensures.forms
