@@ -16,6 +16,7 @@ use Rattle.far_types.proofs.key.Key.TheSendSync as key
 use Rattle.far_types.proofs.spec.Spec.TheSendSync as spec
 use Rattle.far_store.specs.declared.store.FarTickets.{Ghosts as Tickets}
 use Rattle.far_groups.proofs.live_totals.LiveTotals.TheSendSync as totals
+use Rattle.far_extrema.proofs.block.Block.TheSendSync as block
 use Rattle.far_extrema.proofs.tournament.Tournament.TheLaws.TheKnot as knot
 use Rattle.far_extrema.specs.contracts.tournament.Tournament as tournament
 use Rattle.far_extrema.specs.contracts.tournament.Spare as spare
@@ -49,10 +50,10 @@ struct_syncs T s = recorded_sync (Struct (declared.shape T)) T.D T.to T.to_one (
 
 -- ---- what is kept of the row groups of a key
 tournament_send : IsSend tournament.the_row
-tournament_send = search (knot.crosses, heap.Box-send, sendable) depth 30 fits 3000
+tournament_send = search (knot.crosses, heap.Box-send, block.the_send, sendable) depth 30 fits 3000
 
 tournament_sync : IsSync tournament.the_row
-tournament_sync = search (knot.crosses, heap.Box-sync, sendable) depth 30 fits 3000
+tournament_sync = search (knot.crosses, heap.Box-sync, block.the_sync, sendable) depth 30 fits 3000
 
 spare_send : IsSend spare.the_row
 spare_send = search (knot.crosses, heap.crosses, sendable) depth 30 fits 3000
