@@ -20,7 +20,7 @@ use crate::new_row::NewRow;
 use far_columns::{IntColumn, fill_numbers, push_numbers, unpush_numbers};
 use far_scopes::Objects;
 use far_store::FarTickets;
-use far_texts::{TextColumn, push_texts};
+use far_texts::{TextColumn, fill_texts};
 use far_types::{Refusal, Text};
 use std::alloc::Global;
 
@@ -68,7 +68,7 @@ fn push_all_texts<S: FarTickets>(
     if columns.is_empty() {
         return Ok(());
     }
-    push_texts(alloc, objects, columns, texts)
+    fill_texts(alloc, objects, columns, texts)
 }
 
 // Gives each column its value of the row. Where row groups begin, the numbers are taken back if the texts are refused;

@@ -1,6 +1,5 @@
-use Rattle.std.proofs.Common.{◌≡◌, ◌≤◌, ◌+◌, ◌-◌, ◌/◌, length, drop, None, ap, subst, ◌∙◌, arith}
+use Rattle.std.proofs.Common.{◌≡◌, ◌≤◌, ◌+◌, ◌-◌, ◌/◌, length, drop, None, subst, ◌∙◌, arith}
 use Rattle.std.specs.Prelude.{slice_range}
-use Rattle.std.specs.List.{zip}
 use Rattle.std.proofs.lemmas.List.{length-take, length-drop}
 use Rattle.far_scopes.specs.Refusing.{first_absent}
 use Rattle.far_texts.specs.Texts.{lists_of, texts_in, HasGroups}
