@@ -114,7 +114,9 @@ pub enum Call {
     Back(usize, u32),
     /// Pushes a cell to each of two columns.
     PushAll(Cell, Cell),
-    /// The same, and takes it back.
+    /// The same, where all texts may be pushed, without being asked again.
+    FillAll(Cell, Cell),
+    /// Pushes a cell to each of two columns, and takes it back.
     PushAndUnpush(Cell, Cell),
     MayPushAll(Cell, Cell),
     MaySet(usize, usize, Cell),

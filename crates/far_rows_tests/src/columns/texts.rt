@@ -9,7 +9,7 @@ mod one;
 use crate::columns::cell::Cell;
 use crate::columns::lending::lend_texts;
 use crate::columns::script::{Call, Layout, WRONG, found};
-use all::{may_push_all, push_all};
+use all::{fill_all, may_push_all, push_all};
 use far_columns::Alive;
 use far_fixtures::no_objects;
 use far_scopes::Objects;
@@ -84,6 +84,7 @@ fn cells_of(call: Call) -> [Cell; 2] {
         Call::LenWith(_, _, cell, _) => [cell, Cell::Missing],
         Call::LenWithNext(_, cell, _) => [cell, Cell::Missing],
         Call::PushAll(first, second) => [first, second],
+        Call::FillAll(first, second) => [first, second],
         Call::MayPushAll(first, second) => [first, second],
         _ => [Cell::Missing, Cell::Missing],
     }
@@ -155,6 +156,13 @@ impl<'a, S: FarStore> TextColumns<'a, S> {
             | Call::LenWithNext(k, _, _) => self.find(k, call, &texts[0]),
             Call::MayPushAll(_, _) => may_push_all(&self.objects, &self.columns, self.size, texts),
             Call::PushAll(_, _) => push_all(
+                alloc,
+                &mut self.objects,
+                &mut self.columns,
+                self.size,
+                texts,
+            ),
+            Call::FillAll(_, _) => fill_all(
                 alloc,
                 &mut self.objects,
                 &mut self.columns,

@@ -1,7 +1,7 @@
 // Two columns of texts at once: worked examples.
 use crate::columns::cell::Cell;
 use crate::columns::cell::Cell::{Missing, Text};
-use crate::columns::script::Call::{Away, Find, Len, MayPushAll, Objects, PushAll, Set};
+use crate::columns::script::Call::{Away, FillAll, Find, Len, MayPushAll, Objects, PushAll, Set};
 use crate::columns::script::{Case, Layout, Script};
 use far_types::Refusal;
 
@@ -100,7 +100,7 @@ const ONE_WRITE: Layout = Layout {
 /// Row groups of three places.
 const THREES: Layout = Layout { group: 3, ..FOURS };
 
-pub static CASES: [Case; 16] = [
+pub static CASES: [Case; 17] = [
     // Each text is at its place, in its own column.
     Case {
         name: "each column gets its own text",
@@ -153,6 +153,24 @@ pub static CASES: [Case; 16] = [
             (Find(0, 0, PEAR), Ok(())),
             (Find(1, 0, RED), Ok(())),
             (PushAll(FIG, EMPTY), Ok(())),
+        ]),
+    },
+    // Two row groups begin, and both have a text more.
+    Case {
+        name: "texts that are known to fit come in",
+        layout: PAIRS,
+        count: 0,
+        script: Script::Lines(&[
+            (FillAll(PEAR, RED), Ok(())),
+            (FillAll(FIG, EMPTY), Ok(())),
+            (FillAll(PLUM, BLUE), Ok(())),
+            (Objects(4), Ok(())),
+            (Find(0, 0, PEAR), Ok(())),
+            (Find(1, 0, RED), Ok(())),
+            (Find(0, 1, FIG), Ok(())),
+            (Find(1, 1, EMPTY), Ok(())),
+            (Find(0, 2, PLUM), Ok(())),
+            (Find(1, 2, BLUE), Ok(())),
         ]),
     },
     // While an object is away, and before it is.

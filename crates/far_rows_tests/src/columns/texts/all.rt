@@ -8,7 +8,7 @@ ghost use Rattle.far_texts.specs.Together.{AreColumns};
 use crate::columns::script::WRONG;
 use far_scopes::Objects;
 use far_store::FarTickets;
-use far_texts::{TextColumn, may_push_texts, push_texts};
+use far_texts::{TextColumn, fill_texts, may_push_texts, push_texts};
 use far_types::{Refusal, Text};
 use std::alloc::Global;
 
@@ -56,4 +56,25 @@ pub fn push_all<S: FarTickets>(
         return Err(WRONG);
     }
     push_texts(alloc, objects, columns, texts)
+}
+
+/// Pushes a text to each of two columns, as `push_all` does, once it is known that they may be pushed.
+pub fn fill_all<S: FarTickets>(
+    alloc: Global,
+    objects: &mut Objects<u8, S>,
+    columns: &mut [TextColumn],
+    size: u32,
+    texts: &[Option<Text>; 2],
+) -> Result<(), Refusal>
+    requires are { AreTextColumns (lists_of S.content objects.old) columns.old }
+    requires sized { All (λ c. c.size ≡ size) columns.old }
+    ensures are { AreTextColumns (lists_of S.content objects.new) columns.new }
+    ensures sized { All (λ c. c.size ≡ size) columns.new }
+    ensures here { (name : List ℕ) → AreHere S.is_of name objects.old → AreHere S.is_of name objects.new }
+{
+    if !are_even(objects, columns, size) || objects.count() >= 32 {
+        return Err(WRONG);
+    }
+    may_push_texts(objects, columns, texts)?;
+    fill_texts(alloc, objects, columns, texts)
 }
