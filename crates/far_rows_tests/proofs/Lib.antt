@@ -1,2 +1,4 @@
 mod Walking
 mod Sized
+mod Laid
+mod Told

@@ -1,4 +1,5 @@
 // What no clause of far_rows says: that calls are served, and that worked examples come out as they should.
+mod asking;
 mod coldest;
 mod copying;
 mod filling;

@@ -1,0 +1,82 @@
+// Callers that know why an edit is refused by the clauses in the plain table's words alone.
+ghost use Rattle.std.specs.Prelude.{◌≡◌, ◌<◌, [], ◌∷◌, false, None, Some, length, option_map, slice_get, OnOk, IfOk, IfErr};
+ghost use Rattle.far_types.specs.Bounds.{AreLimits};
+ghost use Rattle.far_types.specs.Cells.{is_too_long};
+ghost use Rattle.far_rows.specs.declared.slot.Slot.TheVariants as slot;
+ghost use Rattle.far_rows.specs.Places.{AreOf};
+ghost use Rattle.far_rows.specs.Plain.{cell_set_refusal, insert_refusal};
+ghost use Rattle.far_rows.specs.Setting.{cell_of, kind_in};
+ghost use Rattle.far_rows.specs.Slots.{kind_of};
+
+use crate::rows::fixture::LIMITS;
+use far_rows::{NewCell, NewRow, Rows};
+use far_store::{AgentStore, FarTickets};
+use far_types::{Kind, Limits, Refusal, Schema};
+use std::alloc::Global;
+use std::test::Fail;
+
+// Whether a row may be appended to the rows of a table with these limits.
+fn may_insert<S: FarTickets>(rows: &Rows<S>, limits: &Limits, row: &NewRow) -> Result<(), Refusal>
+    requires numbers { length row.now.numbers ≡ length rows.now.numbers }
+    requires texts { length row.now.texts ≡ length rows.now.texts }
+    requires of { AreOf limits.now rows.now }
+    ensures served { OnOk result (insert_refusal S.content limits.now rows.now row.now ≡ None) }
+    ensures refused { IfErr result (λ refusal. insert_refusal S.content limits.now rows.now row.now ≡ Some refusal) }
+{
+    // The clauses alone speak of the limits.
+    let _limits = limits;
+    rows.may_push(row)
+}
+
+// Whether a value may be put in a column of a place, likewise.
+fn may_put<S: FarTickets>(
+    rows: &Rows<S>,
+    limits: &Limits,
+    column: usize,
+    place: usize,
+    value: &NewCell,
+) -> Result<(), Refusal>
+    requires place { place < length rows.now.alive }
+    requires of_kind { option_map kind_of (slice_get rows.now.slots column) ≡ Some (kind_in value.now) }
+    requires short { is_too_long (cell_of value.now) ≡ false }
+    requires of { AreOf limits.now rows.now }
+    ensures served { OnOk result (cell_set_refusal S.content limits.now rows.now column place value.now ≡ None) }
+    ensures refused { IfErr result (λ refusal. cell_set_refusal S.content limits.now rows.now column place value.now ≡ Some refusal) }
+{
+    // The clauses alone speak of the limits.
+    let _limits = limits;
+    rows.may_set(column, place, value)
+}
+
+// A table of a column of texts, with one row, which has no text.
+fn one_row<S: FarTickets>(alloc: Global, limits: &Limits) -> Result<Rows<S>, Refusal>
+    requires { AreLimits limits.now }
+    ensures of { IfOk result (AreOf limits.now) }
+    ensures slots { IfOk result (λ rows. rows.slots ≡ slot.Text 0 ∷ []) }
+    ensures place { IfOk result (λ rows. length rows.alive ≡ 1) }
+{
+    let schema = Schema::new(Vec::from_array(alloc, [Kind::Text])?)?;
+    let mut rows = Rows::new(alloc, &schema, limits, 7)?;
+    let row = NewRow::new(alloc, 0, 1)?;
+    may_insert(&rows, limits, &row)?;
+    rows.may_push(&row)?;
+    rows.push(alloc, &row)?;
+    Ok(rows)
+}
+
+// What a table answers that is asked for a text, at the second call where the first finds no memory.
+fn answer<S: FarTickets>(alloc: Global) -> Result<(), Refusal> {
+    LIMITS.check()?;
+    let made = match one_row::<S>(alloc, &LIMITS) {
+        Err(Refusal::NoMemory) => one_row::<S>(alloc, &LIMITS),
+        reply => reply,
+    };
+    may_put(&made?, &LIMITS, 0, 0, &NewCell::Text(None))
+}
+
+/// The store of the table is not made, since an object that is here asks it for nothing.
+#[test]
+fn an_edit_is_asked_for_in_plain_words(rt: HostRuntime) -> Result<(), Fail> {
+    answer::<AgentStore<&'_ HostRuntime>>(rt.alloc())?;
+    Ok(())
+}
