@@ -72,8 +72,8 @@ fn lengthen(columns: &mut [TextColumn])
     lengthen(columns);
 }
 
-// Listed objects get other lists: all of them, or none. The one object of a list of one gets it without what is there to take
-// back others.
+// Listed objects get other lists: all of them, or none. Where one alone is listed there is nothing that would have to be taken
+// back, so it goes the short way.
 fn replace_forms<S: FarTickets>(
     objects: &mut Objects<u8, S>,
     forms: &[Replacement<u8>],
