@@ -1,4 +1,4 @@
-use Rattle.std.proofs.Common.{length, refl, ◌∙◌}
+use Rattle.std.proofs.Common.{refl}
 use Rattle.far_codec.specs.TextForm.{ends_in}
 use Rattle.far_codec.proofs.TextParts.{parts_of, ascii_utf8, utf8_of}
 use Rattle.far_codec.proofs.texts.are_texts.Goals as goal
