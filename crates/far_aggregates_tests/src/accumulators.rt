@@ -1,7 +1,8 @@
 // Tests of far_groups and far_extrema: what no clause says, that calls succeed with ample memory, worked examples, and
 // what a refused growth leaves.
+//
+// What is tested is made in one place and lent to the function that plays the case, so no way out of that drops it.
 mod extrema;
-mod keys;
 mod live_extrema;
 mod many_keys;
 mod totals;

@@ -4,4 +4,6 @@
 #[cfg(test)]
 mod accumulators;
 #[cfg(test)]
+mod lines;
+#[cfg(test)]
 mod offload;

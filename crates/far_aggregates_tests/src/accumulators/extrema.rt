@@ -1,52 +1,24 @@
 // Extrema by key of one row group.
-use crate::accumulators::keys::{Name, Row, is_named, key_of, pairs};
+use crate::lines::{Lines, Name, Row, key_of};
 use far_extrema::GroupExtrema;
-use far_types::{Answer, Key, Refusal};
+use far_types::{Key, Refusal};
 use std::alloc::Global;
 
-/// A key, and the least and the greatest value under it.
-pub type Line = (Name, i64, i64);
-
 /// Sees a row, at the second call where the first is refused.
-fn see_under(group: &mut GroupExtrema, key: &Option<Key>, value: i64) -> Result<(), Refusal> {
-    match group.see_under(key, value) {
-        Err(Refusal::NoMemory) => group.see_under(key, value),
+fn see(alloc: Global, group: &mut GroupExtrema, name: Name, value: i64) -> Result<(), Refusal> {
+    let key = key_of(alloc, name)?;
+    match group.see_under(&key, value) {
+        Err(Refusal::NoMemory) => group.see_under(&key, value),
         reply => reply,
     }
 }
 
-/// The extrema of these rows.
-pub fn group_of(alloc: Global, rows: &[Row]) -> Result<GroupExtrema, Refusal> {
-    let mut group = GroupExtrema::new(alloc);
-    for (key, value) in pairs(alloc, rows)? {
-        see_under(&mut group, &key, value)?;
+/// Sees these rows.
+pub fn see_all(alloc: Global, group: &mut GroupExtrema, rows: &[Row]) -> Result<(), Refusal> {
+    for (name, value) in rows {
+        see(alloc, group, *name, *value)?;
     }
-    Ok(group)
-}
-
-fn are_lines(lines: &[(Option<Key>, i64, i64)], table: &[Line]) -> bool {
-    if lines.len() != table.len() {
-        return false;
-    }
-    for i in 0..lines.len() {
-        let (key, least, greatest) = &lines[i];
-        if !is_named(key, table[i].0) || *least != table[i].1 || *greatest != table[i].2 {
-            return false;
-        }
-    }
-    true
-}
-
-/// Whether the answer has these lines.
-pub fn is_answer(answer: &Answer, table: &[Line]) -> bool {
-    match answer {
-        Answer::Extrema(extrema) => are_lines(extrema.as_slice(), table),
-        Answer::Totals(_) => false,
-    }
-}
-
-fn has_lines(alloc: Global, group: &GroupExtrema, table: &[Line]) -> Result<bool, Refusal> {
-    Ok(is_answer(&group.answer(alloc)?, table))
+    Ok(())
 }
 
 static ROWS: [Row; 4] = [
@@ -56,51 +28,68 @@ static ROWS: [Row; 4] = [
     (Name::Word("a"), 1),
 ];
 
-static LINES: [Line; 2] = [(Name::Nobody, 5, 5), (Name::Word("a"), -3, 3)];
+static LINES: Lines<'static> = Lines::Extrema(&[(Name::Nobody, 5, 5), (Name::Word("a"), -3, 3)]);
+
+static ONE_LINE: Lines<'static> = Lines::Extrema(&[(Name::Nobody, -6, 5)]);
 
 /// Whether rows of which one is refused for want of memory are all seen once it is accepted.
-fn are_seen(alloc: Global) -> Result<bool, Refusal> {
-    has_lines(alloc, &group_of(alloc, &ROWS)?, &LINES)
+fn sees_all(alloc: Global, group: &mut GroupExtrema) -> Result<bool, Refusal> {
+    see_all(alloc, group, &ROWS)?;
+    LINES.are_of(group.answer(alloc))
 }
 
 /// Whether a row and rows from -6 to 3 have the extrema of all.
-fn are_seen_at_once(alloc: Global) -> Result<bool, Refusal> {
-    let mut group = GroupExtrema::new(alloc);
+fn sees_rows_at_once(alloc: Global, group: &mut GroupExtrema) -> Result<bool, Refusal> {
     group.see(None, 5)?;
     group.see_rows(None, -6, 3)?;
-    has_lines(alloc, &group, &[(Name::Nobody, -6, 5)])
+    ONE_LINE.are_of(group.answer(alloc))
 }
 
 #[test]
 fn rows_are_seen_one_by_one_or_folded(rt: HostRuntime) {
-    assert!(rt; are_seen(rt.alloc()) == Ok(true));
-    assert!(rt; are_seen_at_once(rt.alloc()) == Ok(true));
+    let alloc = rt.alloc();
+    assert!(rt; sees_all(alloc, &mut GroupExtrema::new(alloc)) == Ok(true));
+    assert!(rt; sees_rows_at_once(alloc, &mut GroupExtrema::new(alloc)) == Ok(true));
 }
 
 /// Puts what stands under a key, if anything does, and says whether the answer has these lines then.
 fn has_lines_with(
     alloc: Global,
     group: &mut GroupExtrema,
+    key: &Option<Key>,
     span: Option<(i64, i64)>,
-    table: &[Line],
+    lines: Lines<'_>,
 ) -> Result<bool, Refusal> {
-    let key = key_of(alloc, Name::Word("a"))?;
-    if group.span(&key).is_none() {
+    if group.span(key).is_none() {
         return Ok(false);
     }
-    group.put_span(&key, span);
-    has_lines(alloc, group, table)
+    group.put_span(key, span);
+    lines.are_of(group.answer(alloc))
 }
 
+static ONE_LEFT: Lines<'static> = Lines::Extrema(&[(Name::Nobody, 5, 5), (Name::Word("a"), 1, 1)]);
+
+static NONE_LEFT: Lines<'static> = Lines::Extrema(&[(Name::Nobody, 5, 5)]);
+
 /// Whether a key has the span of the row that is left, and no line once that is gone too.
-fn loses_its_rows(alloc: Global) -> Result<bool, Refusal> {
-    let mut group = group_of(alloc, &ROWS)?;
-    let left = [(Name::Nobody, 5, 5), (Name::Word("a"), 1, 1)];
-    let one_left = has_lines_with(alloc, &mut group, Some((1, 1)), &left)?;
-    Ok(one_left && has_lines_with(alloc, &mut group, None, &[(Name::Nobody, 5, 5)])?)
+fn loses_its_rows(
+    alloc: Global,
+    group: &mut GroupExtrema,
+    key: &Option<Key>,
+) -> Result<bool, Refusal> {
+    see_all(alloc, group, &ROWS)?;
+    if !has_lines_with(alloc, group, key, Some((1, 1)), ONE_LEFT)? {
+        return Ok(false);
+    }
+    has_lines_with(alloc, group, key, None, NONE_LEFT)
+}
+
+fn a_text_loses_its_rows(alloc: Global) -> Result<bool, Refusal> {
+    let key = key_of(alloc, Name::Word("a"))?;
+    loses_its_rows(alloc, &mut GroupExtrema::new(alloc), &key)
 }
 
 #[test]
 fn a_key_whose_rows_are_gone_is_listed_no_more(rt: HostRuntime) {
-    assert!(rt; loses_its_rows(rt.alloc()) == Ok(true));
+    assert!(rt; a_text_loses_its_rows(rt.alloc()) == Ok(true));
 }

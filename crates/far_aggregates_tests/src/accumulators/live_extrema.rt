@@ -1,9 +1,9 @@
 // Extrema by key of several row groups.
-ghost use Rattle.std.specs.Prelude.{◌≡◌, OnOk};
+ghost use Rattle.std.specs.Prelude.{◌≡◌, ◌≢◌, ◌-◌, [], OnOk};
 ghost use Rattle.far_extrema.specs.Live.{with_room, HasRoomFor};
 
-use crate::accumulators::extrema::{Line, group_of, is_answer};
-use crate::accumulators::keys::{Name, Row, key_of};
+use crate::accumulators::extrema::see_all;
+use crate::lines::{Lines, Name, Row, key_of};
 use far_extrema::{GroupExtrema, LiveExtrema};
 use far_types::{Answer, Key, Refusal};
 use std::alloc::Global;
@@ -16,10 +16,14 @@ fn answer(alloc: Global, live: &LiveExtrema) -> Result<Answer, Refusal> {
     }
 }
 
+/// What is told while a row group is left.
+fn told_early(alloc: Global) -> Result<bool, Refusal> {
+    Lines::Extrema(&[]).are_of(LiveExtrema::new(alloc, 1).answer(alloc))
+}
+
 #[test]
 fn extrema_are_told_once_their_row_groups_are_in(rt: HostRuntime) {
-    let told = LiveExtrema::new(rt.alloc(), 1).answer(rt.alloc());
-    assert!(rt; matches!(&told, Err(Refusal::Building(1))));
+    assert!(rt; told_early(rt.alloc()) == Err(Refusal::Building(1)));
 }
 
 /// Makes room for a row group and its keys, at the second call where the first is refused.
@@ -34,26 +38,49 @@ fn make_room_for(live: &mut LiveExtrema, group: u32, extrema: &GroupExtrema) -> 
     }
 }
 
-/// Extrema that waited for the first row group, once its rows are merged.
-fn merged(alloc: Global, rows: &[Row]) -> Result<LiveExtrema, Refusal> {
-    let mut live = LiveExtrema::new(alloc, 1);
-    let rows = group_of(alloc, rows)?;
-    make_room_for(&mut live, 0, &rows)?;
-    live.merge(0, rows);
-    Ok(live)
+/// Sees these rows, and makes room for them.
+fn make_ready(
+    alloc: Global,
+    live: &mut LiveExtrema,
+    number: u32,
+    group: &mut GroupExtrema,
+    rows: &[Row],
+) -> Result<(), Refusal>
+    ensures left { live.new.left ≡ live.old.left }
+    ensures groups { OnOk result (live.new.groups ≡ with_room number live.old.groups) }
+    ensures keys { OnOk result (HasRoomFor group.new live.new) }
+{
+    see_all(alloc, group, rows)?;
+    make_room_for(live, number, group)
+}
+
+/// Merges the first row group, which has these rows.
+fn merge_rows(alloc: Global, live: &mut LiveExtrema, rows: &[Row]) -> Result<(), Refusal>
+    requires left { live.old.left ≢ 0 }
+    requires empty { live.old.groups ≡ [] }
+    ensures left { OnOk result (live.new.left ≡ live.old.left - 1) }
+{
+    let mut group = GroupExtrema::new(alloc);
+    let ready = make_ready(alloc, live, 0, &mut group, rows);
+    if ready.is_ok() {
+        live.merge(0, group);
+    }
+    ready
 }
 
 /// These rows are those of a row group.
 fn set_rows(
     alloc: Global,
     live: &mut LiveExtrema,
-    group: u32,
+    number: u32,
     rows: &[Row],
 ) -> Result<(), Refusal> {
-    let rows = group_of(alloc, rows)?;
-    make_room_for(live, group, &rows)?;
-    live.set_group(group, rows);
-    Ok(())
+    let mut group = GroupExtrema::new(alloc);
+    let ready = make_ready(alloc, live, number, &mut group, rows);
+    if ready.is_ok() {
+        live.set_group(number, group);
+    }
+    ready
 }
 
 /// Row groups, and the lines of the answer to them.
@@ -63,15 +90,25 @@ struct Groups {
     merged: &'static [Row],
     /// The rows of one that is set then.
     set: (u32, &'static [Row]),
-    lines: &'static [Line],
+    lines: &'static [(Name, i64, i64)],
 }
 
 impl Groups {
-    fn has_lines(&self, alloc: Global) -> Result<bool, Refusal> {
-        let mut live = merged(alloc, self.merged)?;
-        let (group, rows) = self.set;
-        set_rows(alloc, &mut live, group, rows)?;
-        Ok(live.left() == 0 && is_answer(&answer(alloc, &live)?, self.lines))
+    fn are_told_by(&self, alloc: Global, live: &mut LiveExtrema) -> Result<bool, Refusal>
+        requires left { live.old.left ≢ 0 }
+        requires empty { live.old.groups ≡ [] }
+    {
+        merge_rows(alloc, live, self.merged)?;
+        let (number, rows) = self.set;
+        set_rows(alloc, live, number, rows)?;
+        if live.left() != 0 {
+            return Ok(false);
+        }
+        Lines::Extrema(self.lines).are_of(answer(alloc, live))
+    }
+
+    fn are_told(&self, alloc: Global) -> Result<bool, Refusal> {
+        self.are_told_by(alloc, &mut LiveExtrema::new(alloc, 1))
     }
 }
 
@@ -124,7 +161,7 @@ static GROUPS: [Groups; 4] = [
 fn row_groups_have_the_lines_of_all_their_rows(rt: HostRuntime) {
     for groups in &GROUPS {
         let name = groups.name;
-        assert!(rt; groups.has_lines(rt.alloc()) == Ok(true), "{name}");
+        assert!(rt; groups.are_told(rt.alloc()) == Ok(true), "{name}");
     }
 }
 
@@ -144,14 +181,17 @@ fn follows_rows(live: &mut LiveExtrema, key: &Option<Key>) -> Result<bool, Refus
 }
 
 /// Whether a span follows rows in its own row group, and the row groups around it have nothing under its key.
-fn follows_rows_alone(alloc: Global) -> Result<bool, Refusal> {
-    let mut live = LiveExtrema::new(alloc, 0);
+fn follows_rows_alone(live: &mut LiveExtrema, key: &Option<Key>) -> Result<bool, Refusal> {
+    let follows = follows_rows(live, key)?;
+    Ok(follows && live.span(0, key).is_none() && live.span(2, key).is_none())
+}
+
+fn a_span_follows_rows_alone(alloc: Global) -> Result<bool, Refusal> {
     let key = key_of(alloc, Name::Word("a"))?;
-    let follows = follows_rows(&mut live, &key)?;
-    Ok(follows && live.span(0, &key).is_none() && live.span(2, &key).is_none())
+    follows_rows_alone(&mut LiveExtrema::new(alloc, 0), &key)
 }
 
 #[test]
 fn a_span_follows_a_row_and_is_put_back(rt: HostRuntime) {
-    assert!(rt; follows_rows_alone(rt.alloc()) == Ok(true));
+    assert!(rt; a_span_follows_rows_alone(rt.alloc()) == Ok(true));
 }

@@ -1,39 +1,28 @@
 // Totals by key.
-ghost use Rattle.std.specs.Prelude.{◌≡◌, ◌≢◌, ◌<◌, ◌≤◌, ◌^◌, Option, IfOk, length, vec_len};
+ghost use Rattle.std.specs.Prelude.{◌≡◌, ◌≢◌, ◌<◌, ◌≤◌, ◌^◌, Option, OnOk};
 ghost use Rattle.std.specs.FinMap as fin;
 ghost use Rattle.far_types.specs.declared.key.Key.{Key};
 ghost use Rattle.far_types.specs.Changes.{count_in};
 ghost use Rattle.far_groups.specs.Live.{CanJoin};
 
-use crate::accumulators::keys::{Name, Pair, Row, is_named, key_of, pairs};
+use crate::lines::{Lines, Name, Row, key_of};
 use far_groups::LiveTotals;
 use far_types::{Answer, Key, Refusal};
 use std::alloc::Global;
 
-/// A key, and the count and the sum of the values under it.
-type Line = (Name, u64, i128);
-
-/// Live totals with these rows in, which are not more than 300.
-pub fn live_of(alloc: Global, left: u32, pairs: Vec<Pair>) -> Result<LiveTotals, Refusal>
-    ensures left { IfOk result (λ live. live.left ≡ left) }
-    ensures few { IfOk result (λ live. (key : Option Key) → count_in (fin.get live.totals key) ≤ 300) }
+/// Adds these rows, which are not more than 300.
+pub fn add_all(alloc: Global, live: &mut LiveTotals, rows: &[Row]) -> Result<(), Refusal>
+    requires { live.old.totals ≡ fin.empty }
+    ensures left { live.new.left ≡ live.old.left }
+    ensures few { OnOk result ((key : Option Key) → count_in (fin.get live.new.totals key) ≤ 300) }
 {
-    if pairs.len() > 300 {
+    if rows.len() > 300 {
         return Err(Refusal::OutOfRange);
     }
-    let mut live = LiveTotals::new(alloc, left);
-    for (key, value) in pairs {
-        live.add(key, value)?;
+    for (name, value) in rows {
+        live.add(key_of(alloc, *name)?, *value)?;
     }
-    Ok(live)
-}
-
-/// Live totals with the rows of a table in.
-fn totals_of(alloc: Global, left: u32, table: &[Row]) -> Result<LiveTotals, Refusal>
-    ensures left { IfOk result (λ live. live.left ≡ left) }
-    ensures few { IfOk result (λ live. (key : Option Key) → count_in (fin.get live.totals key) ≤ 300) }
-{
-    live_of(alloc, left, pairs(alloc, table)?)
+    Ok(())
 }
 
 /// The answer, at the second call where the first is refused.
@@ -41,27 +30,6 @@ pub fn answer(alloc: Global, live: &LiveTotals) -> Result<Answer, Refusal> {
     match live.answer(alloc) {
         Err(Refusal::NoMemory) => live.answer(alloc),
         reply => reply,
-    }
-}
-
-fn are_lines(lines: &[(Option<Key>, u64, i128)], table: &[Line]) -> bool {
-    if lines.len() != table.len() {
-        return false;
-    }
-    for i in 0..lines.len() {
-        let (key, count, sum) = &lines[i];
-        if !is_named(key, table[i].0) || *count != table[i].1 || *sum != table[i].2 {
-            return false;
-        }
-    }
-    true
-}
-
-/// Whether the answer has these lines.
-fn has_lines(alloc: Global, live: &LiveTotals, table: &[Line]) -> Result<bool, Refusal> {
-    match answer(alloc, live)? {
-        Answer::Totals(totals) => Ok(are_lines(totals.as_slice(), table)),
-        Answer::Extrema(_) => Ok(false),
     }
 }
 
@@ -79,10 +47,31 @@ pub fn merge(live: &mut LiveTotals, partial: &LiveTotals) -> Result<bool, Refusa
     Ok(true)
 }
 
+/// Merges rows to others. Says whether a refused call left what it found.
+pub fn merge_rows(
+    alloc: Global,
+    live: &mut LiveTotals,
+    partial: &mut LiveTotals,
+    here: &[Row],
+    there: &[Row],
+) -> Result<bool, Refusal>
+    requires left { live.old.left ≢ 0 }
+    requires empty { live.old.totals ≡ fin.empty }
+    requires empty_partial { partial.old.totals ≡ fin.empty }
+{
+    add_all(alloc, live, here)?;
+    add_all(alloc, partial, there)?;
+    merge(live, partial)
+}
+
+/// What is told while a row group is left.
+fn told_early(alloc: Global) -> Result<bool, Refusal> {
+    Lines::Totals(&[]).are_of(LiveTotals::new(alloc, 1).answer(alloc))
+}
+
 #[test]
 fn totals_are_told_once_their_row_groups_are_in(rt: HostRuntime) {
-    let told = LiveTotals::new(rt.alloc(), 1).answer(rt.alloc());
-    assert!(rt; matches!(&told, Err(Refusal::Building(1))));
+    assert!(rt; told_early(rt.alloc()) == Err(Refusal::Building(1)));
 }
 
 /// Rows that are in while one row group is left, the rows of that, and the lines of the answer to all.
@@ -90,18 +79,36 @@ struct Merged {
     name: &'static str,
     here: &'static [Row],
     there: &'static [Row],
-    lines: &'static [Line],
+    lines: &'static [(Name, u64, i128)],
     /// The count and the sum under no key.
     plain: (u64, i128),
 }
 
 impl Merged {
     /// Whether the answer has the lines once the row group is merged, and a refused call left what it found.
-    fn has_lines(&self, alloc: Global) -> Result<bool, Refusal> {
-        let mut live = totals_of(alloc, 1, self.here)?;
-        let kept = merge(&mut live, &totals_of(alloc, 0, self.there)?)?;
-        let all_in = live.left() == 0 && live.plain() == self.plain;
-        Ok(kept && all_in && has_lines(alloc, &live, self.lines)?)
+    fn is_told_by(
+        &self,
+        alloc: Global,
+        live: &mut LiveTotals,
+        partial: &mut LiveTotals,
+    ) -> Result<bool, Refusal>
+        requires left { live.old.left ≢ 0 }
+        requires empty { live.old.totals ≡ fin.empty }
+        requires empty_partial { partial.old.totals ≡ fin.empty }
+    {
+        let kept = merge_rows(alloc, live, partial, self.here, self.there)?;
+        if !kept || live.left() != 0 || live.plain() != self.plain {
+            return Ok(false);
+        }
+        Lines::Totals(self.lines).are_of(answer(alloc, live))
+    }
+
+    fn is_told(&self, alloc: Global) -> Result<bool, Refusal> {
+        self.is_told_by(
+            alloc,
+            &mut LiveTotals::new(alloc, 1),
+            &mut LiveTotals::new(alloc, 0),
+        )
     }
 }
 
@@ -156,28 +163,40 @@ static MERGES: [Merged; 3] = [
 fn merged_totals_have_the_lines_of_all_rows(rt: HostRuntime) {
     for case in &MERGES {
         let name = case.name;
-        assert!(rt; case.has_lines(rt.alloc()) == Ok(true), "{name}");
+        assert!(rt; case.is_told(rt.alloc()) == Ok(true), "{name}");
     }
 }
 
+static TWO_ROWS: [Row; 2] = [(Name::Nobody, 3), (Name::Nobody, 4)];
+
+static ONE_LEFT: Lines<'static> = Lines::Totals(&[(Name::Nobody, 1, 4)]);
+
 /// Whether two rows without key, of 3 and 4, are one of 4 once the other is taken.
-fn is_one_once_the_other_is_taken(alloc: Global) -> Result<bool, Refusal> {
-    let mut live = totals_of(alloc, 0, &[(Name::Nobody, 3), (Name::Nobody, 4)])?;
+fn is_one_once_the_other_is_taken(alloc: Global, live: &mut LiveTotals) -> Result<bool, Refusal>
+    requires { live.old.totals ≡ fin.empty }
+{
+    add_all(alloc, live, &TWO_ROWS)?;
     if live.plain() != (2, 7) {
         return Ok(false);
     }
     live.take(&None, 3);
-    Ok(live.plain() == (1, 4) && has_lines(alloc, &live, &[(Name::Nobody, 1, 4)])?)
+    if live.plain() != (1, 4) {
+        return Ok(false);
+    }
+    ONE_LEFT.are_of(answer(alloc, live))
 }
 
 #[test]
 fn a_row_is_taken(rt: HostRuntime) {
-    assert!(rt; is_one_once_the_other_is_taken(rt.alloc()) == Ok(true));
+    let alloc = rt.alloc();
+    assert!(rt; is_one_once_the_other_is_taken(alloc, &mut LiveTotals::new(alloc, 0)) == Ok(true));
 }
 
-static ONE_LINE: [Line; 1] = [(Name::Nobody, 1, 5)];
+static ONE_ROW: [Row; 1] = [(Name::Nobody, 5)];
 
-static TWO_LINES: [Line; 2] = [(Name::Nobody, 1, 5), (Name::Word("a"), 1, 3)];
+static ONE_LINE: Lines<'static> = Lines::Totals(&[(Name::Nobody, 1, 5)]);
+
+static TWO_LINES: Lines<'static> = Lines::Totals(&[(Name::Nobody, 1, 5), (Name::Word("a"), 1, 3)]);
 
 /// Adds a row under `a` beside the one row, a second time where the first call is refused. Says whether a refused call
 /// left the one line.
@@ -185,7 +204,7 @@ fn add_beside_one(alloc: Global, live: &mut LiveTotals, key: &Option<Key>) -> Re
     requires { count_in (fin.get live.old.totals key.now) < 2 ^ 26 }
 {
     if let Err(refusal) = live.add_under(key, 3) {
-        let kept = has_lines(alloc, live, &ONE_LINE)?;
+        let kept = ONE_LINE.are_of(answer(alloc, live))?;
         live.add_under(key, 3)?;
         return Ok(kept && refusal == Refusal::NoMemory);
     }
@@ -193,26 +212,37 @@ fn add_beside_one(alloc: Global, live: &mut LiveTotals, key: &Option<Key>) -> Re
 }
 
 /// Whether a row under `a` is in beside the one row once it is added.
-fn has_both_lines(alloc: Global) -> Result<bool, Refusal> {
-    let mut live = totals_of(alloc, 0, &[(Name::Nobody, 5)])?;
+fn has_both_lines(alloc: Global, live: &mut LiveTotals, key: &Option<Key>) -> Result<bool, Refusal>
+    requires { live.old.totals ≡ fin.empty }
+{
+    add_all(alloc, live, &ONE_ROW)?;
+    if !add_beside_one(alloc, live, key)? {
+        return Ok(false);
+    }
+    TWO_LINES.are_of(answer(alloc, live))
+}
+
+fn has_both_lines_in_the_end(alloc: Global) -> Result<bool, Refusal> {
     let key = key_of(alloc, Name::Word("a"))?;
-    let kept = add_beside_one(alloc, &mut live, &key)?;
-    Ok(kept && has_lines(alloc, &live, &TWO_LINES)?)
+    has_both_lines(alloc, &mut LiveTotals::new(alloc, 0), &key)
 }
 
 #[test]
 fn a_refused_row_is_not_in_and_is_accepted_again(rt: HostRuntime) {
-    assert!(rt; has_both_lines(rt.alloc()) == Ok(true));
+    assert!(rt; has_both_lines_in_the_end(rt.alloc()) == Ok(true));
 }
 
 /// The count and the sum of a row, and of three that the caller folded.
-fn folded(alloc: Global) -> Result<(u64, i128), Refusal> {
-    let mut live = totals_of(alloc, 0, &[(Name::Nobody, 5)])?;
+fn folded(alloc: Global, live: &mut LiveTotals) -> Result<(u64, i128), Refusal>
+    requires { live.old.totals ≡ fin.empty }
+{
+    add_all(alloc, live, &ONE_ROW)?;
     live.add_rows(None, 3, -6)?;
     Ok(live.plain())
 }
 
 #[test]
 fn rows_that_the_caller_folded_come_in_at_once(rt: HostRuntime) {
-    assert!(rt; folded(rt.alloc()) == Ok((4, -1)));
+    let alloc = rt.alloc();
+    assert!(rt; folded(alloc, &mut LiveTotals::new(alloc, 0)) == Ok((4, -1)));
 }

@@ -1,27 +1,14 @@
 // A row group that is folded, and the lines of its answer.
-ghost use Rattle.std.specs.Prelude.{◌<◌, ◌^◌, length, IsTrue};
+ghost use Rattle.std.specs.Prelude.{◌≡◌, ◌<◌, ◌^◌, length, All, IsTrue};
+ghost use Rattle.far_codec.specs.Lent.{IsForm};
 ghost use Rattle.far_codec.specs.TextForm.{IsTextsForm};
 
-use crate::offload::rows::{carried, form_of, put_ints, put_texts};
-use far_offload::{Column, PartialDone, fold};
-use far_store::FarStore;
-use far_types::{Answer, Filter, Fold, Key, Op, Refusal, Spec, Test, Text};
+use crate::lines::{Lines, text};
+use crate::offload::rows::{form_of, put_ints, put_texts};
+use far_offload::{Column, OffloadJob, PartialDone, fold};
+use far_store::{FarStore, Meter};
+use far_types::{Answer, Filter, Fold, Op, Refusal, Spec, Test};
 use std::alloc::Global;
-
-/// The key of a line.
-#[derive(Clone, Copy)]
-pub enum Name {
-    Nobody,
-    Number(i64),
-    Word(&'static str),
-}
-
-/// The lines of an answer.
-#[derive(Clone, Copy)]
-pub enum Lines {
-    Totals(&'static [(Name, u64, i128)]),
-    Extrema(&'static [(Name, i64, i64)]),
-}
 
 /// Which rows pass: by their number, or by their text.
 #[derive(Clone, Copy)]
@@ -46,67 +33,79 @@ pub struct Case {
     pub rows: RowGroup,
     pub key: Option<u32>,
     pub passing: Passing,
-    pub lines: Lines,
+    pub lines: Lines<'static>,
 }
 
-fn text(alloc: Global, word: &str) -> Result<Text, Refusal> {
-    Ok(Text::new(String::from_str(alloc, word)?))
-}
-
-pub fn key_of(alloc: Global, name: Name) -> Result<Option<Key>, Refusal> {
-    match name {
-        Name::Nobody => Ok(None),
-        Name::Number(number) => Ok(Some(Key::Int(number))),
-        Name::Word(word) => Ok(Some(Key::Text(text(alloc, word)?))),
-    }
-}
-
-fn test_of(alloc: Global, passing: Passing) -> Result<Option<Test>, Refusal> {
-    match passing {
-        Passing::All => Ok(None),
-        Passing::Number(op, value) => Ok(Some(Test::Int {
+fn tests_of(alloc: Global, passing: Passing) -> Result<Vec<Test>, Refusal> {
+    let test = match passing {
+        Passing::All => return Ok(Vec::new(alloc)),
+        Passing::Number(op, value) => Test::Int {
             column: 0,
             op,
             value,
-        })),
-        Passing::TextBegins(word) => Ok(Some(Test::TextBegins {
+        },
+        Passing::TextBegins(word) => Test::TextBegins {
             column: 1,
             text: text(alloc, word)?,
-        })),
-        Passing::TextIs(word) => Ok(Some(Test::TextIs {
+        },
+        Passing::TextIs(word) => Test::TextIs {
             column: 1,
             text: text(alloc, word)?,
-        })),
-    }
-}
-
-/// Lines with their keys.
-fn keyed<A: Copy, B: Copy>(
-    alloc: Global,
-    lines: &[(Name, A, B)],
-) -> Result<Vec<(Option<Key>, A, B)>, Refusal> {
-    let mut keyed = Vec::new(alloc);
-    for (name, a, b) in lines {
-        keyed.push((key_of(alloc, *name)?, *a, *b))?;
-    }
-    Ok(keyed)
-}
-
-/// Whether a partial aggregate has these lines.
-fn has_lines(alloc: Global, done: &PartialDone, lines: Lines) -> Result<bool, Refusal> {
-    let answer = match done {
-        PartialDone::Totals(live) => live.answer(alloc)?,
-        PartialDone::Extrema(seen) => seen.answer(alloc)?,
+        },
     };
-    match (&answer, lines) {
-        (Answer::Totals(totals), Lines::Totals(lines)) => {
-            Ok(totals.as_slice() == keyed(alloc, lines)?.as_slice())
-        }
-        (Answer::Extrema(extrema), Lines::Extrema(lines)) => {
-            Ok(extrema.as_slice() == keyed(alloc, lines)?.as_slice())
-        }
-        _ => Ok(false),
+    Ok(Vec::from_array(alloc, [test])?)
+}
+
+/// The answer of a partial aggregate, or the refusal in its place.
+pub fn answer_of(alloc: Global, done: Result<PartialDone, Refusal>) -> Result<Answer, Refusal> {
+    match &done {
+        Ok(PartialDone::Totals(live)) => live.answer(alloc),
+        Ok(PartialDone::Extrema(seen)) => seen.answer(alloc),
+        Err(refusal) => Err(*refusal),
     }
+}
+
+/// What was carried, or the refusal alone.
+fn without_job<D: Drop, J: Drop>(carried: Result<D, (Refusal, J)>) -> Result<D, Refusal> {
+    match carried {
+        Ok(done) => Ok(done),
+        Err((refusal, _)) => Err(refusal),
+    }
+}
+
+/// What a job comes to, at the second call where the first is refused, which is counted.
+fn carry_again<S: FarStore>(
+    alloc: Global,
+    store: &S,
+    job: OffloadJob<S>,
+    refused: &mut u64,
+) -> Result<PartialDone, Refusal>
+    requires here { All (λ ticket. S.is_of ticket.1 (S.name store.now)) job.tickets }
+    requires none { refused.old ≡ 0 }
+{
+    match job.carry(alloc, store, &mut Meter::new()) {
+        Ok(done) => Ok(done),
+        Err((_, job)) => {
+            *refused += 1;
+            without_job(job.carry(alloc, store, &mut Meter::new()))
+        }
+    }
+}
+
+/// Whether a job comes to these lines, once it was refused so often.
+fn comes_to<S: FarStore>(
+    alloc: Global,
+    store: &S,
+    job: OffloadJob<S>,
+    refused: u64,
+    lines: Lines<'_>,
+) -> Result<bool, Refusal>
+    requires { All (λ ticket. S.is_of ticket.1 (S.name store.now)) job.tickets }
+{
+    let mut met = 0;
+    let done = carry_again(alloc, store, job, &mut met);
+    let are_right = lines.are_of(answer_of(alloc, done));
+    if met == refused { are_right } else { Ok(false) }
 }
 
 /// The columns of a row group at hand: the numbers in a list and the texts in a form.
@@ -131,16 +130,35 @@ impl Case {
             Lines::Totals(_) => Fold::Totals,
             Lines::Extrema(_) => Fold::Extrema,
         };
-        let mut tests = Vec::new(alloc);
-        if let Some(test) = test_of(alloc, self.passing)? {
-            tests.push(test)?;
-        }
         Ok(Spec {
             fold,
             value: 0,
             key: self.key,
-            filter: Filter::new(tests),
+            filter: Filter::new(tests_of(alloc, self.passing)?),
         })
+    }
+
+    /// Whether a job over numbers, in column 0, and texts, in column 1, has the lines, once it was refused so often.
+    fn is_carried_over<S: FarStore>(
+        &self,
+        alloc: Global,
+        store: &S,
+        spec: Spec,
+        ints: S::Ticket,
+        texts: S::Ticket,
+        refused: u64,
+    ) -> Result<bool, Refusal>
+        requires ints { S.is_of ints (S.name store.now) }
+        requires ints_form { IsForm (S.content ints) }
+        requires texts { S.is_of texts (S.name store.now) }
+        requires texts_form { IsForm (S.content texts) }
+        requires alive { length self.now.rows.alive.now < 2 ^ 26 }
+    {
+        let mut tickets = Vec::new(alloc);
+        tickets.push((0, ints))?;
+        tickets.push((1, texts))?;
+        let job = OffloadJob::new(spec, tickets, Vec::from_slice(alloc, self.rows.alive)?);
+        comes_to(alloc, store, job, refused, self.lines)
     }
 
     /// Whether a job over the contents of the row group in a store has the lines, once it was refused so often.
@@ -156,8 +174,7 @@ impl Case {
         let ints = put_ints(alloc, store, self.rows.numbers)?;
         let texts = put_texts(alloc, store, self.rows.words)?;
         let spec = self.spec(alloc)?;
-        let (done, met) = carried(alloc, store, spec, ints, texts, self.rows.alive)?;
-        Ok(met == refused && has_lines(alloc, &done, self.lines)?)
+        self.is_carried_over(alloc, store, spec, ints, texts, refused)
     }
 
     /// Whether the row group with its columns at hand has the lines.
@@ -165,9 +182,10 @@ impl Case {
         if !self.rows.is_short() {
             return Ok(false);
         }
+        let spec = self.spec(alloc)?;
         let form = form_of(alloc, self.rows.words)?;
         let columns = columns(self.rows.numbers, &form);
-        let done = fold(alloc, &self.spec(alloc)?, &columns, self.rows.alive)?;
-        has_lines(alloc, &done, self.lines)
+        let done = fold(alloc, &spec, &columns, self.rows.alive);
+        self.lines.are_of(answer_of(alloc, done))
     }
 }
