@@ -1,5 +1,5 @@
 -- The records of a load, one after another.
-use Rattle.std.proofs.Common.{◌≡◌, ◌==◌, ◌+◌, ◌≤◌, ◌<◌, ℕ, zero, suc, Bool, true, false, List, [], ◌∷◌, length, append-nil, Option, None, Some, Result, Ok, Err, IfOk, OnOk, ◌∙◌, refl, sym, ap, subst, arith, ◌⊎◌, inl, inr, if◌then◌else◌}
+use Rattle.std.proofs.Common.{◌≡◌, ◌==◌, ◌+◌, ◌≤◌, ◌<◌, ℕ, zero, suc, Bool, true, false, List, [], ◌∷◌, length, append-nil, Option, None, Some, ◌∙◌, refl, sym, ap, subst, arith, ◌⊎◌, inl, inr, if◌then◌else◌}
 use Rattle.std.specs.Prelude.{◌||◌}
 use Rattle.csv.specs.Machine.{Read, next_record, step, is_end, in_field, start_field, start_record, ends_at_end, fields_after, field_after}
 use Rattle.csv.specs.Reading.{default_config, records, records_from, source_of, ReadRecord, Reached, Ready, reader_config, reader_state, reader_trim, took_first}
@@ -145,14 +145,6 @@ not-refused (reply.Ints copies) other ends goes h = h
 not-refused (reply.Texts copies) other ends goes h = h
 not-refused (reply.Job n) other ends goes h = h
 not-refused (reply.Next groups) other ends goes h = h
-
-pub each-ok : {T E : Type 0} (r : Result T E) (P Q : T → Type 0) → ((x : T) → P x → Q x) → IfOk r P → IfOk r Q
-each-ok (Ok x) P Q f h = f x h
-each-ok (Err e) P Q f h = tt
-
-pub on-ok : {T E : Type 0} (r : Result T E) (P Q : Type 0) → (P → Q) → OnOk r P → OnOk r Q
-on-ok (Ok x) P Q f h = f h
-on-ok (Err e) P Q f h = tt
 
 module _ {S K : Type 0} (tickets : Tickets S K) where
   -- what a load prints, from a record on

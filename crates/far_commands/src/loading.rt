@@ -1,5 +1,5 @@
 // The rows of a load.
-ghost use Rattle.std.specs.Prelude.{◌≡◌, ℕ, List, true, OnOk, IfErr, IfOk};
+ghost use Rattle.std.specs.Prelude.{◌≡◌, ℕ, List, [], ◌∷◌, true, false, OnOk, IfErr, IfOk};
 ghost use Rattle.std.specs.List.{slice_split};
 ghost use Rattle.csv.specs.Records.{fields_of};
 ghost use Rattle.far_frame.specs.Steps.{IsStep};
@@ -87,6 +87,18 @@ fn load_lines<S: FarStore>(
     })
 }
 
+/// The next record of a reader, and whether there was one. Refused with `NoMemory` (1) alone.
+fn read_next<R: Read>(reader: &mut Reader<R>, fields: &mut StringRecord) -> Result<bool, Refusal>
+    ensures none { IfOk result (λ found. found ≡ false → (rows : List (List (List ℕ))) → Remains R.remaining reader.old rows → rows ≡ []) }
+    ensures some { IfOk result (λ found. found ≡ true → (rows : List (List (List ℕ))) → Remains R.remaining reader.old rows → (more : List (List (List ℕ))) × (rows ≡ fields_of fields.new ∷ more) × Remains R.remaining reader.new more) }
+    ensures memory { IfErr result (λ e. e ≡ Refusal.NoMemory) }
+{
+    let Ok(found) = reader.read_record(fields) else {
+        return Err(Refusal::NoMemory);
+    };
+    Ok(found)
+}
+
 /// Inserts the records that a reader still has, up to the first that is refused. Refused with `NoMemory` (1) alone.
 ///
 /// The reader is lent, so that no way out of the loop drops it.
@@ -94,24 +106,20 @@ fn insert_records<S: FarStore, R: Read>(
     alloc: Global,
     world: &mut World<S>,
     reader: &mut Reader<R>,
+    fields: &mut StringRecord,
 ) -> Result<Loaded, Refusal>
     ensures ok { IfOk result (λ loaded. (rows : List (List (List ℕ))) → Remains R.remaining reader.old rows → Loads S.FarTickets 0 world.old rows (loaded_text loaded.count loaded.refusal) world.new) }
     ensures faults { world.new.faults ≡ world.old.faults }
     ensures memory { IfErr result (λ e. e ≡ Refusal.NoMemory) }
 {
-    let mut fields = StringRecord::new(alloc);
     for count in 0..MAX_BYTES {
-        match reader.read_record(&mut fields) {
-            Ok(true) => {}
-            Ok(false) => {
-                return Ok(Loaded {
-                    count: u64::from(count),
-                    refusal: None,
-                });
-            }
-            Err(_) => return Err(Refusal::NoMemory),
+        if !read_next(reader, fields)? {
+            return Ok(Loaded {
+                count: u64::from(count),
+                refusal: None,
+            });
         }
-        if let Reply::Refused(refusal) = insert_record(alloc, world, &fields)? {
+        if let Reply::Refused(refusal) = insert_record(alloc, world, fields)? {
             return Ok(Loaded {
                 count: u64::from(count),
                 refusal: Some(refusal),
@@ -137,7 +145,8 @@ fn load_records<S: FarStore>(
         .has_headers(false)
         .flexible(true)
         .from_reader(alloc, text.as_bytes());
-    insert_records(alloc, world, &mut reader)
+    let mut fields = StringRecord::new(alloc);
+    insert_records(alloc, world, &mut reader, &mut fields)
 }
 
 /// Inserts the records of a text in order, up to the first that is refused. Refused with `NoMemory` (1) alone.
