@@ -1,9 +1,10 @@
 -- What is printed of an answer that a fault ends.
-use Rattle.std.proofs.Common.{◌≡◌, ℕ, inl, inr, List, [], ◌∷◌, ◌++◌, length, take, Option, refl, ap, subst}
+use Rattle.std.proofs.Common.{◌≡◌, ℕ, inl, inr, List, [], ◌∷◌, ◌++◌, length, take, append-nil, Option, Result, Ok, Err, IfErr, OnErr, ◌∙◌, refl, sym, ap, subst}
 use Rattle.far_script.specs.declared.fault.ShellFault.{ShellFault}
 use Rattle.far_script.specs.declared.fault.ShellFault.TheVariants as fault
+use Rattle.far_script.specs.Faults.{IfInput}
 use Rattle.far_script.specs.Flow.{Prints}
-use Rattle.far_script.proofs.FlowLaws.{prints-nothing-then}
+use Rattle.far_script.proofs.FlowLaws.{prints, prints-nothing-then}
 use Rattle.far_commands.specs.Cuts.{CutOff, IsFront, PrintsCut}
 
 -- nothing was printed
@@ -38,6 +39,17 @@ prints-cut-none why answer u v held left other apart p = ([], p, cut-none why an
 pub prints-cut-more : (why : ShellFault) (a b : List ℕ → Type 0) (u v w : Option (List ℕ)) (held mid left : List ℕ) → ((said : List ℕ) → a said → b said) → Prints u held [] v mid
     → PrintsCut why a v mid w left → PrintsCut why b u held w left
 prints-cut-more why a b u v w held mid left f p q = (q.0, prints-nothing-then u v w held mid q.0 left p q.1, cut-more why a b q.0 f q.2)
+
+-- memory is wanted, and nothing was printed
+pub printed-err : {T : Type 0} (r : Result T ShellFault) (answer : List ℕ → Type 0) (u : Option (List ℕ)) (held left : List ℕ) → IfErr r (λ why. why ≡ fault.Memory) → OnErr r (left ≡ held)
+    → IfErr r (λ why. PrintsCut why answer u held u left)
+printed-err (Ok x) answer u held left is same = tt
+printed-err (Err why) answer u held left is same = ([], prints u held [] left (same ∙ sym (append-nil held)), rw is (inl refl))
+
+-- it is no fault of the input
+pub no-input : {T : Type 0} (r : Result T ShellFault) (P : Type 0) → IfErr r (λ why. why ≡ fault.Memory) → IfErr r (λ why. IfInput why P)
+no-input (Ok x) P is = tt
+no-input (Err why) P is = rw is tt
 
 take-all : (xs ys : List ℕ) → take (length xs) (xs ++ ys) ≡ xs
 take-all [] [] = refl

@@ -1,3 +1,4 @@
+pub mod ResultLaws
 pub mod PlainLaws
 pub mod LineLaws
 pub mod CutLaws

@@ -1,5 +1,5 @@
 -- The records of a load, one after another.
-use Rattle.std.proofs.Common.{◌≡◌, ◌==◌, ◌+◌, ◌≤◌, ◌<◌, ℕ, zero, suc, Bool, true, false, List, [], ◌∷◌, ◌++◌, length, Option, None, Some, ◌∙◌, refl, sym, ap, subst, arith, ◌⊎◌, inl, inr, if◌then◌else◌}
+use Rattle.std.proofs.Common.{◌≡◌, ◌==◌, ◌+◌, ◌≤◌, ◌<◌, ℕ, zero, suc, Bool, true, false, List, [], ◌∷◌, length, append-nil, Option, None, Some, ◌∙◌, refl, sym, ap, subst, arith, ◌⊎◌, inl, inr, if◌then◌else◌}
 use Rattle.std.specs.Prelude.{◌||◌}
 use Rattle.csv.specs.Machine.{Read, next_record, step, is_end, in_field, start_field, start_record, ends_at_end, fields_after, field_after}
 use Rattle.csv.specs.Reading.{default_config, records, records_from, source_of, ReadRecord, Reached, Ready, reader_config, reader_state, reader_trim, took_first}
@@ -17,7 +17,8 @@ use Rattle.far_types.specs.declared.refusal.Refusal.{Refusal}
 use Rattle.far_frame.specs.Steps.{IsStep}
 use Rattle.far_frame.specs.Worlds.{World}
 use Rattle.std.specs.Prelude.{codes}
-use Rattle.far_script.specs.Printing.{numbered_text, refusal_text}
+use Rattle.far_script.specs.Printing.{numbered_text}
+use Rattle.far_commands.specs.Loading.{Remains, loaded_text}
 use Rattle.far_commands.specs.Replies.{AfterReply, Loads, insert_of_record}
 
 -- where a record ended, no other is begun
@@ -79,18 +80,6 @@ shorter s (c ∷ rest) p none h = elim (read-or (is_end (step default_config s c
   | inl w ↦ rw w.1 (omega arith)
   | inr w ↦ let m = goes-on (step default_config s c).0 (fields_after (step default_config s c).1 [] []) (field_after (step default_config s c).1 c []) rest p w in omega (arith, m.0)
 ]
-
--- these are the records that a reader still has
-pub record Remains {R : Type 0} (rem : R → Option (List ℕ)) (reader : Reader R) (rows : List (List (List ℕ))) : Type 0 where
-  pub fuel : ℕ
-  pub rest : List ℕ
-  pub source : source_of rem reader ≡ Some rest
-  pub enough : length rest < fuel
-  pub between : ends_at_end (reader_state reader) ≡ false
-  pub all : rows ≡ records_from default_config fuel (reader_state reader) rest
-  pub untrimmed : reader_trim reader ≡ trim.None
-  pub ready : Ready reader
-  pub config : reader_config reader ≡ default_config
 
 pub remains-first : {R : Type 0} (rem : R → Option (List ℕ)) (reader : Reader R) (text : List ℕ) → source_of rem reader ≡ Some text → reader_state reader ≡ st.StartRecord
     → reader_trim reader ≡ trim.None → Ready reader → reader_config reader ≡ default_config → Remains rem reader (records default_config text)
@@ -162,13 +151,12 @@ module _ {S K : Type 0} (tickets : Tickets S K) where
   abbrev pub GoesTo : World K → List (List (List ℕ)) → ℕ → World K → List (List (List ℕ)) → Type 0
   GoesTo old all count at rows = (said : List ℕ) (new : World K) → Loads tickets count at rows said new → Loads tickets 0 old all said new
 
-  pub loads-none : (old at : World K) (count : ℕ) (said : List ℕ) (all rows : List (List (List ℕ))) → GoesTo old all count at rows → rows ≡ []
-      → said ≡ numbered_text (codes "loaded") count → Loads tickets 0 old all said at
-  loads-none old at count said all rows go none is = go said at (rw none (refl, is))
+  pub loads-none : (old at : World K) (count : ℕ) (all rows : List (List (List ℕ))) → GoesTo old all count at rows → rows ≡ [] → Loads tickets 0 old all (loaded_text count None) at
+  loads-none old at count all rows go none = go (loaded_text count None) at (rw none (refl, append-nil (numbered_text (codes "loaded") count)))
 
-  pub loads-refused : (old at new : World K) (count : ℕ) (said : List ℕ) (all rows more : List (List (List ℕ))) (fields : List (List ℕ)) (refusal : Refusal) → GoesTo old all count at rows → rows ≡ fields ∷ more
-      → IsStep tickets.content tickets.number_of at (insert_of_record at.state.table.schema fields) (reply.Refused refusal) new → said ≡ numbered_text (codes "loaded") count ++ refusal_text refusal → Loads tickets 0 old all said new
-  loads-refused old at new count said all rows more fields refusal go some taken is = go said new (rw some (reply.Refused refusal, new, taken, (refl, is)))
+  pub loads-refused : (old at new : World K) (count : ℕ) (all rows more : List (List (List ℕ))) (fields : List (List ℕ)) (refusal : Refusal) → GoesTo old all count at rows → rows ≡ fields ∷ more
+      → IsStep tickets.content tickets.number_of at (insert_of_record at.state.table.schema fields) (reply.Refused refusal) new → Loads tickets 0 old all (loaded_text count (Some refusal)) new
+  loads-refused old at new count all rows more fields refusal go some taken = go (loaded_text count (Some refusal)) new (rw some (reply.Refused refusal, new, taken, (refl, refl)))
 
   pub loads-more : (old at mid : World K) (count : ℕ) (all rows more : List (List (List ℕ))) (fields : List (List ℕ)) (given : Reply) → GoesTo old all count at rows → rows ≡ fields ∷ more
       → IsStep tickets.content tickets.number_of at (insert_of_record at.state.table.schema fields) given mid → ((refusal : Refusal) → given ≡ reply.Refused refusal → ⊥) → GoesTo old all (count + 1) mid more

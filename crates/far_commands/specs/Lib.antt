@@ -5,5 +5,6 @@ pub mod Replies
 pub mod Tables
 pub mod Cuts
 pub mod Listings
+pub mod Loading
 pub mod Pieces
 pub mod Progress

@@ -1,10 +1,10 @@
 // Parts of columns, printed where they lie.
-ghost use Rattle.std.specs.Prelude.{◌≡◌, ◌++◌, true, map, slice_range, OnOk, IfOk, IfErr};
+ghost use Rattle.std.specs.Prelude.{◌≡◌, [], ◌∷◌, ◌++◌, true, false, map, slice_range, OnOk, IfOk, IfErr};
 ghost use Rattle.csv.specs.Writing.{default_writer, fields_text};
-ghost use Rattle.far_types.specs.Lent.{text_cell};
+ghost use Rattle.far_types.specs.Lent.{lent_cell, text_cell};
 ghost use Rattle.far_types.specs.Table.{part};
 ghost use Rattle.far_frame.specs.Lending.{flags_of, lent_part};
-ghost use Rattle.far_commands.specs.Listings.{cell_text, row_line};
+ghost use Rattle.far_commands.specs.Listings.{cell_text, field_in_record, row_line};
 ghost use Rattle.far_commands.specs.Pieces.{flag_text, piece_text, pieces_text};
 ghost use Rattle.far_script.specs.Printing.{texts_of};
 
@@ -67,6 +67,17 @@ fn more_texts<S: FarTickets>(page: &mut Page, texts: &mut TextCells<'_, S>) -> R
     Ok(())
 }
 
+/// The first two fields of a row of several. It is built into its caller, which knows what kind of cells it lends.
+#[inline(always)]
+fn two_fields(page: &mut Page, first: CellRef, second: CellRef) -> Result<(), Refusal>
+    ensures ok { OnOk result (page.new ≡ ((page.old ++ field_in_record false (cell_text (lent_cell first.entry))) ++ 44 ∷ []) ++ field_in_record false (cell_text (lent_cell second.entry))) }
+    ensures memory { IfErr result (λ e. e ≡ Refusal.NoMemory) }
+{
+    cell(page, false, first)?;
+    page.byte(b',')?;
+    cell(page, false, second)
+}
+
 /// Texts as a row, with the end of its line.
 fn text_row<S: FarTickets>(page: &mut Page, texts: &mut TextCells<'_, S>) -> Result<(), Refusal>
     ensures ok { OnOk result (page.new ≡ page.old ++ row_line (map (λ it. text_cell it.0) texts.old)) }
@@ -79,9 +90,11 @@ fn text_row<S: FarTickets>(page: &mut Page, texts: &mut TextCells<'_, S>) -> Res
         cell(page, true, CellRef::of_text(first.text))?;
         return page.text("\n");
     };
-    cell(page, false, CellRef::of_text(first.text))?;
-    page.byte(b',')?;
-    cell(page, false, CellRef::of_text(second.text))?;
+    two_fields(
+        page,
+        CellRef::of_text(first.text),
+        CellRef::of_text(second.text),
+    )?;
     more_texts(page, texts)?;
     page.text("\n")
 }

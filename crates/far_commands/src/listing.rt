@@ -7,7 +7,7 @@ ghost use Rattle.far_types.specs.Table.{rows_of};
 ghost use Rattle.far_frame.specs.State.{live};
 ghost use Rattle.far_commands.specs.Cuts.{PrintsCut};
 ghost use Rattle.far_script.specs.Flow.{Prints};
-ghost use Rattle.far_commands.specs.Listings.{cell_text, dump_text, field_in_record, is_live, listing_of, row_line};
+ghost use Rattle.far_commands.specs.Listings.{cell_text, cells_at, dump_text, field_in_record, is_live, listing_of, row_line};
 
 use far_frame::{Frame, View};
 use far_rows::RowRef;
@@ -85,6 +85,18 @@ fn print_row<S: FarTickets>(page: &mut Page, row: &RowRef<'_, S>) -> Result<(), 
     Ok(())
 }
 
+/// The row of a place as a line.
+fn print_place<S: FarTickets>(
+    page: &mut Page,
+    view: &View<'_, S>,
+    place: u32,
+) -> Result<(), Refusal>
+    ensures ok { OnOk result (page.new ≡ page.old ++ row_line (cells_at place view.now.table.places)) }
+{
+    let cells = view.row_ref(place)?;
+    print_row(page, &cells)
+}
+
 /// Whether there is a row at a place.
 fn is_live<S: FarTickets>(view: &View<'_, S>, place: u32) -> bool
     ensures { result ≡ is_live place view.now.table.places }
@@ -139,8 +151,7 @@ fn dump_rows<S: FarTickets, W: Write>(
     numbered(&mut output.reply, "rows", live_rows(frame))?;
     for place in 0..frame.places() {
         if is_live(&view, place) {
-            let cells = view.row_ref(place)?;
-            print_row(&mut output.reply, &cells)?;
+            print_place(&mut output.reply, &view, place)?;
             add_if_long(output, writer)?;
         }
     }

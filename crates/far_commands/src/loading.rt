@@ -1,13 +1,14 @@
 // The rows of a load.
-ghost use Rattle.std.specs.Prelude.{◌≡◌, true, OnOk, IfErr, IfOk};
+ghost use Rattle.std.specs.Prelude.{◌≡◌, ℕ, List, [], ◌∷◌, true, false, OnOk, IfErr, IfOk};
 ghost use Rattle.std.specs.List.{slice_split};
 ghost use Rattle.csv.specs.Records.{fields_of};
 ghost use Rattle.far_frame.specs.Steps.{IsStep};
 ghost use Rattle.far_script.specs.OneRecord.{is_comma};
 ghost use Rattle.far_script.specs.PlainLines.{are_plain_lines};
+ghost use Rattle.far_commands.specs.Loading.{Remains, loaded_text};
 ghost use Rattle.far_commands.specs.Replies.{Loads, insert_of_record, records_of};
 
-use csv::{ReaderBuilder, StringRecord};
+use csv::{Reader, ReaderBuilder, StringRecord};
 use far_frame::{Reply, World};
 use far_script::Page;
 use far_script::bounded::MAX_BYTES;
@@ -17,6 +18,14 @@ use far_script::print::{numbered, refused};
 use far_store::FarStore;
 use far_types::{Edit, Refusal, Row};
 use std::alloc::Global;
+use std::io::Read;
+
+/// How a load ended: how many rows were inserted, and what the next one was refused with, if one was.
+#[derive(Drop)]
+struct Loaded {
+    count: u64,
+    refusal: Option<Refusal>,
+}
 
 /// Inserts the fields of a record as a row. Refused with `NoMemory` (1) alone, where the insert was not taken.
 fn insert_record<S: FarStore>(
@@ -46,19 +55,17 @@ fn insert_line<S: FarStore>(
     Ok(world.edit(Edit::Insert(Row::new(cells))))
 }
 
-/// The same as `load` of a text whose records are its lines that are not empty.
+/// Inserts the lines of a text that are not empty, up to the first that is refused. Refused with `NoMemory` (1) alone.
 fn load_lines<S: FarStore>(
     alloc: Global,
     world: &mut World<S>,
     text: &str,
-    reply: &mut Page,
-) -> Result<(), Refusal>
+) -> Result<Loaded, Refusal>
     requires { are_plain_lines text.now ≡ true }
-    ensures ok { OnOk result (Loads S.FarTickets 0 world.old (records_of text.now) reply.new world.new) }
+    ensures ok { IfOk result (λ loaded. Loads S.FarTickets 0 world.old (records_of text.now) (loaded_text loaded.count loaded.refusal) world.new) }
     ensures faults { world.new.faults ≡ world.old.faults }
     ensures memory { IfErr result (λ e. e ≡ Refusal.NoMemory) }
 {
-    reply.truncate(0);
     let mut rest = text;
     let mut count = 0u64;
     while !rest.is_empty() {
@@ -66,51 +73,110 @@ fn load_lines<S: FarStore>(
         rest = behind;
         if !line.is_empty() {
             if let Reply::Refused(refusal) = insert_line(alloc, world, line)? {
-                numbered(reply, "loaded", count)?;
-                refused(reply, &refusal)?;
-                return Ok(());
+                return Ok(Loaded {
+                    count,
+                    refusal: Some(refusal),
+                });
             }
             count += 1;
         }
     }
-    numbered(reply, "loaded", count)?;
-    Ok(())
+    Ok(Loaded {
+        count,
+        refusal: None,
+    })
 }
 
-/// The same as `load`, by the csv reader. It stands apart, since the reader has a large frame, which each command would pay for.
+/// The next record of a reader, and whether there was one. Refused with `NoMemory` (1) alone.
+fn read_next<R: Read>(reader: &mut Reader<R>, fields: &mut StringRecord) -> Result<bool, Refusal>
+    ensures none { IfOk result (λ found. found ≡ false → (rows : List (List (List ℕ))) → Remains R.remaining reader.old rows → rows ≡ []) }
+    ensures some { IfOk result (λ found. found ≡ true → (rows : List (List (List ℕ))) → Remains R.remaining reader.old rows → (more : List (List (List ℕ))) × (rows ≡ fields_of fields.new ∷ more) × Remains R.remaining reader.new more) }
+    ensures memory { IfErr result (λ e. e ≡ Refusal.NoMemory) }
+{
+    let Ok(found) = reader.read_record(fields) else {
+        return Err(Refusal::NoMemory);
+    };
+    Ok(found)
+}
+
+/// Inserts the records that a reader still has, up to the first that is refused. Refused with `NoMemory` (1) alone.
+///
+/// The reader is lent, so that no way out of the loop drops it.
+fn insert_records<S: FarStore, R: Read>(
+    alloc: Global,
+    world: &mut World<S>,
+    reader: &mut Reader<R>,
+    fields: &mut StringRecord,
+) -> Result<Loaded, Refusal>
+    ensures ok { IfOk result (λ loaded. (rows : List (List (List ℕ))) → Remains R.remaining reader.old rows → Loads S.FarTickets 0 world.old rows (loaded_text loaded.count loaded.refusal) world.new) }
+    ensures faults { world.new.faults ≡ world.old.faults }
+    ensures memory { IfErr result (λ e. e ≡ Refusal.NoMemory) }
+{
+    for count in 0..MAX_BYTES {
+        if !read_next(reader, fields)? {
+            return Ok(Loaded {
+                count: u64::from(count),
+                refusal: None,
+            });
+        }
+        if let Reply::Refused(refusal) = insert_record(alloc, world, fields)? {
+            return Ok(Loaded {
+                count: u64::from(count),
+                refusal: Some(refusal),
+            });
+        }
+    }
+    Err(Refusal::NoMemory)
+}
+
+/// Inserts the records of a text by the csv reader. It stands apart, since the reader has a large frame, which each command would pay
+/// for.
 #[inline(never)]
 fn load_records<S: FarStore>(
     alloc: Global,
     world: &mut World<S>,
     text: &str,
-    reply: &mut Page,
-) -> Result<(), Refusal>
-    ensures ok { OnOk result (Loads S.FarTickets 0 world.old (records_of text.now) reply.new world.new) }
+) -> Result<Loaded, Refusal>
+    ensures ok { IfOk result (λ loaded. Loads S.FarTickets 0 world.old (records_of text.now) (loaded_text loaded.count loaded.refusal) world.new) }
     ensures faults { world.new.faults ≡ world.old.faults }
     ensures memory { IfErr result (λ e. e ≡ Refusal.NoMemory) }
 {
-    reply.truncate(0);
     let mut reader = ReaderBuilder::new()
         .has_headers(false)
         .flexible(true)
         .from_reader(alloc, text.as_bytes());
     let mut fields = StringRecord::new(alloc);
-    for count in 0..MAX_BYTES {
-        match reader.read_record(&mut fields) {
-            Ok(true) => {}
-            Ok(false) => {
-                numbered(reply, "loaded", u64::from(count))?;
-                return Ok(());
-            }
-            Err(_) => return Err(Refusal::NoMemory),
-        }
-        if let Reply::Refused(refusal) = insert_record(alloc, world, &fields)? {
-            numbered(reply, "loaded", u64::from(count))?;
-            refused(reply, &refusal)?;
-            return Ok(());
-        }
+    insert_records(alloc, world, &mut reader, &mut fields)
+}
+
+/// Inserts the records of a text in order, up to the first that is refused. Refused with `NoMemory` (1) alone.
+fn insert_all<S: FarStore>(
+    alloc: Global,
+    world: &mut World<S>,
+    text: &str,
+) -> Result<Loaded, Refusal>
+    ensures ok { IfOk result (λ loaded. Loads S.FarTickets 0 world.old (records_of text.now) (loaded_text loaded.count loaded.refusal) world.new) }
+    ensures faults { world.new.faults ≡ world.old.faults }
+    ensures memory { IfErr result (λ e. e ≡ Refusal.NoMemory) }
+{
+    if are_plain_lines(text) {
+        load_lines(alloc, world, text)
+    } else {
+        load_records(alloc, world, text)
     }
-    Err(Refusal::NoMemory)
+}
+
+/// Makes a page `loaded COUNT` and the refusal, if there is one.
+fn print_loaded(reply: &mut Page, loaded: &Loaded) -> Result<(), Refusal>
+    ensures ok { OnOk result (reply.new ≡ loaded_text loaded.now.count loaded.now.refusal) }
+    ensures memory { IfErr result (λ e. e ≡ Refusal.NoMemory) }
+{
+    reply.truncate(0);
+    numbered(reply, "loaded", loaded.count)?;
+    match &loaded.refusal {
+        Some(refusal) => refused(reply, refusal),
+        None => Ok(()),
+    }
 }
 
 /// Inserts the records of a text in order, up to the first that is refused, and prints `loaded COUNT` and the refusal, if
@@ -125,9 +191,6 @@ pub fn load<S: FarStore>(
     ensures faults { world.new.faults ≡ world.old.faults }
     ensures memory { IfErr result (λ e. e ≡ Refusal.NoMemory) }
 {
-    if are_plain_lines(text) {
-        load_lines(alloc, world, text, reply)
-    } else {
-        load_records(alloc, world, text, reply)
-    }
+    let loaded = insert_all(alloc, world, text)?;
+    print_loaded(reply, &loaded)
 }

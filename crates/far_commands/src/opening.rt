@@ -21,8 +21,5 @@ pub fn open_table<S: FarStore>(
 {
     let schema = Schema::new(opening.kinds)?;
     let frame = Frame::open(alloc, schema, opening.limits, 0)?;
-    let Ok(world) = World::new(alloc, frame, store) else {
-        unreachable!()
-    };
-    Ok(world)
+    Ok(World::new(alloc, frame, store).unwrap())
 }

@@ -1,5 +1,5 @@
 // A table that goes on with a new store.
-ghost use Rattle.std.specs.Prelude.{◌≡◌, ◌++◌, ◌+◌, ◌≤◌, ◌<◌, ◌^◌, OnOk, IfErr};
+ghost use Rattle.std.specs.Prelude.{◌≡◌, ◌++◌, ◌+◌, ◌≤◌, ◌<◌, ◌^◌, OnOk, IfErr, IsErrAnd, IsOkAnd};
 ghost use Rattle.far_frame.specs.Renewing.{IsMigratedTo};
 ghost use Rattle.far_commands.specs.Renewals.{IsRenewed, IsNotRenewed, Renews};
 
@@ -40,23 +40,33 @@ fn stand_in<S: FarStore, A: Resources<S>>(resources: &A) -> Result<World<S>, Ref
     }
 }
 
+/// Puts what moved in a place, or what came back where it was refused.
+///
+/// It knows nothing of what that is: to take a table out of a result costs the proof of a function minutes, and here it costs none.
+fn put_back<T: Drop>(place: &mut T, moved: Result<T, (Refusal, T)>) -> Result<(), Refusal>
+    ensures moved { OnOk result (IsOkAnd moved (λ new. place.new ≡ new)) }
+    ensures back { IfErr result (λ e. IsErrAnd moved (λ back. (back.0 ≡ e) × (place.new ≡ back.1))) }
+{
+    match moved {
+        Ok(new) => {
+            *place = new;
+            Ok(())
+        }
+        Err((refusal, back)) => {
+            *place = back;
+            Err(refusal)
+        }
+    }
+}
+
 /// Moves a table to a store. Refused as `World::migrate` is; then the table is moved back, jobs included, but for its count of faults.
 fn migrate<S: FarStore>(world: &mut World<S>, empty: World<S>, store: S) -> Result<(), Refusal>
     requires few { world.old.faults < 2 ^ 62 }
     ensures renewed { OnOk result (IsMigratedTo S.content S.content (S.name store) world.old world.new) }
     ensures back { IfErr result (λ e. IsNotRenewed world.old e world.new) }
 {
-    let moved = mem::replace(world, empty);
-    match moved.migrate(store) {
-        Ok(new) => {
-            *world = new;
-            Ok(())
-        }
-        Err((refusal, back)) => {
-            *world = back;
-            Err(refusal)
-        }
-    }
+    let old = mem::replace(world, empty);
+    put_back(world, old.migrate(store))
 }
 
 /// The same table with its far copies in a new store of this capacity. Refused as `World::migrate` is, and with `NoMemory` (1) where

@@ -1,5 +1,5 @@
 // Lines as commands, and their answers.
-ghost use Rattle.std.specs.Prelude.{◌≡◌, ℕ, List, [], ◌++◌, ◌+◌, ◌≤◌, ◌<◌, ◌^◌, true, false, codes, IfOk, IfErr, OnOk, OnErr, Some};
+ghost use Rattle.std.specs.Prelude.{◌≡◌, ℕ, List, [], ◌++◌, ◌+◌, ◌≤◌, ◌<◌, ◌^◌, true, false, codes, IfOk, IfErr, IsOk, OnOk, OnErr, Some};
 ghost use Rattle.far_frame.specs.declared.step.Reply.{Reply};
 ghost use Rattle.far_frame.specs.State.{live};
 ghost use Rattle.far_commands.specs.Cuts.{Fails, FailsBy, Lists, PrintsCut};
@@ -23,6 +23,7 @@ use far_script::print::{answer, numbered, refused};
 use far_script::{Input, Output, Page, ShellFault, Span};
 use far_store::FarStore;
 use far_types::Refusal;
+use std::alloc::Global;
 use std::io::{Read, Write};
 
 /// What a step is answered that is done and has nothing to say.
@@ -79,6 +80,27 @@ fn take_lending<S: FarStore>(
     }
 }
 
+/// Takes the step that lends a part of a column, and prints its reply.
+fn take_lend<S: FarStore>(
+    world: &mut World<S>,
+    column: u32,
+    from: u32,
+    to: u32,
+    reply: &mut Page,
+) -> Result<(), Refusal>
+    requires few { world.old.faults < 2 ^ 62 }
+    ensures ok { OnOk result (Takes S.FarTickets world.old (Step.Lend column from to) reply.new world.new) }
+    ensures faults { world.new.faults ≤ world.old.faults + 1 }
+    ensures memory { IfErr result (λ e. e ≡ Refusal.NoMemory) }
+{
+    if take_lending(world, column, from, to, reply)? {
+        return Ok(());
+    }
+    // What cannot be lent is refused by the step itself.
+    let given = world.serve(Step::Lend { column, from, to });
+    print_reply(reply, "ok\n", &given)
+}
+
 /// Takes a step, and prints its reply. An edit, which most steps are, takes the shorter way to the table.
 fn take_step<S: FarStore>(world: &mut World<S>, step: Step, reply: &mut Page) -> Result<(), Refusal>
     requires few { world.old.faults < 2 ^ 62 }
@@ -91,20 +113,50 @@ fn take_step<S: FarStore>(world: &mut World<S>, step: Step, reply: &mut Page) ->
             let given = world.edit(edit);
             print_reply(reply, "ok\n", &given)
         }
-        Step::Lend { column, from, to } => {
-            if take_lending(world, column, from, to, reply)? {
-                return Ok(());
-            }
-            // What cannot be lent is refused by the step itself.
-            let given = world.serve(Step::Lend { column, from, to });
-            print_reply(reply, "ok\n", &given)
-        }
+        Step::Lend { column, from, to } => take_lend(world, column, from, to, reply),
         other => {
             let done = done(&other);
             let given = world.serve(other);
             print_reply(reply, done, &given)
         }
     }
+}
+
+/// Adds the reply at hand, if it was printed. It is built into its callers, since each step ends with it.
+#[inline(always)]
+fn add_printed(printed: Result<(), Refusal>, output: &mut Output) -> Result<(), ShellFault>
+    ensures printed { OnOk result (IsOk printed) }
+    ensures ok { OnOk result (output.new.page ≡ output.old.page ++ output.old.reply) }
+    ensures err { OnErr result (output.new.page ≡ output.old.page) }
+    ensures memory { IfErr result (λ fault. fault ≡ ShellFault.Memory) }
+{
+    if printed.is_err() {
+        return Err(ShellFault::Memory);
+    }
+    match output.add() {
+        Ok(()) => Ok(()),
+        Err(_) => Err(ShellFault::Memory),
+    }
+}
+
+/// Loads the rows behind a line, which have this many bytes, and prints the reply.
+fn serve_load<S: FarStore, R: Read + Drop, W: Write>(
+    alloc: Global,
+    world: &mut World<S>,
+    count: u32,
+    input: &mut Input<R>,
+    output: &mut Output,
+    writer: &mut W,
+) -> Result<(), ShellFault>
+    ensures ok { OnOk result ((rows : List ℕ) × (text : List ℕ) × Reads R.Read input.old rows input.new × Prints (W.contents writer.old) output.old.page text (W.contents writer.new) output.new.page × Serves S.FarTickets world.old (Command.Load count) rows text world.new) }
+    ensures err { IfErr result (λ fault. PrintsCut fault (λ said. ⊥) (W.contents writer.old) output.old.page (W.contents writer.new) output.new.page) }
+    ensures stopped { IfErr result (λ fault. IfInput fault (Stops R.Read (λ behind. FailsBy (Some (Command.Load count)) behind) input.old input.new)) }
+    ensures faults { world.new.faults ≡ world.old.faults }
+    ensures asked { input.new.source.reads ≤ input.old.source.reads }
+{
+    let rows = input.bytes(output, writer, count as usize)?;
+    let printed = load(alloc, world, input.text(rows)?, &mut output.reply);
+    add_printed(printed, output)
 }
 
 /// Serves a command, with the bytes behind its line that belong to it, and prints its reply.
@@ -125,46 +177,31 @@ fn serve_command<S: FarStore, A: Resources<S>, R: Read + Drop, W: Write>(
 {
     match command {
         Command::Step(step) => {
-            take_step(world, step, &mut output.reply)?;
-            output.add()?;
-            Ok(())
+            let printed = take_step(world, step, &mut output.reply);
+            add_printed(printed, output)
         }
-        Command::Load(count) => {
-            let rows = input.bytes(output, writer, count as usize)?;
-            load(
-                resources.alloc(),
-                world,
-                input.text(rows)?,
-                &mut output.reply,
-            )?;
-            output.add()?;
-            Ok(())
-        }
-        Command::Dump => {
-            dump(world.frame(), output, writer)?;
-            Ok(())
-        }
+        Command::Load(count) => serve_load(resources.alloc(), world, count, input, output, writer),
+        Command::Dump => dump(world.frame(), output, writer),
         Command::Renew(capacity) => {
-            renew(resources, world, capacity, &mut output.reply)?;
-            output.add()?;
-            Ok(())
+            let printed = renew(resources, world, capacity, &mut output.reply);
+            add_printed(printed, output)
         }
         Command::Recount(aggregate) => {
-            recount(resources, world, aggregate, &mut output.reply)?;
-            output.add()?;
-            Ok(())
+            let printed = recount(resources, world, aggregate, &mut output.reply);
+            add_printed(printed, output)
         }
     }
 }
 
 /// Prints `syntax command NUMBER`, the reply to a line that is no command.
-fn print_syntax(output: &mut Output, number: u32) -> Result<(), Refusal>
+fn print_syntax(output: &mut Output, number: u32) -> Result<(), ShellFault>
     ensures ok { OnOk result (output.new.page ≡ output.old.page ++ numbered_text (codes "syntax command") number) }
     ensures err { OnErr result (output.new.page ≡ output.old.page) }
+    ensures memory { IfErr result (λ fault. fault ≡ ShellFault.Memory) }
 {
     output.reply.truncate(0);
-    numbered(&mut output.reply, "syntax command", u64::from(number))?;
-    output.add()
+    let printed = numbered(&mut output.reply, "syntax command", u64::from(number));
+    add_printed(printed, output)
 }
 
 /// Answers a line: an empty one is no command, and any other the next one.
@@ -192,20 +229,14 @@ pub fn answer_line<S: FarStore, A: Resources<S>, R: Read + Drop, W: Write>(
         progress.world.frame().schema().as_slice(),
         input.text(line)?,
     )? {
-        Some(command) => {
-            serve_command(
-                resources,
-                &mut progress.world,
-                command,
-                input,
-                output,
-                writer,
-            )?;
-            Ok(())
-        }
-        None => {
-            print_syntax(output, progress.number)?;
-            Ok(())
-        }
+        Some(command) => serve_command(
+            resources,
+            &mut progress.world,
+            command,
+            input,
+            output,
+            writer,
+        ),
+        None => print_syntax(output, progress.number),
     }
 }

@@ -20,8 +20,8 @@ returns-clause-ok g c =
     let rest = map (λ (it : Option (List ℕ) × Bool). text_cell it.0) c.next-2.new.self in
     let printed : c.more_texts.new.page ++ 10 ∷ [] ≡ page ++ row_line (map (λ (it : Option (List ℕ) × Bool). text_cell it.0) c.args.texts.now) =
     ap (λ (t : List ℕ). t ++ 10 ∷ []) (c.in_ok-more_texts.ensures.ok
-    ∙ ap (λ (t : List ℕ). t ++ fields_text default_writer (map cell_text rest)) (c.in_ok-cell-3.ensures.ok
-    ∙ (λ i. (c.in_ok-byte.ensures.ok ∙ (λ j. (c.in_ok-cell-2.ensures.ok ∙ (λ k. page ++ field_in_record false (cell_text (c.of_text-2.ensures k)))) j ++ 44 ∷ [])) i ++ field_in_record false (cell_text (c.of_text-3.ensures i)))))
+    ∙ ap (λ (t : List ℕ). t ++ fields_text default_writer (map cell_text rest)) (c.in_ok-two_fields.ensures.ok
+    ∙ (λ i. ((page ++ field_in_record false (cell_text (c.of_text-2.ensures i))) ++ 44 ∷ []) ++ field_in_record false (cell_text (c.of_text-3.ensures i)))))
     ∙ row-more page first second rest
     ∙ sym (ap (λ (texts : List (Option (List ℕ) × Bool)). page ++ row_line (map (λ it. text_cell it.0) texts)) (c.in-Some.ensures.first ∙ ap (λ texts. (option_copied c.in-Some.first.text, c.in-Some.first.alive) ∷ texts) c.in-Some-next.ensures.first)) in
     rw (sym printed) c.text-2.ensures.ok

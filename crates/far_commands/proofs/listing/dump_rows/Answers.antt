@@ -1,12 +1,11 @@
-use Rattle.std.proofs.Common.{◌≤◌, ◌∙◌, sym, ap, codes, length, arith}
+use Rattle.std.proofs.Common.{◌≤◌, ◌∙◌, refl, sym, codes, length, arith}
 use Rattle.far_types.specs.Table.{rows_of}
 use Rattle.far_script.specs.declared.fault.ShellFault.TheVariants as fault
 use Rattle.far_script.specs.Printing.{numbered_text}
 use Rattle.far_script.proofs.StopLaws.{handed-on}
-use Rattle.far_commands.specs.Listings.{row_line}
+use Rattle.far_commands.specs.Listings.{cells_at, row_line}
 use Rattle.far_commands.proofs.DumpLaws.{gather-cut, gather-end, gather-memory, gather-row, gather-skip}
-use Rattle.far_commands.proofs.RowLaws.{cells-there}
-use Rattle.far_commands.proofs.listing.dump_rows.Goals.{then-is_live+in_ok-cells+in_ok-print_row+in_ok-add_if_long, else-is_live}
+use Rattle.far_commands.proofs.listing.dump_rows.Goals.{then-is_live+in_ok-print_place+in_ok-add_if_long, else-is_live}
 use Rattle.far_commands.proofs.listing.dump_rows.Goals as goal
 
 pub loop-place-preserved : goal.loop-place-preserved
@@ -19,24 +18,17 @@ loop-place-preserved g c =
     let told = rw c.scope-view.ensures at (sym c.is_live.ensures) in
     let front = numbered_text (codes "rows") (length (rows_of places)) in
     elim c.if-is_live.branch [
-      | then-is_live+in_ok-cells+in_ok-print_row+in_ok-add_if_long w ↦
-          let row = ap row_line (sym (cells-there places place w.in_ok-cells.cells (rw c.scope-view.ensures at w.in_ok-cells.ensures.row))) in
-          rw (w.output-is, w.writer-is) (gather-row u held front places v c.loop-place.output.page c.loop-place.output.reply place c.loop-place.invariant w.print_row.new.page (row_line w.in_ok-cells.cells) (told ∙ w.if-is_live.true)
-          w.in_ok-print_row.ensures.ok row (g.W.Write.contents w.add_if_long.new.writer) w.add_if_long.new.output.page w.add_if_long.new.output.reply w.in_ok-add_if_long.ensures.ok)
+      | then-is_live+in_ok-print_place+in_ok-add_if_long w ↦
+          rw (w.output-is, w.writer-is) (gather-row u held front places v c.loop-place.output.page c.loop-place.output.reply place c.loop-place.invariant w.print_place.new.page (row_line (cells_at place places)) (told ∙ w.if-is_live.true)
+          (rw c.scope-view.ensures at w.in_ok-print_place.ensures.ok) refl (g.W.Write.contents w.add_if_long.new.writer) w.add_if_long.new.output.page w.add_if_long.new.output.reply w.in_ok-add_if_long.ensures.ok)
       | else-is_live w ↦
           rw (w.output-is, w.writer-is) (gather-skip u held front places v c.loop-place.output.page c.loop-place.output.reply place (told ∙ w.if-is_live.false) c.loop-place.invariant)
     ]
 
-pub returns-in_err-cells-clause-err : goal.returns-in_err-cells-clause-err
-returns-in_err-cells-clause-err g c =
+pub returns-in_err-print_place-clause-err : goal.returns-in_err-print_place-clause-err
+returns-in_err-print_place-clause-err g c =
     let places = c.args.frame.now.table.places in
-    handed-on c.from_residual-in_err-cells.result fault.Memory _ c.from_residual-in_err-cells.ensures.1
-    (gather-memory (g.W.Write.contents c.args.writer.now) c.args.output.now.page (numbered_text (codes "rows") (length (rows_of places))) places (g.W.Write.contents c.loop-place.writer) c.loop-place.output.page c.loop-place.output.reply c.loop-place.place c.loop-place.invariant)
-
-pub returns-in_err-print_row-clause-err : goal.returns-in_err-print_row-clause-err
-returns-in_err-print_row-clause-err g c =
-    let places = c.args.frame.now.table.places in
-    handed-on c.from_residual-in_err-print_row.result fault.Memory _ c.from_residual-in_err-print_row.ensures.1
+    handed-on c.from_residual-in_err-print_place.result fault.Memory _ c.from_residual-in_err-print_place.ensures.1
     (gather-memory (g.W.Write.contents c.args.writer.now) c.args.output.now.page (numbered_text (codes "rows") (length (rows_of places))) places (g.W.Write.contents c.loop-place.writer) c.loop-place.output.page c.loop-place.output.reply c.loop-place.place c.loop-place.invariant)
 
 pub returns-in_err-add_if_long-clause-err : goal.returns-in_err-add_if_long-clause-err
@@ -45,10 +37,9 @@ returns-in_err-add_if_long-clause-err g c =
     let place = c.loop-place.place in
     let told = rw c.scope-view.ensures at (sym c.is_live.ensures) in
     let why = c.in_err-add_if_long.field-0.0 in
-    let row = ap row_line (sym (cells-there places place c.in_ok-cells.cells (rw c.scope-view.ensures at c.in_ok-cells.ensures.row))) in
     handed-on c.from_residual-in_err-add_if_long.result why _ c.from_residual-in_err-add_if_long.ensures.1
     (gather-cut (g.W.Write.contents c.args.writer.now) c.args.output.now.page (numbered_text (codes "rows") (length (rows_of places))) places (g.W.Write.contents c.loop-place.writer) c.loop-place.output.page c.loop-place.output.reply place c.loop-place.invariant
-    c.print_row.new.page (row_line c.in_ok-cells.cells) (told ∙ c.if-is_live.true) c.in_ok-print_row.ensures.ok row why (g.W.Write.contents c.add_if_long.new.writer) c.add_if_long.new.output.page c.in_err-add_if_long.ensures.fault c.in_err-add_if_long.ensures.err)
+    c.print_place.new.page (row_line (cells_at place places)) (told ∙ c.if-is_live.true) (rw c.scope-view.ensures at c.in_ok-print_place.ensures.ok) refl why (g.W.Write.contents c.add_if_long.new.writer) c.add_if_long.new.output.page c.in_err-add_if_long.ensures.fault c.in_err-add_if_long.ensures.err)
 
 pub returns-clause-ok : goal.returns-clause-ok
 returns-clause-ok g c =

@@ -1,4 +1,4 @@
-use Rattle.std.proofs.Common.{◌≡◌, ◌<◌, ◌+◌, Option, Some, codes, inl, inr, append-nil, [], refl, sym, ap, subst, ◌∙◌, arith}
+use Rattle.std.proofs.Common.{◌≡◌, ◌<◌, ◌+◌, Option, Some, codes, inl, inr, [], refl, sym, ap, subst, ◌∙◌, arith}
 use Rattle.far_frame.specs.State.{State, live}
 use Rattle.far_script.specs.declared.fault.ShellFault.TheVariants as fault
 use Rattle.far_script.specs.Flow.{spanned}
@@ -9,9 +9,10 @@ use Rattle.far_commands.specs.Listings.{listing_of}
 use Rattle.far_commands.specs.Replies.{AnswersLine}
 use Rattle.far_commands.specs.Progress.{At}
 use Rattle.far_commands.specs.Cuts.{Fails, FailsBy, Lists}
-use Rattle.far_script.proofs.StopLaws.{handed-on, if-input, stops-here, stops-more}
+use Rattle.far_script.proofs.StopLaws.{each-fault, handed-on, if-input, stops-here, stops-more}
 use Rattle.far_script.proofs.FlowLaws.{reads-none, prints, prints-none, range-empty, range-some}
-use Rattle.far_commands.proofs.CutLaws.{cut-more}
+use Rattle.far_commands.proofs.CutLaws.{cut-more, no-input, printed-err}
+use Rattle.far_commands.proofs.ResultLaws.{on-ok}
 use Rattle.far_commands.proofs.LineLaws.{answers-empty, answers-command}
 use Rattle.far_commands.proofs.serve.answer_line.Goals as goal
 
@@ -24,15 +25,15 @@ returns-then-is_empty-clause-ok g c = (
   answers-empty g.S.FarTickets c.args.progress.now (spanned g.R.Read c.args.input.now c.args.line) (range-empty c.args.input.now.held c.args.line.from c.args.line.to (grind (arith, c.if-is_empty.ensures))),
 )
 
-pub returns-in_ok-serve_command-in-Some-clause-ok : goal.returns-in_ok-serve_command-in-Some-clause-ok
-returns-in_ok-serve_command-in-Some-clause-ok g c =
+pub returns-in-Some-clause-ok : goal.returns-in-Some-clause-ok
+returns-in-Some-clause-ok g c =
     let kinds = c.as_slice.ensures ∙ c.schema.ensures ∙ ap (λ (s : State g.row.S-Ticket.Denot). s.table.schema) c.frame.ensures in
     let some = rw (c.in_ok-text.ensures.ok.0, kinds) at (sym c.in_ok-command.ensures.command ∙ c.in-Some.is) in
-    let a = c.in_ok-serve_command-in-Some.ensures.ok in
     let line = spanned g.R.Read c.args.input.now c.args.line in
     let old : At g.row.S-Ticket.Denot = record { world = c.progress.inside.world; number = c.progress.inside.number } in
     let new : At g.row.S-Ticket.Denot = record { world = c.serve_command.new.world; number = c.progress.inside.number + 1 } in
-    let shown : c.args.line.from < c.args.line.to = grind (arith, c.if-is_empty.ensures) in (
+    let shown : c.args.line.from < c.args.line.to = grind (arith, c.if-is_empty.ensures) in
+    on-ok c.serve_command.result _ _ (λ a. (
       a.0,
       a.1,
       a.2,
@@ -40,25 +41,26 @@ returns-in_ok-serve_command-in-Some-clause-ok g c =
       subst (λ (at : At g.row.S-Ticket.Denot). AnswersLine g.S.FarTickets at line a.0 a.1 new) c.progress.view_is
           (answers-command g.S.FarTickets old new line a.0 a.1 (range-some c.args.input.now.held c.args.line.from c.args.line.to shown c.requires.held.1)
           (rw c.in_ok-text.ensures.ok.0 at c.in_ok-text.ensures.ok.1) refl (rw some a.4)),
-    )
+    )) c.serve_command.ensures.ok
 
-pub returns-in_ok-print_syntax-in-None-clause-ok : goal.returns-in_ok-print_syntax-in-None-clause-ok
-returns-in_ok-print_syntax-in-None-clause-ok g c =
+pub returns-in-None-clause-ok : goal.returns-in-None-clause-ok
+returns-in-None-clause-ok g c =
     let kinds = c.as_slice.ensures ∙ c.schema.ensures ∙ ap (λ (s : State g.row.S-Ticket.Denot). s.table.schema) c.frame.ensures in
     let none = rw (c.in_ok-text.ensures.ok.0, kinds) at (sym c.in_ok-command.ensures.command ∙ c.in-None.is) in
     let line = spanned g.R.Read c.args.input.now c.args.line in
     let old : At g.row.S-Ticket.Denot = record { world = c.progress.inside.world; number = c.progress.inside.number } in
     let new : At g.row.S-Ticket.Denot = record { world = c.progress.inside.world; number = c.progress.inside.number + 1 } in
     let text = numbered_text (codes "syntax command") (c.progress.inside.number + 1) in
-    let shown : c.args.line.from < c.args.line.to = grind (arith, c.if-is_empty.ensures) in (
+    let shown : c.args.line.from < c.args.line.to = grind (arith, c.if-is_empty.ensures) in
+    on-ok c.print_syntax.result _ _ (λ printed. (
       [],
       text,
       reads-none g.R.Read _ _ refl,
-      prints (g.W.Write.contents c.args.writer.now) c.args.output.now.page text c.print_syntax.new.output.page c.in_ok-print_syntax-in-None.ensures.ok,
+      prints (g.W.Write.contents c.args.writer.now) c.args.output.now.page text c.print_syntax.new.output.page printed,
       subst (λ (at : At g.row.S-Ticket.Denot). AnswersLine g.S.FarTickets at line [] text new) c.progress.view_is
           (answers-command g.S.FarTickets old new line [] text (range-some c.args.input.now.held c.args.line.from c.args.line.to shown c.requires.held.1)
           (rw c.in_ok-text.ensures.ok.0 at c.in_ok-text.ensures.ok.1) refl (rw none (refl, refl, refl))),
-    )
+    )) c.print_syntax.ensures.ok
 
 pub returns-in_err-text-clause-err : goal.returns-in_err-text-clause-err
 returns-in_err-text-clause-err g c =
@@ -70,25 +72,24 @@ returns-in_err-command-clause-err g c =
     handed-on c.from_residual-in_err-command.result fault.Memory _ c.from_residual-in_err-command.ensures.1
     ([], prints-none (g.W.Write.contents c.args.writer.now) c.args.output.now.page, inl refl)
 
-pub returns-in_err-print_syntax-in-None-clause-err : goal.returns-in_err-print_syntax-in-None-clause-err
-returns-in_err-print_syntax-in-None-clause-err g c =
-    handed-on c.from_residual-in_err-print_syntax-in-None.result fault.Memory _ c.from_residual-in_err-print_syntax-in-None.ensures.1
-    ([], prints (g.W.Write.contents c.args.writer.now) c.args.output.now.page [] c.print_syntax.new.output.page (c.in_err-print_syntax-in-None.ensures.err ∙ sym (append-nil c.args.output.now.page)), inl refl)
+pub returns-in-None-clause-err : goal.returns-in-None-clause-err
+returns-in-None-clause-err g c = printed-err c.print_syntax.result _ (g.W.Write.contents c.args.writer.now) c.args.output.now.page c.print_syntax.new.output.page c.print_syntax.ensures.memory c.print_syntax.ensures.err
 
-pub returns-in_err-serve_command-in-Some-clause-err : goal.returns-in_err-serve_command-in-Some-clause-err
-returns-in_err-serve_command-in-Some-clause-err g c =
+pub returns-in-None-clause-stopped : goal.returns-in-None-clause-stopped
+returns-in-None-clause-stopped g c = no-input c.print_syntax.result _ c.print_syntax.ensures.memory
+
+pub returns-in-Some-clause-err : goal.returns-in-Some-clause-err
+returns-in-Some-clause-err g c =
     let kinds = c.as_slice.ensures ∙ c.schema.ensures ∙ ap (λ (s : State g.row.S-Ticket.Denot). s.table.schema) c.frame.ensures in
     let some = rw (c.in_ok-text.ensures.ok.0, kinds) at (sym c.in_ok-command.ensures.command ∙ c.in-Some.is) in
-    let p = c.in_err-serve_command-in-Some.ensures.err in
-    let why = c.in_err-serve_command-in-Some.field-0.0 in
     let line = spanned g.R.Read c.args.input.now c.args.line in
     let world = c.progress.inside.world in
-    handed-on c.from_residual-in_err-serve_command-in-Some.result why _ c.from_residual-in_err-serve_command-in-Some.ensures.1 (
+    each-fault c.serve_command.result _ _ (λ why p. (
       p.0,
       p.1,
       cut-more why (λ said. (c.in-Some.command ≡ command.Dump) × (said ≡ listing_of (live world.state))) (λ said. Lists c.args.progress.now line said) p.0
           (λ said s. subst (λ (at : At g.row.S-Ticket.Denot). Lists at line said) c.progress.view_is (some ∙ ap (λ (asked : Command). Some asked) s.0, s.1)) p.2,
-    )
+    )) c.serve_command.ensures.err
 
 pub returns-in_err-text-clause-stopped : goal.returns-in_err-text-clause-stopped
 returns-in_err-text-clause-stopped g c =
@@ -97,12 +98,11 @@ returns-in_err-text-clause-stopped g c =
     handed-on c.from_residual.result fault.Input _ (rw f.0 at c.from_residual.ensures.1)
     (stops-here g.R.Read c.args.input.now c.args.input.now (λ behind. Fails c.args.progress.now.world.state.table.schema line behind) refl (inl f.1))
 
-pub returns-in_err-serve_command-in-Some-clause-stopped : goal.returns-in_err-serve_command-in-Some-clause-stopped
-returns-in_err-serve_command-in-Some-clause-stopped g c =
+pub returns-in-Some-clause-stopped : goal.returns-in-Some-clause-stopped
+returns-in-Some-clause-stopped g c =
     let kinds = c.as_slice.ensures ∙ c.schema.ensures ∙ ap (λ (s : State g.row.S-Ticket.Denot). s.table.schema) c.frame.ensures in
     let some = rw (c.in_ok-text.ensures.ok.0, kinds) at (sym c.in_ok-command.ensures.command ∙ c.in-Some.is) in
-    let why = c.in_err-serve_command-in-Some.field-0.0 in
     let line = spanned g.R.Read c.args.input.now c.args.line in
-    handed-on c.from_residual-in_err-serve_command-in-Some.result why _ c.from_residual-in_err-serve_command-in-Some.ensures.1
-    (if-input why _ _ (λ s. stops-more g.R.Read c.args.input.now c.serve_command.new.input (λ behind. FailsBy (Some c.in-Some.command) behind) (λ behind. Fails c.args.progress.now.world.state.table.schema line behind)
-    (λ bytes f. subst (λ (at : At g.row.S-Ticket.Denot). Fails at.world.state.table.schema line bytes) c.progress.view_is (inr (subst (λ (asked : Option Command). FailsBy asked bytes) (sym some) f))) s) c.in_err-serve_command-in-Some.ensures.stopped)
+    each-fault c.serve_command.result _ _ (λ why stopped. if-input why _ _ (λ s. stops-more g.R.Read c.args.input.now c.serve_command.new.input (λ behind. FailsBy (Some c.in-Some.command) behind) (λ behind. Fails c.args.progress.now.world.state.table.schema line behind)
+    (λ bytes f. subst (λ (at : At g.row.S-Ticket.Denot). Fails at.world.state.table.schema line bytes) c.progress.view_is (inr (subst (λ (asked : Option Command). FailsBy asked bytes) (sym some) f))) s) stopped)
+    c.serve_command.ensures.stopped
