@@ -1,5 +1,4 @@
-// What no clause of far_columns says: that calls are served, that worked examples come out as they should, and that random
-// calls agree with plain lists.
+// What no clause of far_columns says: that calls are served, and that worked examples come out as they should.
 mod cases;
 mod cell;
 mod columns;
@@ -7,7 +6,6 @@ mod coming_back;
 mod lending;
 mod moving;
 mod numbers;
-mod random_run;
 mod script;
 mod stage;
 mod texts;

@@ -9,7 +9,6 @@ mod look;
 mod moving;
 mod opening;
 mod pushing;
-mod random_run;
 mod renewing;
 mod script;
 mod setting;

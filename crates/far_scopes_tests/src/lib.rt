@@ -1,6 +1,6 @@
 #![tactic(auto)]
 //! Tests of objects (far_scopes), of lists over them (far_vector) and of jobs that move them (far_evacuator): what no clause says, that
-//! calls are served, that worked examples come out as they should, and that random calls agree with plain lists and records.
+//! calls are served, and that worked examples come out as they should.
 
 #[cfg(test)]
 mod evacuator;

@@ -8,7 +8,7 @@ use far_log::Region;
 use far_types::Refusal;
 use std::test::Fail;
 
-static CASES: [Case; 10] = [
+static CASES: [Case; 11] = [
     Case {
         name: "a place is full where no segment has the space",
         segments: 2,
@@ -108,6 +108,24 @@ static CASES: [Case; 10] = [
             Has((1, 0), &[3, 4]),
             Uses(2, 10),
             Place(&[5, 6, 7, 8], (0, 0)),
+        ],
+    },
+    Case {
+        name: "a compaction lays parts one behind the other, in the order that is asked",
+        segments: 2,
+        size: 8,
+        lines: &[
+            Place(&[1, 2], (0, 0)),
+            Place(&[3], (0, 2)),
+            Place(&[4, 5, 6], (0, 3)),
+            Compact(0, &[3, 0, 2], Ok((1, &[0, 3, 5]))),
+            Has((1, 0), &[4, 5, 6]),
+            Has((1, 3), &[1, 2]),
+            Has((1, 5), &[3]),
+            Drop((1, 3)),
+            Uses(4, 10),
+            Drop((1, 5)),
+            Uses(3, 13),
         ],
     },
     Case {

@@ -313,7 +313,12 @@ impl Plain {
         if left > 0 {
             return Due::Refused(Refusal::Building(left));
         }
-        let count = self.fold(&aggregate.watched);
+        self.answer(&aggregate.watched)
+    }
+
+    /// The lines of an aggregate.
+    pub fn answer(&mut self, watched: &Watched) -> Due<'_> {
+        let count = self.fold(watched);
         Due::Lines(self.lines.get(..count).unwrap_or(&[]))
     }
 

@@ -99,7 +99,8 @@ fn drawn_asking(draws: &mut Draws, len: u32) -> Call {
             None => Call::Ask(a),
         },
         5 => Call::Unwatch(a),
-        6 | 7 => Call::Ask(a),
+        6 => Call::Ask(a),
+        7 => Call::Recount(a, draws.below(2)),
         8..=11 => Call::Scan(a, group),
         _ => Call::Offload(a, group),
     }
@@ -115,7 +116,8 @@ fn drawn_move(draws: &mut Draws, len: u32) -> Call {
         18 | 19 => Call::Pin(column, group),
         20 | 21 => Call::Unpin(column, group),
         22 | 23 => Call::Compact(kind_of(draws.below(2)), draws.below(15)),
-        24 | 25 => Call::Prefetch(column),
+        24 => Call::Prefetch(column),
+        25 | 26 => Call::Coldest,
         _ => drawn_lending(draws, column, len),
     }
 }
@@ -165,6 +167,7 @@ pub fn look(kind: u32, n: u32) -> Option<Call> {
         4 => Some(Call::MayOffload(n / 7, n % 7)),
         5 if n <= 32 => Some(Call::Ask(n)),
         6 if n < COLUMNS => Some(Call::Prefetch(n)),
+        6 if n == COLUMNS => Some(Call::Coldest),
         7 if group < PLACES / SIZE => Some(Call::Repin(column, group)),
         _ => None,
     }

@@ -302,6 +302,7 @@ impl Plain {
         object.part = Some(part);
         object.dirty = false;
         object.hot = true;
+        object.used = self.now();
         self.keep(index(job.column, job.group), object);
         None
     }

@@ -2,7 +2,7 @@
 use super::drawing::{COLUMNS, KINDS};
 use super::plain::Plain;
 use crate::answers::Due;
-use far_types::{Kind, Limits, Refusal};
+use far_types::{Kind, Limits, Name, Refusal};
 
 /// A part of a segment.
 #[derive(Clone, Copy)]
@@ -21,6 +21,8 @@ pub struct Object {
     pub next: Option<Part>,
     pub dirty: bool,
     pub hot: bool,
+    /// When it was used last.
+    pub used: u64,
     pub pins: u32,
     pub version: u64,
     pub leavings: u64,
@@ -34,6 +36,7 @@ pub const NEW: Object = Object {
     next: None,
     dirty: true,
     hot: true,
+    used: 0,
     pins: 0,
     version: 0,
     leavings: 0,
@@ -56,8 +59,8 @@ fn end_in(part: Option<Part>, segment: u32) -> u32 {
     }
 }
 
-/// The kind of an object by its index.
-fn is_of(o: usize, kind: Kind) -> bool {
+/// Whether an object is of a kind, by its index.
+pub fn is_of(o: usize, kind: Kind) -> bool {
     KINDS.get(o % 4).copied() == Some(kind)
 }
 
@@ -163,22 +166,32 @@ impl Plain {
         }
     }
 
+    /// The time of a use, which is later than those before.
+    pub fn now(&mut self) -> u64 {
+        self.uses = self.uses.wrapping_add(1);
+        self.uses
+    }
+
     /// An object is written: in its place, or where its next list lies.
     pub fn write(&mut self, o: usize) {
+        let now = self.now();
         if let Some(object) = self.objects.get_mut(o) {
             object.part = object.next.or(object.part);
             object.next = None;
             object.dirty = true;
             object.hot = true;
+            object.used = now;
             object.version = object.version.wrapping_add(1);
         }
     }
 
     /// A new object gets its list.
     pub fn make(&mut self, o: usize) {
+        let now = self.now();
         if let Some(object) = self.objects.get_mut(o) {
             object.part = object.next;
             object.next = None;
+            object.used = now;
         }
     }
 
@@ -218,6 +231,53 @@ impl Plain {
             self.keep(index(column, group), object);
         }
         refusal
+    }
+
+    // The object of a kind that was used longest ago, of those that are local and not pinned, and are hot or are not.
+    fn used_first(&self, kind: Kind, hot: bool) -> Option<usize> {
+        let mut found = None;
+        let mut least = u64::MAX;
+        for (o, object) in self.objects.iter().enumerate() {
+            let may_leave = object.part.is_some() && object.pins == 0;
+            if is_of(o, kind) && may_leave && object.hot == hot && object.used < least {
+                found = Some(o);
+                least = object.used;
+            }
+        }
+        found
+    }
+
+    // The object of a kind that goes away first.
+    fn coldest_of(&self, kind: Kind) -> Option<Name> {
+        let cold = self.used_first(kind, false);
+        let o = u32::try_from(cold.or(self.used_first(kind, true))?).unwrap_or(0);
+        Some(Name {
+            column: o % COLUMNS,
+            group: o / COLUMNS,
+        })
+    }
+
+    // How much space there is for objects of a kind behind the last parts of all segments, and how much there would be without parts.
+    fn space(&self, kind: Kind) -> (u64, u64) {
+        let (count, size) = segments(&self.limits, kind);
+        let mut space: u64 = 0;
+        for segment in 0..count {
+            let behind = size.saturating_sub(self.fill(kind, segment));
+            space = space.saturating_add(u64::from(behind));
+        }
+        (space, u64::from(count).wrapping_mul(u64::from(size)))
+    }
+
+    /// The object that goes away first: of the kind that has less space, in proportion, if it has one.
+    pub fn coldest(&self) -> Option<Name> {
+        let (numbers, all_numbers) = self.space(Kind::Int);
+        let (texts, all_texts) = self.space(Kind::Text);
+        let (number, text) = (self.coldest_of(Kind::Int), self.coldest_of(Kind::Text));
+        if numbers.wrapping_mul(all_texts) <= texts.wrapping_mul(all_numbers) {
+            number.or(text)
+        } else {
+            text.or(number)
+        }
     }
 
     // The lowest segment without parts but this one.

@@ -22,8 +22,8 @@ pub struct Seen {
     pub last: [i64; 4],
 }
 
-/// All that a step can see or change: how many places there are and the rows, how many objects there are and each, by row group and
-/// there by column, what was lent of each column, the aggregates by number, how many jobs were begun and the last of them, and the
+/// All that a step can see or change: how many places there are and the rows, how many objects there are, how often some were used,
+/// and each, by row group and there by column, what was lent of each column, the aggregates by number, how many jobs were begun and the last of them, and the
 /// store. The last three lists are what the last call answered.
 #[derive(Drop)]
 pub struct Plain {
@@ -32,6 +32,7 @@ pub struct Plain {
     pub rows: [Place; 18],
     pub edits: u64,
     pub made: usize,
+    pub uses: u64,
     pub objects: [Object; 24],
     pub seen: [Seen; 4],
     pub aggregates: [Aggregate; 32],
@@ -63,6 +64,7 @@ impl Plain {
             rows: [NO_PLACE; 18],
             edits: 0,
             made: 0,
+            uses: 0,
             objects: [NEW; 24],
             seen: [UNSEEN; 4],
             aggregates: [FREE; 32],
@@ -139,8 +141,10 @@ impl Plain {
 
     // A row group of a column is lent.
     fn see(&mut self, column: u32, group: u32) {
+        let now = self.now();
         if let Some(object) = self.objects.get_mut(index(column, group)) {
             object.hot = true;
+            object.used = now;
         }
         if let Some(seen) = self.seen.get_mut(column as usize) {
             let [a, b, c, _] = seen.last;
@@ -206,6 +210,8 @@ impl Plain {
             Call::Offload(a, group) => self.offload(a, group),
             Call::Row(place) => self.row(place),
             Call::Repin(column, group) => self.pins(column, group),
+            Call::Recount(a, workers) => self.recount(a, workers),
+            Call::Coldest => Due::Coldest(self.coldest()),
             call => done(self.change(call)),
         }
     }

@@ -69,14 +69,6 @@ impl<'a, S: FarStore> Columns<'a, S> {
         }
     }
 
-    /// Whether there is room for an object of so many elements.
-    pub fn fits(&self, len: usize) -> bool {
-        match self {
-            Columns::Numbers(columns) => columns.objects().fits(len),
-            Columns::Texts(columns) => columns.objects().fits(len),
-        }
-    }
-
     /// A number that all goes into that is known of the objects. Allocates nothing.
     pub fn digest(&self) -> u64 {
         match self {

@@ -35,10 +35,6 @@ impl<'a, S: FarStore> Stage<'a, S> {
         }
     }
 
-    pub fn columns(&self) -> &Columns<'a, S> {
-        &self.columns
-    }
-
     /// What a call answers. Before it each column has a flag for each of its places, whatever the call before did.
     pub fn reply(&mut self, alloc: Global, call: Call) -> Result<(), Refusal> {
         if keep_up(&self.columns, &mut self.alive).is_err() {

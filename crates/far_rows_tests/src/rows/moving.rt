@@ -181,7 +181,21 @@ const ALL_TAKEN: &[Step] = &[
     HAS_FOUR,
 ];
 
-static CASES: [Case; 5] = [
+/// Objects that may go away once.
+const ONCE: Limits = Limits { edits: 1, ..LIMITS };
+
+/// An object of texts and one of numbers come back, and stay.
+const SECOND_TIME: &[Step] = &[
+    Step::Does(Call::Evacuate(0, 1)),
+    Step::Does(Call::FetchBack(0, 1)),
+    Step::Refuses(Call::Evacuate(0, 1), Refusal::StaleJob),
+    Step::Does(Call::Evacuate(3, 1)),
+    Step::Does(Call::FetchBack(3, 1)),
+    Step::Refuses(Call::Evacuate(3, 1), Refusal::StaleJob),
+    HAS_THREE,
+];
+
+static CASES: [Case; 6] = [
     Case {
         name: "objects that went away and came back have their cells",
         parts: &[
@@ -214,6 +228,12 @@ static CASES: [Case; 5] = [
             pinned_twice!(2),
             pinned_twice!(3),
         ],
+        ..CASE
+    },
+    Case {
+        name: "an object goes away as often as it may",
+        limits: ONCE,
+        parts: &[THREE_ROWS, SECOND_TIME],
         ..CASE
     },
     Case {

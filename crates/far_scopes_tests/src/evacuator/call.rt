@@ -1,8 +1,8 @@
-// The calls that scripts make and that are drawn: both on objects with a store and on plain ones.
+// The calls that cases make.
 use far_evacuator::Want;
 use far_types::Refusal;
 
-/// A call, with what it is given. The lists are lent, or plain ones.
+/// A call, with the list that it is given.
 #[derive(Drop)]
 pub enum Call<L> {
     Create(L),
@@ -10,10 +10,6 @@ pub enum Call<L> {
     Uncreate,
     /// Changes one object.
     On(u32, Change<L>),
-    ReplaceBoth([u32; 2], L, L),
-    /// Pins three listings together, unpins the first once, and takes the others' pins back.
-    PinTogether([u32; 3]),
-    Compact(u32),
     Move(Phase),
 }
 

@@ -5,31 +5,17 @@ ghost use Rattle.far_scopes.specs.Movement.{AreClean, AreHere, dirty};
 
 mod changing;
 mod moving;
-mod renewing;
 
 use crate::evacuator::call::{Call, done};
 use changing::change;
 use far_evacuator::{Carried, EvacJob, FetchJob, Fetched};
 use far_fixtures::{Element, digest_of};
-use far_pointer::Pointer;
 use far_scopes::laws::clean_objects_have_copies;
 use far_scopes::{ObjectLimits, Objects};
 use far_store::{FarStore, Meter};
 use far_types::Refusal;
 use std::alloc::Global;
 use std::marker::Model;
-
-/// What is known of an object beside its list.
-#[derive(Clone, Copy, PartialEq)]
-pub struct Record {
-    pub local: bool,
-    pub dirty: bool,
-    pub hot: bool,
-    pub version: u64,
-    pub leavings: u64,
-    pub pins: u32,
-    pub ticket: Option<u64>,
-}
 
 /// Objects with their store, and the last job of each kind that was begun and that was carried.
 #[derive(Drop)]
@@ -107,7 +93,7 @@ impl<'a, T: Element, S: FarStore> Desk<'a, T, S> {
     fn make_once(&mut self, alloc: Global, call: &Call<&[T]>) -> Result<u32, Refusal> {
         match call {
             Call::Move(phase) => done(self.move_object(alloc, phase)),
-            call => change(&mut self.objects, alloc, call),
+            call => change(&mut self.objects, call),
         }
     }
 
@@ -137,26 +123,6 @@ impl<'a, T: Element, S: FarStore> Desk<'a, T, S> {
         }
         let list = self.objects.lend(o)?;
         reads_copy(alloc, &self.objects, self.store, o, list)
-    }
-
-    /// What is known of an object.
-    pub fn record(&self, o: u32) -> Option<Record> {
-        if o >= self.objects.count() {
-            return None;
-        }
-        let word = self.objects.word(o);
-        Some(Record {
-            local: word.read() != Pointer::Remote,
-            dirty: word.dirty(),
-            hot: word.hot(),
-            version: self.objects.version(o),
-            leavings: self.objects.leavings(o),
-            pins: self.objects.pins(o),
-            ticket: match self.objects.ticket(o) {
-                Some(ticket) => Some(self.store.number(ticket)),
-                None => None,
-            },
-        })
     }
 }
 

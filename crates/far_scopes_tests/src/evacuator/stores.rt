@@ -1,4 +1,4 @@
-// The stores that cases and random calls are played over.
+// The stores that cases are played over.
 use far_byte_log::ByteLog;
 use far_store::{EngineStore, FaultyStore};
 use far_types::Refusal;

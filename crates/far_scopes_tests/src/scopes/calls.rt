@@ -46,7 +46,8 @@ fn reply<S: FarStore>(
         Call::On(o, change) => change_one(alloc, store, objects, *o, change),
         Call::Find(o, fact) => find(store, objects, *o, fact),
         Call::GiveBoth(second, first) => give_both(alloc, objects, second, first),
-        Call::PinTogether(listed, pins) => pin_three(alloc, objects, *listed, *pins),
+        Call::PinTogether(listed, pins) => pin_three(alloc, objects, *listed, *pins, false),
+        Call::PinAndUnpin(listed, pins) => pin_three(alloc, objects, *listed, *pins, true),
         Call::Compact(segment) => objects.compact(alloc, *segment),
         call => found(is_so(objects, call)),
     }
@@ -162,18 +163,22 @@ fn pin_often<S: FarTickets>(
     Ok(())
 }
 
-/// Pins three listings together, and finds that so many pins are given back.
+/// Pins three listings together, may take a pin off the first object, and finds that so many pins are given back.
 fn pin_three<S: FarTickets>(
     alloc: Global,
     objects: &mut Objects<i64, S>,
     listed: [u32; 3],
     pins: u32,
+    unpins: bool,
 ) -> Result<(), Refusal>
     ensures { (name : List ℕ) → AreHere S.is_of name objects.old → AreHere S.is_of name objects.new }
 {
     let count = objects.count();
     if listed[0] >= count || listed[1] >= count || listed[2] >= count {
         return Err(WRONG);
+    }
+    if unpins {
+        return pin_and_unpin(alloc, objects, listed[0], &listed, pins);
     }
     pin_together(alloc, objects, &listed, pins)
 }
@@ -190,6 +195,32 @@ fn pin_together<S: FarTickets>(
 {
     let scope = enter(alloc, objects, listed)?;
     found(objects.close(scope) == pins)
+}
+
+fn pin_and_unpin<S: FarTickets>(
+    alloc: Global,
+    objects: &mut Objects<i64, S>,
+    first: u32,
+    listed: &[u32],
+    pins: u32,
+) -> Result<(), Refusal>
+    requires first { first < length objects.old.entries }
+    requires within { All (λ o. o < length objects.old.entries) listed.now }
+    requires few { length listed.now < 2 ^ 32 }
+    ensures { (name : List ℕ) → AreHere S.is_of name objects.old → AreHere S.is_of name objects.new }
+{
+    let scope = enter(alloc, objects, listed)?;
+    unpin_one(objects, first);
+    found(objects.close(scope) == pins)
+}
+
+/// Takes a pin off an object. There are as many objects as before.
+fn unpin_one<S: FarTickets>(objects: &mut Objects<i64, S>, o: u32)
+    requires within { o < length objects.old.entries }
+    ensures count { length objects.new.entries ≡ length objects.old.entries }
+    ensures store { (name : List ℕ) → AreHere S.is_of name objects.old → AreHere S.is_of name objects.new }
+{
+    objects.unpin(o).ok();
 }
 
 /// Pins listed objects. There are as many objects as before.

@@ -55,6 +55,8 @@ pub enum Call {
     GiveBoth(&'static [i64], &'static [i64]),
     /// Pins the listed objects together, and takes back so many pins.
     PinTogether([u32; 3], u32),
+    /// Likewise, but takes a pin off the first object before.
+    PinAndUnpin([u32; 3], u32),
     Compact(u32),
     /// Finds that there are so many objects.
     Count(u32),

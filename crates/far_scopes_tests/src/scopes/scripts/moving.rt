@@ -1,5 +1,5 @@
 // Objects that go away and come back, and whose far copies go into another store.
-use crate::scopes::script::Call::{Coldest, Create, Find, On};
+use crate::scopes::script::Call::{Coldest, Create, Find, On, Uncreate};
 use crate::scopes::script::Change::{Arrive, Leave, Pin, Replace};
 use crate::scopes::script::Fact::{Copied, Dirty, Hot, Leavings, List, Pins, PutBefore, Version};
 use crate::scopes::script::{SCRIPT, Script};
@@ -51,6 +51,21 @@ pub static SCRIPTS: &[Script] = &[
             (Find(0, List(&[1, 2])), Ok(())),
             (Find(0, Dirty(false)), Ok(())),
             (Find(0, Copied(true)), Ok(())),
+        ],
+        ..SCRIPT
+    },
+    Script {
+        name: "an object that finds no room stays away until there is some",
+        lines: &[
+            (Create(3, &[1, 2, 3, 4]), Ok(())),
+            (Create(1, &[5, 6, 7, 8]), Ok(())),
+            (On(0, Leave), Ok(())),
+            (Create(2, &[9]), Ok(())),
+            (On(0, Arrive), Err(Refusal::RegionFull)),
+            (Find(0, List(&[1, 2, 3, 4])), AWAY),
+            (Uncreate, Ok(())),
+            (On(0, Arrive), Ok(())),
+            (Find(0, List(&[1, 2, 3, 4])), Ok(())),
         ],
         ..SCRIPT
     },

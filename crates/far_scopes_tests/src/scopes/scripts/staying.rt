@@ -1,5 +1,5 @@
 // Objects that are pinned, alone and together, those that go away first, and segments that are compacted.
-use crate::scopes::script::Call::{Coldest, Compact, Create, Find, On, PinTogether};
+use crate::scopes::script::Call::{Coldest, Compact, Create, Find, On, PinAndUnpin, PinTogether};
 use crate::scopes::script::Change::{Leave, Pin, Touch};
 use crate::scopes::script::Fact::{Cold, List, Pins};
 use crate::scopes::script::{SCRIPT, Script, TWO_OF_FOUR};
@@ -41,6 +41,21 @@ pub static SCRIPTS: &[Script] = &[
             (Create(0, &[1]), Ok(())),
             (Create(1, &[2]), Ok(())),
             (PinTogether([0, 1, 0], 3), Ok(())),
+            (Find(0, Pins(0)), Ok(())),
+        ],
+        ..SCRIPT
+    },
+    // It takes back one that the object had before, if that one is there in place of its own.
+    Script {
+        name: "a scope gives back the pins that are left",
+        lines: &[
+            (Create(0, &[1]), Ok(())),
+            (Create(1, &[2]), Ok(())),
+            (PinAndUnpin([0, 1, 0], 2), Ok(())),
+            (Find(0, Pins(0)), Ok(())),
+            (Find(1, Pins(0)), Ok(())),
+            (On(0, Pin(1)), Ok(())),
+            (PinAndUnpin([0, 1, 0], 3), Ok(())),
             (Find(0, Pins(0)), Ok(())),
         ],
         ..SCRIPT
