@@ -165,7 +165,7 @@ pub static CASES: [Case; 10] = [
     },
     // The fifth of five places, which begins a row group, is taken back.
     Case {
-        name: "a push of a flag is taken back",
+        name: "a push of a number and of its flag is taken back",
         layout: FOURS,
         count: 0,
         script: Script::Lines(&[
@@ -178,6 +178,10 @@ pub static CASES: [Case; 10] = [
             (Unpush(0), Ok(())),
             (Flags(0, 0, &[true, false, true, true]), Ok(())),
             (Flag(0, 4, None), Ok(())),
+            (Len(0, 4), Ok(())),
+            (Find(0, 4, Missing), OUT_OF_RANGE),
+            (Push(0, Number(6)), Ok(())),
+            (Find(0, 4, Number(6)), Ok(())),
         ]),
     },
     // Two places, of which the first is cleared, and one behind them.
