@@ -1,5 +1,6 @@
 // Edits of a table of one's own.
 use crate::clock::{nanoseconds, since};
+use crate::lending::lend;
 use crate::plan::{LIMITS, PLACES, row, schema};
 use far_frame::Frame;
 use far_store::FarTickets;
@@ -7,21 +8,28 @@ use far_types::{Cell, Refusal, Spec};
 use std::alloc::Global;
 use std::time::Clock;
 
-/// Inserts a row at each place.
-fn fill<S: FarTickets>(alloc: Global, frame: &mut Frame<S>) -> Result<(), Refusal> {
+/// Inserts a row at each place. Returns whether all were inserted.
+fn fill<S: FarTickets>(alloc: Global, frame: &mut Frame<S>) -> bool {
     for _ in 0..PLACES {
-        frame.insert(row(alloc)?)?;
+        let Ok(row) = row(alloc) else {
+            return false;
+        };
+        let Ok(_) = frame.insert(row) else {
+            return false;
+        };
     }
-    Ok(())
+    true
 }
 
-/// Sets so many numbers, each at another place than the one before.
+/// Sets so many numbers, each at another place than the one before. Returns whether all were set.
 #[inline(never)]
-fn set_all<S: FarTickets>(frame: &mut Frame<S>, edits: u32) -> Result<(), Refusal> {
+fn set_all<S: FarTickets>(frame: &mut Frame<S>, edits: u32) -> bool {
     for k in 0..edits {
-        frame.set(k % PLACES, 0, Cell::Int(i64::from(k)))?;
+        let Ok(()) = frame.set(k % PLACES, 0, Cell::Int(i64::from(k))) else {
+            return false;
+        };
     }
-    Ok(())
+    true
 }
 
 /// The nanoseconds that so many edits take of a table of these rows.
@@ -31,21 +39,30 @@ fn time_edits<S: FarTickets, R: Clock>(
     frame: &mut Frame<S>,
     edits: u32,
 ) -> Result<u128, Refusal> {
-    frame.watch(Spec::totals(alloc, 0))?;
-    fill(alloc, frame)?;
+    let Ok(_) = frame.watch(Spec::totals(alloc, 0)) else {
+        return Err(Refusal::NoMemory);
+    };
+    if !fill(alloc, frame) {
+        return Err(Refusal::NoMemory);
+    }
     let start = nanoseconds(rt);
-    set_all(frame, edits)?;
+    if !set_all(frame, edits) {
+        return Err(Refusal::NoMemory);
+    }
     Ok(since(rt, start))
 }
 
 /// The nanoseconds that so many edits take of a table of one's own, without a lock or a history.
-pub fn measure<S: FarTickets, R: Clock>(
+pub(crate) fn measure<S: FarTickets, R: Clock>(
     rt: &R,
     alloc: Global,
     edits: u32,
 ) -> Result<u128, Refusal> {
-    let opened = Frame::<S>::open(alloc, schema(alloc)?, LIMITS, 0);
-    opened.and_then(|mut frame: Frame<S>| -> Result<u128, Refusal> {
-        time_edits(rt, alloc, &mut frame, edits)
-    })
+    let Ok(schema) = schema(alloc) else {
+        return Err(Refusal::NoMemory);
+    };
+    lend(
+        Frame::<S>::open(alloc, schema, LIMITS, 0),
+        |frame: &mut Frame<S>| -> Result<u128, Refusal> { time_edits(rt, alloc, frame, edits) },
+    )
 }

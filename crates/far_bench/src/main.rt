@@ -10,7 +10,7 @@
 
 mod alone;
 mod clock;
-mod faults;
+mod lending;
 mod opening;
 mod plan;
 mod rows;
@@ -18,142 +18,144 @@ mod sessions;
 mod shared;
 mod sums;
 
-use far_store::{AgentStore, FarTickets};
-use shared::SharedTimes;
+use far_store::AgentStore;
 use std::time::Instant;
 use std::{env, io};
 
-/// How many calls a round makes of each kind where times are wanted.
-const CALLS: usize = 65_536;
+/// How much is done: numbers that are summed and how often, calls on rows in a round and rounds, and edits of a session.
+struct Work {
+    tells_times: bool,
+    numbers: usize,
+    sums: u32,
+    calls: usize,
+    rounds: u32,
+    edits: u32,
+}
 
-/// How many edits a session makes then.
-const EDITS: u32 = 1_048_576;
+/// Enough to show that it ends.
+const ONCE: Work = Work {
+    tells_times: false,
+    numbers: 10_000,
+    sums: 1,
+    calls: 256,
+    rounds: 1,
+    edits: 256,
+};
+
+/// Enough to tell times.
+const OFTEN: Work = Work {
+    tells_times: true,
+    numbers: 1_000_000,
+    sums: 200,
+    calls: 65_536,
+    rounds: 20,
+    edits: 1_048_576,
+};
+
+/// What is measured.
+struct Request {
+    columns: bool,
+    threads: bool,
+    often: bool,
+}
 
 fn main(rt: HostRuntime) -> io::Result<()> {
-    let subject = env::args(&rt)?.nth(1);
-    let subject = subject.as_deref();
-    let with_times = subject.is_some();
-    // A clock that cannot be read would tell times of 0: it ends the program.
-    let _now = Instant::now(&rt)?;
-    if subject != Some("threads") {
-        show_columns(&rt, with_times)?;
+    let Request {
+        columns,
+        threads,
+        often,
+    } = request_of(&rt)?;
+    let work = if often { &OFTEN } else { &ONCE };
+    if columns {
+        show_columns(&rt, work)?;
     }
-    if subject != Some("columns") {
-        let edits = if with_times { EDITS } else { 256 };
-        let times = shared::measure(&rt, rt.alloc(), edits).map_err(faults::io_error)?;
-        show_threads(&rt, &times, with_times)?;
+    if threads {
+        let mut times = [0u128; 7];
+        let seen = shared::measure(&rt, rt.alloc(), work.edits, &mut times);
+        show_threads(&rt, work, seen, &times)?;
     }
     Ok(())
 }
 
-/// Measures the sums and the calls on rows.
-fn show_columns(rt: &HostRuntime, with_times: bool) -> io::Result<()> {
-    let store = AgentStore::new(rt, rt.alloc(), 4_096).map_err(faults::io_error)?;
-    show_sums(rt, &store, with_times)?;
-    show_rows::<AgentStore<&HostRuntime>>(rt, with_times)
+/// What the program's argument asks for.
+fn request_of(rt: &HostRuntime) -> io::Result<Request> {
+    // A clock that cannot be read would tell times of 0: it ends the program.
+    let _now = Instant::now(rt)?;
+    let subject = env::args(rt)?.nth(1);
+    let subject = subject.as_deref();
+    Ok(Request {
+        columns: subject != Some("threads"),
+        threads: subject != Some("columns"),
+        often: subject.is_some(),
+    })
+}
+
+/// Measures sums of a column, and calls on rows.
+fn show_columns(rt: &HostRuntime, work: &Work) -> io::Result<()> {
+    show_sums(rt, work)?;
+    show_rows(rt, work)
 }
 
 /// Measures the sums.
-fn show_sums<S: FarTickets>(rt: &HostRuntime, store: &S, with_times: bool) -> io::Result<()> {
-    let sums = sums::measure(
-        rt,
-        store,
-        if with_times { 1_000_000 } else { 10_000 },
-        if with_times { 200 } else { 1 },
-    )?;
-    println!(rt; "sums: ended")?;
-    if !with_times {
-        return Ok(());
-    }
-    let lines = [
-        ("sum of a list, by flags", sums.plain, 1),
-        ("sum of a column, by flags", sums.lent, 1),
-        ("sum of a list", sums.plain_all, 1),
-        ("sum of a column", sums.lent_all, 1),
-    ];
-    tell_all(rt, &lines)?;
-    eprintln!(rt; "seen: {}", sums.seen)
+fn show_sums(rt: &HostRuntime, work: &Work) -> io::Result<()> {
+    let mut times = [u128::MAX; 4];
+    let seen = sums::measure::<AgentStore<&HostRuntime>>(rt, work.numbers, work.sums, &mut times);
+    tell_end(rt, work, "sums", seen)?;
+    tell_all(rt, work, &sums::NAMES, &times, 1)
 }
 
 /// Measures the calls on rows.
-fn show_rows<S: FarTickets>(rt: &HostRuntime, with_times: bool) -> io::Result<()> {
-    let times = rows::measure::<S>(
+fn show_rows(rt: &HostRuntime, work: &Work) -> io::Result<()> {
+    let mut pushes = [u128::MAX; 5];
+    let mut calls = [u128::MAX; 4];
+    let seen = rows::measure::<AgentStore<&HostRuntime>>(
         rt,
-        if with_times { CALLS } else { 256 },
-        if with_times { 20 } else { 1 },
-    )
-    .map_err(faults::io_error)?;
-    println!(rt; "rows: ended")?;
-    if !with_times {
-        return Ok(());
-    }
-    let calls = CALLS as u128;
-    let lines = [
-        ("push of 1 number", times.one_number, calls),
-        ("push of 4 numbers", times.four_numbers, calls),
-        ("push of 16 numbers", times.sixteen_numbers, calls),
-        ("push of 1 text", times.one_text, calls),
-        ("push of 4 texts", times.four_texts, calls),
-        ("set of a number", times.set, calls),
-        ("read of a cell", times.read, calls),
-        ("read of a row of 4 numbers", times.row, calls),
-        ("place in a scan of row groups", times.scan, calls),
-    ];
-    tell_all(rt, &lines)?;
-    eprintln!(rt; "seen: {}", times.seen)
+        work.calls,
+        work.rounds,
+        &mut pushes,
+        &mut calls,
+    );
+    tell_end(rt, work, "rows", seen)?;
+    tell_all(rt, work, &rows::PUSHES, &pushes, work.calls as u128)?;
+    tell_all(rt, work, &rows::CELL_CALLS, &calls, work.calls as u128)
 }
 
 /// Tells what was measured of a table that threads share.
-fn show_threads(rt: &HostRuntime, times: &SharedTimes, with_times: bool) -> io::Result<()> {
-    println!(rt; "threads: ended")?;
-    if !with_times {
-        return Ok(());
-    }
-    let calls = u128::from(EDITS);
-    let lines = [
-        (
-            "set of a number of a table of one's own",
-            times.alone,
-            calls,
-        ),
-        (
-            "the same of a shared table, by one session",
-            times.one.edits,
-            calls,
-        ),
-        (
-            "the same by each of four sessions at once",
-            times.four.edits,
-            calls,
-        ),
-        (
-            "the same by one session, while another reads its gauge",
-            times.beside.edits,
-            calls,
-        ),
-        (
-            "reading of a gauge after one session",
-            times.one.readings,
-            calls,
-        ),
-        (
-            "reading of a gauge beside three sessions",
-            times.four.readings,
-            calls,
-        ),
-        (
-            "reading of a gauge while another session writes its stripe",
-            times.beside.beside,
-            times.beside.readings_beside,
-        ),
-    ];
-    tell_all(rt, &lines)
+fn show_threads(
+    rt: &HostRuntime,
+    work: &Work,
+    seen: Option<i64>,
+    times: &[u128; 7],
+) -> io::Result<()> {
+    tell_end(rt, work, "threads", seen)?;
+    tell_all(rt, work, &shared::NAMES, times, u128::from(work.edits))
 }
 
-/// Prints the times of calls: what they are, the nanoseconds of all, and how many they were.
-fn tell_all(rt: &HostRuntime, lines: &[(&str, u128, u128)]) -> io::Result<()> {
-    for line in lines {
-        tell(rt, line.0, line.1, line.2)?;
+/// Tells that what was measured has ended, and beside times what keeps the work from being left out.
+fn tell_end(rt: &HostRuntime, work: &Work, what: &str, seen: Option<i64>) -> io::Result<()> {
+    let Some(seen) = seen else {
+        return Err(io::Error::from(io::ErrorKind::OutOfMemory));
+    };
+    println!(rt; "{what}: ended")?;
+    if work.tells_times {
+        eprintln!(rt; "{what}, seen: {seen}")?;
+    }
+    Ok(())
+}
+
+/// Prints the times of calls, if it is to: what each call is, and the nanoseconds of so many of them.
+fn tell_all(
+    rt: &HostRuntime,
+    work: &Work,
+    names: &[&str],
+    times: &[u128],
+    calls: u128,
+) -> io::Result<()> {
+    if !work.tells_times {
+        return Ok(());
+    }
+    for (name, time) in names.iter().zip(times) {
+        tell(rt, name, *time, calls)?;
     }
     Ok(())
 }

@@ -2,10 +2,12 @@
 ghost use Rattle.std.specs.Prelude.{◌≡◌};
 ghost use Rattle.far_shared.specs.Opening.{AreNamed};
 
+use crate::lending::lend_first;
 use crate::plan::plan;
 use crate::sessions::{Duties, Times, time_all};
 use far_history::Naming;
-use far_shared::{Made, Plan, Site};
+use far_sessions::Session;
+use far_shared::{Made, Plan, Shared, Site};
 use far_store::{AgentStore, FarTickets};
 use far_types::Refusal;
 use std::alloc::Global;
@@ -23,10 +25,12 @@ fn opened<
 >(rt: &R, alloc: Global, made: Made<N, S>, duties: Duties) -> Result<Times, Refusal>
     requires { AreNamed made B.cells }
 {
-    let Ok((shared, sessions)) = made.open::<B>(alloc) else {
-        return Err(Refusal::NoMemory);
-    };
-    time_all(rt, alloc, &shared, sessions, duties)
+    lend_first(
+        made.open::<B>(alloc),
+        |shared: &Shared<N, B, S>, sessions: Vec<Session<B>>| -> Result<Times, Refusal> {
+            time_all(rt, alloc, shared, sessions, duties)
+        },
+    )
 }
 
 /// Gives the cells of a table their names.
@@ -53,12 +57,14 @@ fn planned<N: Naming + Send + Sync, S: FarTickets, R: Threads + Wait + Clock + S
 }
 
 /// The times of the slowest of so many sessions.
-pub fn measure<R: Threads + Wait + Clock + Sync>(
+pub(crate) fn measure<R: Threads + Wait + Clock + Sync>(
     rt: &R,
     alloc: Global,
     sessions: u64,
     duties: Duties,
 ) -> Result<Times, Refusal> {
-    let plan = plan(alloc, sessions)?;
+    let Ok(plan) = plan(alloc, sessions) else {
+        return Err(Refusal::NoMemory);
+    };
     planned::<Brand, AgentStore<&R>, R>(rt, alloc, plan, duties)
 }

@@ -29,34 +29,32 @@ const LIMITS: Limits = Limits {
 /// How far the places of two calls in turn lie apart.
 const STRIDE: usize = 4_099;
 
-/// The least times of a round, in nanoseconds, and what keeps the work from being left out.
-#[derive(Drop)]
-pub struct RowTimes {
-    pub one_number: u128,
-    pub four_numbers: u128,
-    pub sixteen_numbers: u128,
-    pub one_text: u128,
-    pub four_texts: u128,
-    pub set: u128,
-    pub read: u128,
-    pub row: u128,
-    pub scan: u128,
-    pub seen: i64,
+/// The tables into which rows are pushed.
+pub(crate) static PUSHES: [&str; 5] = [
+    "push of 1 number",
+    "push of 4 numbers",
+    "push of 16 numbers",
+    "push of 1 text",
+    "push of 4 texts",
+];
+
+/// The calls on a table of four numbers.
+enum Call {
+    Set,
+    Read,
+    ReadRow,
+    Scan,
 }
 
-/// No round yet.
-const NO_TIMES: RowTimes = RowTimes {
-    one_number: u128::MAX,
-    four_numbers: u128::MAX,
-    sixteen_numbers: u128::MAX,
-    one_text: u128::MAX,
-    four_texts: u128::MAX,
-    set: u128::MAX,
-    read: u128::MAX,
-    row: u128::MAX,
-    scan: u128::MAX,
-    seen: 0,
-};
+const CALLS: [Call; 4] = [Call::Set, Call::Read, Call::ReadRow, Call::Scan];
+
+/// What they are, in the same order.
+pub(crate) static CELL_CALLS: [&str; 4] = [
+    "set of a number",
+    "read of a cell",
+    "read of a row of 4 numbers",
+    "place in a scan of row groups",
+];
 
 /// A table without a row.
 fn no_rows<S: FarTickets>(
@@ -67,8 +65,12 @@ fn no_rows<S: FarTickets>(
     ensures numbers { IfOk result (λ rows. rows.numbers ≡ numbers_from limits.now.group 0 kinds.items) }
     ensures texts { IfOk result (λ rows. rows.texts ≡ texts_from limits.now.group limits.now.text_size 0 kinds.items) }
 {
-    let schema = Schema::new(kinds)?;
-    limits.check()?;
+    let Ok(schema) = Schema::new(kinds) else {
+        return Err(Refusal::BadSchema);
+    };
+    let Ok(()) = limits.check() else {
+        return Err(Refusal::BadSchema);
+    };
     Rows::new(alloc, &schema, limits, 7)
 }
 
@@ -96,63 +98,21 @@ fn push<S: FarTickets>(alloc: Global, rows: &mut Rows<S>, row: &NewRow) -> Resul
     rows.push(alloc, row)
 }
 
-/// Pushes a row so many times, each time after it was asked whether it may be.
+/// Pushes a row so many times, each time after it was asked whether it may be. Returns whether each push was made.
 #[inline(never)]
-fn push_all<S: FarTickets>(
-    alloc: Global,
-    rows: &mut Rows<S>,
-    row: &NewRow,
-    count: usize,
-) -> Result<(), Refusal>
+fn push_all<S: FarTickets>(alloc: Global, rows: &mut Rows<S>, row: &NewRow, count: usize) -> bool
     requires numbers { length row.now.numbers ≡ length rows.old.numbers }
     requires texts { length row.now.texts ≡ length rows.old.texts }
 {
     for place in 0..count {
-        may_push(rows, row)?;
-        push(alloc, rows, row)?;
+        let Ok(()) = may_push(rows, row) else {
+            return false;
+        };
+        let Ok(()) = push(alloc, rows, row) else {
+            return false;
+        };
     }
-    Ok(())
-}
-
-/// The time of so many pushes of a row into a fresh table, whose columns are of these kinds.
-fn time_pushes<S: FarTickets>(
-    rt: &HostRuntime,
-    kinds: Vec<Kind>,
-    row: &NewRow,
-    count: usize,
-) -> Result<u128, Refusal>
-    requires numbers { length row.now.numbers ≡ length (numbers_from 64 0 kinds.items) }
-    requires texts { length row.now.texts ≡ length (texts_from 64 1048576 0 kinds.items) }
-{
-    let mut rows = no_rows::<S>(rt.alloc(), &LIMITS, kinds)?;
-    let start = nanoseconds(rt);
-    push_all(rt.alloc(), &mut rows, row, count)?;
-    Ok(since(rt, start))
-}
-
-fn push_one_number<S: FarTickets>(rt: &HostRuntime, count: usize) -> Result<u128, Refusal> {
-    let kinds = Vec::from_array(rt.alloc(), [Kind::Int])?;
-    time_pushes::<S>(rt, kinds, &one_number(rt.alloc())?, count)
-}
-
-fn push_four_numbers<S: FarTickets>(rt: &HostRuntime, count: usize) -> Result<u128, Refusal> {
-    let kinds = Vec::from_array(rt.alloc(), [Kind::Int; 4])?;
-    time_pushes::<S>(rt, kinds, &four_numbers(rt.alloc())?, count)
-}
-
-fn push_sixteen_numbers<S: FarTickets>(rt: &HostRuntime, count: usize) -> Result<u128, Refusal> {
-    let kinds = Vec::from_array(rt.alloc(), [Kind::Int; 16])?;
-    time_pushes::<S>(rt, kinds, &sixteen_numbers(rt.alloc())?, count)
-}
-
-fn push_one_text<S: FarTickets>(rt: &HostRuntime, count: usize) -> Result<u128, Refusal> {
-    let kinds = Vec::from_array(rt.alloc(), [Kind::Text])?;
-    time_pushes::<S>(rt, kinds, &one_text(rt.alloc())?, count)
-}
-
-fn push_four_texts<S: FarTickets>(rt: &HostRuntime, count: usize) -> Result<u128, Refusal> {
-    let kinds = Vec::from_array(rt.alloc(), [Kind::Text; 4])?;
-    time_pushes::<S>(rt, kinds, &four_texts(rt.alloc())?, count)
+    true
 }
 
 /// Whether a number may be put in the first column, which is of numbers, of a place.
@@ -172,187 +132,266 @@ fn may_set<S: FarTickets>(rows: &Rows<S>, place: usize, value: &NewCell) -> Resu
     rows.may_set(0, place, value)
 }
 
-/// Puts 1 in the first column of a place, if it may be.
+/// Puts a number in the first column of a place. Returns whether it may be, and was.
 #[inline(always)]
-fn set<S: FarTickets>(alloc: Global, rows: &mut Rows<S>, place: usize) -> Result<(), Refusal> {
-    let value = NewCell::Number(Some(1));
-    may_set(rows, place, &value)?;
-    rows.set(alloc, 0, place, &value)
+fn set<S: FarTickets>(alloc: Global, rows: &mut Rows<S>, place: usize, value: &NewCell) -> bool
+    requires of_numbers { kind_in value.now ≡ Kind.Int }
+    requires short { is_too_long (cell_of value.now) ≡ false }
+{
+    let Ok(()) = may_set(rows, place, value) else {
+        return false;
+    };
+    rows.set(alloc, 0, place, value).is_ok()
 }
 
-/// Sets so many numbers at places below `count`, a power of two.
+/// Sets so many numbers to 1 at places below `count`, a power of two.
 #[inline(never)]
-fn set_all<S: FarTickets>(alloc: Global, rows: &mut Rows<S>, count: usize) -> Result<(), Refusal> {
+fn set_all<S: FarTickets>(alloc: Global, rows: &mut Rows<S>, count: usize) -> Option<i64> {
     let mask = count.saturating_sub(1);
     let mut place = 0usize;
     for _ in 0..count {
-        set(alloc, rows, place)?;
+        let value = NewCell::Number(Some(1));
+        if !set(alloc, rows, place, &value) {
+            return None;
+        }
         place = place.wrapping_add(STRIDE) & mask;
     }
-    Ok(())
+    Some(0)
 }
 
 /// Reads so many cells of the first column at places below `count`, a power of two: the sum of their numbers.
 #[inline(never)]
-fn read_all<S: FarTickets>(rows: &Rows<S>, count: usize) -> Result<i64, Refusal> {
+fn read_all<S: FarTickets>(rows: &Rows<S>, count: usize) -> Option<i64> {
     let mask = count.saturating_sub(1);
     let mut sum = 0i64;
     let mut place = 0usize;
     for _ in 0..count {
-        if let CellRef::Int(number) = rows.cell(0, place)? {
-            sum = sum.wrapping_add(number);
-        }
+        let Ok(CellRef::Int(number)) = rows.cell(0, place) else {
+            return None;
+        };
+        sum = sum.wrapping_add(number);
         place = place.wrapping_add(STRIDE) & mask;
     }
-    Ok(sum)
+    Some(sum)
 }
 
 /// The number in the first column of a row, which is read as a whole.
 #[inline(always)]
-fn first_number<S: FarTickets>(rows: &Rows<S>, place: usize) -> Result<i64, Refusal> {
+fn first_number<S: FarTickets>(rows: &Rows<S>, place: usize) -> Option<i64> {
     if place >= rows.len() {
-        return Err(Refusal::NoRow);
+        return None;
     }
-    match rows.row(place)?.get(0) {
-        Some(CellRef::Int(number)) => Ok(number),
-        _ => Ok(0),
+    let Ok(row) = rows.row(place) else {
+        return None;
+    };
+    match row.get(0) {
+        Some(CellRef::Int(number)) => Some(number),
+        _ => None,
     }
 }
 
 /// Reads so many rows at places below `count`, a power of two: the sum of their first numbers.
 #[inline(never)]
-fn read_rows<S: FarTickets>(rows: &Rows<S>, count: usize) -> Result<i64, Refusal> {
+fn read_rows<S: FarTickets>(rows: &Rows<S>, count: usize) -> Option<i64> {
     let mask = count.saturating_sub(1);
     let mut sum = 0i64;
     let mut place = 0usize;
     for _ in 0..count {
-        sum = sum.wrapping_add(first_number(rows, place)?);
+        let Some(number) = first_number(rows, place) else {
+            return None;
+        };
+        sum = sum.wrapping_add(number);
         place = place.wrapping_add(STRIDE) & mask;
     }
-    Ok(sum)
+    Some(sum)
 }
 
 /// The sum of a row group of the first column.
 #[inline(always)]
-fn sum_of_group<S: FarTickets>(rows: &Rows<S>, group: u32) -> Result<i64, Refusal> {
+fn sum_of_group<S: FarTickets>(rows: &Rows<S>, group: u32) -> Option<i64> {
+    let Ok(LentColumn::Numbers(numbers)) = rows.group_column(0, group) else {
+        return None;
+    };
     let mut sum = 0i64;
-    if let LentColumn::Numbers(numbers) = rows.group_column(0, group)? {
-        for number in numbers {
-            sum = sum.wrapping_add(number.unwrap_or(0));
-        }
+    for number in numbers {
+        sum = sum.wrapping_add(number.unwrap_or(0));
     }
-    Ok(sum)
+    Some(sum)
 }
 
 /// Reads the row groups of the first `count` places: the sum of the first column.
 #[inline(never)]
-fn scan_all<S: FarTickets>(rows: &Rows<S>, count: usize) -> Result<i64, Refusal> {
+fn scan_all<S: FarTickets>(rows: &Rows<S>, count: usize) -> Option<i64> {
     let groups = u32::try_from(count / 64).unwrap_or(0);
     let mut sum = 0i64;
     for group in 0..groups {
-        sum = sum.wrapping_add(sum_of_group(rows, group)?);
+        let Some(number) = sum_of_group(rows, group) else {
+            return None;
+        };
+        sum = sum.wrapping_add(number);
     }
-    Ok(sum)
+    Some(sum)
 }
 
-/// One round of readings of these rows, as rows and as row groups.
-fn time_readings<S: FarTickets>(
-    rt: &HostRuntime,
-    rows: &Rows<S>,
+/// Makes a call so many times. Returns a sum of what was read.
+fn call_all<S: FarTickets>(
+    alloc: Global,
+    rows: &mut Rows<S>,
+    call: &Call,
     count: usize,
-    times: &mut RowTimes,
-) -> Result<(), Refusal> {
-    let start = nanoseconds(rt);
-    let sum = read_rows(rows, count)?;
-    times.row = times.row.min(since(rt, start));
-    let start = nanoseconds(rt);
-    let scanned = scan_all(rows, count)?;
-    times.scan = times.scan.min(since(rt, start));
-    times.seen = times.seen.wrapping_add(sum).wrapping_add(scanned);
-    Ok(())
+) -> Option<i64> {
+    match call {
+        Call::Set => set_all(alloc, rows, count),
+        Call::Read => read_all(rows, count),
+        Call::ReadRow => read_rows(rows, count),
+        Call::Scan => scan_all(rows, count),
+    }
 }
 
-/// One round of the calls on cells of these rows.
-fn time_cells<S: FarTickets>(
+/// One round of the calls on these rows: of as many of them as there are times, each of which becomes the least so far.
+fn time_calls<S: FarTickets>(
     rt: &HostRuntime,
     rows: &mut Rows<S>,
     count: usize,
-    times: &mut RowTimes,
-) -> Result<(), Refusal> {
-    let start = nanoseconds(rt);
-    set_all(rt.alloc(), rows, count)?;
-    times.set = times.set.min(since(rt, start));
-    let start = nanoseconds(rt);
-    let sum = read_all(rows, count)?;
-    times.read = times.read.min(since(rt, start));
-    times.seen = times.seen.wrapping_add(sum);
-    Ok(())
+    times: &mut [u128],
+) -> Option<i64> {
+    let mut seen = 0i64;
+    for (call, least) in CALLS.iter().zip(times) {
+        let start = nanoseconds(rt);
+        let Some(sum) = call_all(rt.alloc(), rows, call, count) else {
+            return None;
+        };
+        *least = (*least).min(since(rt, start));
+        seen = seen.wrapping_add(sum);
+    }
+    Some(seen)
 }
 
-/// One round of the calls on these rows, which are filled with one row first.
-fn time_calls<S: FarTickets>(
+/// One round over rows without a place: pushes of a row, and then the calls.
+fn time_rows<S: FarTickets>(
     rt: &HostRuntime,
     rows: &mut Rows<S>,
     row: &NewRow,
     count: usize,
-    times: &mut RowTimes,
-) -> Result<(), Refusal>
+    least: &mut u128,
+    calls: &mut [u128],
+) -> Option<i64>
     requires numbers { length row.now.numbers ≡ length rows.old.numbers }
     requires texts { length row.now.texts ≡ length rows.old.texts }
 {
-    push_all(rt.alloc(), rows, row, count)?;
-    time_cells(rt, rows, count, times)?;
-    time_readings(rt, rows, count, times)
+    let start = nanoseconds(rt);
+    if !push_all(rt.alloc(), rows, row, count) {
+        return None;
+    }
+    *least = (*least).min(since(rt, start));
+    time_calls(rt, rows, count, calls)
 }
 
-/// One round of the calls on cells, of a table of four columns of numbers.
-fn cells_of_four<S: FarTickets>(
+/// One round over a fresh table, whose columns are of these kinds.
+fn time_table<S: FarTickets>(
     rt: &HostRuntime,
+    kinds: Vec<Kind>,
+    row: &NewRow,
     count: usize,
-    times: &mut RowTimes,
-) -> Result<(), Refusal> {
-    let row = four_numbers(rt.alloc())?;
-    let kinds = Vec::from_array(rt.alloc(), [Kind::Int; 4])?;
-    let mut rows = no_rows::<S>(rt.alloc(), &LIMITS, kinds)?;
-    time_calls(rt, &mut rows, &row, count, times)
+    least: &mut u128,
+    calls: &mut [u128],
+) -> Option<i64>
+    requires numbers { length row.now.numbers ≡ length (numbers_from 64 0 kinds.items) }
+    requires texts { length row.now.texts ≡ length (texts_from 64 1048576 0 kinds.items) }
+{
+    let Ok(mut rows) = no_rows::<S>(rt.alloc(), &LIMITS, kinds) else {
+        return None;
+    };
+    time_rows(rt, &mut rows, row, count, least, calls)
 }
 
-/// One round of pushes.
-fn time_numbers<S: FarTickets>(
-    rt: &HostRuntime,
-    count: usize,
-    times: &mut RowTimes,
-) -> Result<(), Refusal> {
-    times.one_number = times.one_number.min(push_one_number::<S>(rt, count)?);
-    times.four_numbers = times.four_numbers.min(push_four_numbers::<S>(rt, count)?);
-    times.sixteen_numbers = times
-        .sixteen_numbers
-        .min(push_sixteen_numbers::<S>(rt, count)?);
-    Ok(())
+fn time_one_number<S: FarTickets>(rt: &HostRuntime, count: usize, least: &mut u128) -> bool {
+    let Ok(kinds) = Vec::from_array(rt.alloc(), [Kind::Int]) else {
+        return false;
+    };
+    let Ok(row) = one_number(rt.alloc()) else {
+        return false;
+    };
+    time_table::<S>(rt, kinds, &row, count, least, &mut []).is_some()
 }
 
-fn time_texts<S: FarTickets>(
+fn time_sixteen_numbers<S: FarTickets>(rt: &HostRuntime, count: usize, least: &mut u128) -> bool {
+    let Ok(kinds) = Vec::from_array(rt.alloc(), [Kind::Int; 16]) else {
+        return false;
+    };
+    let Ok(row) = sixteen_numbers(rt.alloc()) else {
+        return false;
+    };
+    time_table::<S>(rt, kinds, &row, count, least, &mut []).is_some()
+}
+
+fn time_one_text<S: FarTickets>(rt: &HostRuntime, count: usize, least: &mut u128) -> bool {
+    let Ok(kinds) = Vec::from_array(rt.alloc(), [Kind::Text]) else {
+        return false;
+    };
+    let Ok(row) = one_text(rt.alloc()) else {
+        return false;
+    };
+    time_table::<S>(rt, kinds, &row, count, least, &mut []).is_some()
+}
+
+fn time_four_texts<S: FarTickets>(rt: &HostRuntime, count: usize, least: &mut u128) -> bool {
+    let Ok(kinds) = Vec::from_array(rt.alloc(), [Kind::Text; 4]) else {
+        return false;
+    };
+    let Ok(row) = four_texts(rt.alloc()) else {
+        return false;
+    };
+    time_table::<S>(rt, kinds, &row, count, least, &mut []).is_some()
+}
+
+fn time_four_numbers<S: FarTickets>(
     rt: &HostRuntime,
     count: usize,
-    times: &mut RowTimes,
-) -> Result<(), Refusal> {
-    times.one_text = times.one_text.min(push_one_text::<S>(rt, count)?);
-    times.four_texts = times.four_texts.min(push_four_texts::<S>(rt, count)?);
-    Ok(())
+    least: &mut u128,
+    calls: &mut [u128],
+) -> Option<i64> {
+    let Ok(kinds) = Vec::from_array(rt.alloc(), [Kind::Int; 4]) else {
+        return None;
+    };
+    let Ok(row) = four_numbers(rt.alloc()) else {
+        return None;
+    };
+    time_table::<S>(rt, kinds, &row, count, least, calls)
+}
+
+/// One round of the pushes, and of the calls on the table of four numbers.
+fn time_round<S: FarTickets>(
+    rt: &HostRuntime,
+    count: usize,
+    pushes: &mut [u128; 5],
+    calls: &mut [u128; 4],
+) -> Option<i64> {
+    let pushed = time_one_number::<S>(rt, count, &mut pushes[0])
+        && time_sixteen_numbers::<S>(rt, count, &mut pushes[2])
+        && time_one_text::<S>(rt, count, &mut pushes[3])
+        && time_four_texts::<S>(rt, count, &mut pushes[4]);
+    if !pushed {
+        return None;
+    }
+    time_four_numbers::<S>(rt, count, &mut pushes[1], calls)
 }
 
 /// Times calls on rows, so many of each in a round, a power of two up to 65,536, over objects whose tickets are of this
-/// kind of store.
-pub fn measure<S: FarTickets>(
+/// kind of store. Each time becomes the least of all rounds. Returns what keeps the work from being left out.
+pub(crate) fn measure<S: FarTickets>(
     rt: &HostRuntime,
     count: usize,
     rounds: u32,
-) -> Result<RowTimes, Refusal> {
-    let mut times = NO_TIMES;
+    pushes: &mut [u128; 5],
+    calls: &mut [u128; 4],
+) -> Option<i64> {
+    let mut seen = 0i64;
     for _ in 0..rounds {
-        time_numbers::<S>(rt, count, &mut times)?;
-        time_texts::<S>(rt, count, &mut times)?;
-        cells_of_four::<S>(rt, count, &mut times)?;
+        let Some(sum) = time_round::<S>(rt, count, pushes, calls) else {
+            return None;
+        };
+        seen = seen.wrapping_add(sum);
     }
-    Ok(times)
+    Some(seen)
 }

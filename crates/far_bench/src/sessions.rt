@@ -19,22 +19,22 @@ const MOST_READINGS: u64 = 1_073_741_824;
 /// What the sessions do: how many edits a writer makes, and how many sessions write. The others read, the first of them the gauge of
 /// stripe 0.
 #[derive(Clone, Copy)]
-pub struct Duties {
-    pub edits: u32,
-    pub writers: u64,
+pub(crate) struct Duties {
+    pub(crate) edits: u32,
+    pub(crate) writers: u64,
 }
 
 /// The nanoseconds of the slowest session.
 #[derive(Clone, Copy)]
-pub struct Times {
+pub(crate) struct Times {
     /// For all its edits.
-    pub edits: u128,
+    pub(crate) edits: u128,
     /// For as many readings of its gauge after them.
-    pub readings: u128,
+    pub(crate) readings: u128,
     /// For readings of a gauge while another session wrote that stripe.
-    pub beside: u128,
+    pub(crate) beside: u128,
     /// How many these were.
-    pub readings_beside: u128,
+    pub(crate) readings_beside: u128,
 }
 
 /// Nothing yet.
@@ -57,21 +57,26 @@ fn stripe_of<B: Site>(me: &Session<B>, duties: Duties) -> u32
     }
 }
 
-/// Inserts a row at each place of a stripe.
+/// Inserts a row at each place of a stripe. Returns whether all were inserted.
 fn fill<N: Naming, B: Site, S: FarTickets, R: Wait>(
     rt: &R,
     alloc: Global,
     shared: &Shared<N, B, S>,
     me: &mut Session<B>,
     stripe: u32,
-) -> Result<(), Refusal> {
+) -> bool {
     for _ in 0..PLACES {
-        shared.apply(rt, me, stripe, Edit::Insert(row(alloc)?))?;
+        let Ok(row) = row(alloc) else {
+            return false;
+        };
+        let Ok(_) = shared.apply(rt, me, stripe, Edit::Insert(row)) else {
+            return false;
+        };
     }
-    Ok(())
+    true
 }
 
-/// Sets so many numbers, each at another place than the one before.
+/// Sets so many numbers, each at another place than the one before. Returns whether all were set.
 #[inline(never)]
 fn set_all<N: Naming, B: Site, S: FarTickets, R: Wait>(
     rt: &R,
@@ -79,16 +84,18 @@ fn set_all<N: Naming, B: Site, S: FarTickets, R: Wait>(
     me: &mut Session<B>,
     stripe: u32,
     edits: u32,
-) -> Result<(), Refusal> {
+) -> bool {
     for k in 0..edits {
         let edit = Edit::Set {
             place: k % PLACES,
             column: 0,
             cell: Cell::Int(i64::from(k)),
         };
-        shared.apply(rt, me, stripe, edit)?;
+        let Ok(_) = shared.apply(rt, me, stripe, edit) else {
+            return false;
+        };
     }
-    Ok(())
+    true
 }
 
 /// Reads the gauge of a stripe so many times. Returns the greatest number of edits that it read, so that no reading is left out.
@@ -117,7 +124,10 @@ fn read_until<N: Naming, B: Site, R: Wait>(
     edits: u64,
 ) -> Result<u64, Refusal> {
     for before in 0..MOST_READINGS {
-        if cells.gauge(rt, me, stripe)?.edits >= edits {
+        let Ok(reading) = cells.gauge(rt, me, stripe) else {
+            return Err(Refusal::OutOfRange);
+        };
+        if reading.edits >= edits {
             return Ok(before.wrapping_add(1));
         }
     }
@@ -133,12 +143,18 @@ fn time_writer<N: Naming, B: Site, S: FarTickets, R: Wait + Clock>(
     stripe: u32,
     edits: u32,
 ) -> Result<Times, Refusal> {
-    fill(rt, alloc, shared, me, stripe)?;
+    if !fill(rt, alloc, shared, me, stripe) {
+        return Err(Refusal::NoMemory);
+    }
     let start = nanoseconds(rt);
-    set_all(rt, shared, me, stripe, edits)?;
+    if !set_all(rt, shared, me, stripe, edits) {
+        return Err(Refusal::NoMemory);
+    }
     let edited = since(rt, start);
     let start = nanoseconds(rt);
-    read_all(rt, shared.cells(), me, stripe, edits)?;
+    let Ok(_) = read_all(rt, shared.cells(), me, stripe, edits) else {
+        return Err(Refusal::OutOfRange);
+    };
     Ok(Times {
         edits: edited,
         readings: since(rt, start),
@@ -155,10 +171,14 @@ fn time_reader<N: Naming, B: Site, R: Wait + Clock>(
     edits: u32,
 ) -> Result<Times, Refusal> {
     let inserts = u64::from(PLACES);
-    read_until(rt, cells, me, stripe, inserts.wrapping_add(1))?;
+    let Ok(_) = read_until(rt, cells, me, stripe, inserts.wrapping_add(1)) else {
+        return Err(Refusal::OutOfRange);
+    };
     let start = nanoseconds(rt);
     let last = inserts.wrapping_add(u64::from(edits));
-    let readings = read_until(rt, cells, me, stripe, last)?;
+    let Ok(readings) = read_until(rt, cells, me, stripe, last) else {
+        return Err(Refusal::OutOfRange);
+    };
     Ok(Times {
         beside: since(rt, start),
         readings_beside: u128::from(readings),
@@ -205,7 +225,9 @@ fn time_each<
 fn slowest(all: Vec<Result<Times, Refusal>>) -> Result<Times, Refusal> {
     let mut slowest = NO_TIMES;
     for times in all {
-        let times = times?;
+        let Ok(times) = times else {
+            return Err(Refusal::OutOfRange);
+        };
         slowest.edits = slowest.edits.max(times.edits);
         slowest.readings = slowest.readings.max(times.readings);
         slowest.beside = slowest.beside.max(times.beside);
@@ -215,7 +237,7 @@ fn slowest(all: Vec<Result<Times, Refusal>>) -> Result<Times, Refusal> {
 }
 
 /// The times of the slowest session, when all do their duties at once.
-pub fn time_all<
+pub(crate) fn time_all<
     N: Naming + Send + Sync,
     B: Site + Send + Sync,
     S: FarTickets,
@@ -227,5 +249,8 @@ pub fn time_all<
     sessions: Vec<Session<B>>,
     duties: Duties,
 ) -> Result<Times, Refusal> {
-    slowest(time_each(rt, alloc, shared, sessions, duties)?)
+    match time_each(rt, alloc, shared, sessions, duties) {
+        Ok(times) => slowest(times),
+        Err(_) => Err(Refusal::NoMemory),
+    }
 }

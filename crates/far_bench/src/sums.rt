@@ -3,13 +3,11 @@ ghost use Rattle.far_vector.specs.Vector.{IsVector};
 ghost use Rattle.far_columns.specs.Numbers.{number_lists};
 
 use crate::clock::{nanoseconds, since};
-use crate::faults::io_error;
 use far_columns::{Alive, IntColumn};
 use far_scopes::{ObjectLimits, Objects};
 use far_store::FarTickets;
 use far_types::Refusal;
 use std::alloc::Global;
-use std::io;
 
 /// Room for 2,097,152 numbers, and no bound on writes.
 const LIMITS: ObjectLimits = ObjectLimits {
@@ -19,25 +17,23 @@ const LIMITS: ObjectLimits = ObjectLimits {
     leavings: u64::MAX,
 };
 
-/// The least times of a sum, in nanoseconds, with a look at the flags and without, and what keeps the work from being left
-/// out.
-#[derive(Drop)]
-pub struct SumTimes {
-    pub plain: u128,
-    pub lent: u128,
-    pub plain_all: u128,
-    pub lent_all: u128,
-    pub seen: i64,
+/// What is summed: a list or a column, by the flags of its places or all of it.
+enum Sum {
+    ListByFlags,
+    ColumnByFlags,
+    List,
+    Column,
 }
 
-/// No round yet.
-const NO_TIMES: SumTimes = SumTimes {
-    plain: u128::MAX,
-    lent: u128::MAX,
-    plain_all: u128::MAX,
-    lent_all: u128::MAX,
-    seen: 0,
-};
+const SUMS: [Sum; 4] = [Sum::ListByFlags, Sum::ColumnByFlags, Sum::List, Sum::Column];
+
+/// What they are, in the same order.
+pub(crate) static NAMES: [&str; 4] = [
+    "sum of a list, by flags",
+    "sum of a column, by flags",
+    "sum of a list",
+    "sum of a column",
+];
 
 /// The sum of the values of live places.
 #[inline(never)]
@@ -63,102 +59,103 @@ fn whole_sum(numbers: &[Option<i64>]) -> i64 {
     sum
 }
 
-/// The sum of the values of a column's live places.
+/// The sum of the values of a column: of its live places, or of all.
 #[inline(never)]
-fn lent_live_sum<S: FarTickets>(
+fn lent_sum<S: FarTickets>(
     objects: &Objects<Option<i64>, S>,
     column: &IntColumn,
     alive: &Alive,
-) -> Result<i64, Refusal>
+    by_flags: bool,
+) -> Option<i64>
     requires { IsVector (number_lists S.content objects.now) column.now }
 {
     if alive.len() != column.len() {
-        return Err(Refusal::OutOfRange);
+        return None;
     }
-    let mut lents = column.lent(objects, alive, 0, column.len())?;
+    let Ok(mut lents) = column.lent(objects, alive, 0, column.len()) else {
+        return None;
+    };
     let mut sum = 0i64;
     for _ in 0..lents.len() {
         let Some(lent) = lents.next() else {
-            break;
+            return None;
         };
-        sum = sum.wrapping_add(live_sum(lent.values, lent.alive));
+        let piece = if by_flags {
+            live_sum(lent.values, lent.alive)
+        } else {
+            whole_sum(lent.values)
+        };
+        sum = sum.wrapping_add(piece);
     }
-    Ok(sum)
+    Some(sum)
 }
 
-/// The sum of all values of a column.
-#[inline(never)]
-fn lent_whole_sum<S: FarTickets>(
+/// One of the sums.
+fn sum_of<S: FarTickets>(
+    sum: &Sum,
     objects: &Objects<Option<i64>, S>,
     column: &IntColumn,
     alive: &Alive,
-) -> Result<i64, Refusal>
+    numbers: &[Option<i64>],
+    flags: &[bool],
+) -> Option<i64>
     requires { IsVector (number_lists S.content objects.now) column.now }
 {
-    if alive.len() != column.len() {
-        return Err(Refusal::OutOfRange);
+    match sum {
+        Sum::ListByFlags => Some(live_sum(numbers, flags)),
+        Sum::ColumnByFlags => lent_sum(objects, column, alive, true),
+        Sum::List => Some(whole_sum(numbers)),
+        Sum::Column => lent_sum(objects, column, alive, false),
     }
-    let mut lents = column.lent(objects, alive, 0, column.len())?;
-    let mut sum = 0i64;
-    for _ in 0..lents.len() {
-        let Some(lent) = lents.next() else {
-            break;
-        };
-        sum = sum.wrapping_add(whole_sum(lent.values));
-    }
-    Ok(sum)
 }
 
-/// One round of the sums of a list.
-fn time_list(rt: &HostRuntime, numbers: &[Option<i64>], alive: &[bool], times: &mut SumTimes) {
-    let start = nanoseconds(rt);
-    let live = live_sum(numbers, alive);
-    times.plain = times.plain.min(since(rt, start));
-    let start = nanoseconds(rt);
-    let whole = whole_sum(numbers);
-    times.plain_all = times.plain_all.min(since(rt, start));
-    times.seen = times.seen.wrapping_add(live).wrapping_add(whole);
-}
-
-/// One round of the sums of a column. They are taken away from what the list's sums have added, so that nothing is left
-/// where they are the same.
-fn time_column<S: FarTickets>(
+/// One round of the sums, whose times become the least so far. Returns what keeps the work from being left out: nothing is left
+/// of it where a list and a column have the same sum.
+fn time_sums<S: FarTickets>(
     rt: &HostRuntime,
     objects: &Objects<Option<i64>, S>,
     column: &IntColumn,
     alive: &Alive,
-    times: &mut SumTimes,
-) -> Result<(), Refusal>
+    numbers: &[Option<i64>],
+    flags: &[bool],
+    times: &mut [u128],
+) -> Option<i64>
     requires { IsVector (number_lists S.content objects.now) column.now }
 {
-    let start = nanoseconds(rt);
-    let live = lent_live_sum(objects, column, alive)?;
-    times.lent = times.lent.min(since(rt, start));
-    let start = nanoseconds(rt);
-    let whole = lent_whole_sum(objects, column, alive)?;
-    times.lent_all = times.lent_all.min(since(rt, start));
-    times.seen = times.seen.wrapping_sub(live).wrapping_sub(whole);
-    Ok(())
+    let mut left = 0i64;
+    for (sum, least) in SUMS.iter().zip(times) {
+        let start = nanoseconds(rt);
+        let Some(total) = sum_of(sum, objects, column, alive, numbers, flags) else {
+            return None;
+        };
+        *least = (*least).min(since(rt, start));
+        left = total.wrapping_sub(left);
+    }
+    Some(left)
 }
 
 /// As many numbers as said, of which none is missing.
-fn numbers(alloc: Global, count: usize) -> Result<Vec<Option<i64>>, Refusal> {
+fn numbers(alloc: Global, count: usize) -> Option<Vec<Option<i64>>> {
     let mut numbers = Vec::new(alloc);
     let mut next = 0i64;
     for _ in 0..count {
-        numbers.push(Some(next))?;
+        let Ok(()) = numbers.push(Some(next)) else {
+            return None;
+        };
         next = next.wrapping_add(0x0123_4567_89ab);
     }
-    Ok(numbers)
+    Some(numbers)
 }
 
 /// Places that are all alive, as many as said.
-fn all_alive(alloc: Global, count: usize) -> Result<Alive, Refusal> {
+fn all_alive(alloc: Global, count: usize) -> Option<Alive> {
     let mut alive = Alive::new(alloc);
     for _ in 0..count {
-        alive.push()?;
+        let Ok(()) = alive.push() else {
+            return None;
+        };
     }
-    Ok(alive)
+    Some(alive)
 }
 
 /// Adds these numbers to a column. There are few objects.
@@ -186,17 +183,24 @@ fn time_rounds<S: FarTickets>(
     column: &IntColumn,
     numbers: &[Option<i64>],
     rounds: u32,
-) -> Result<SumTimes, Refusal>
+    times: &mut [u128],
+) -> Option<i64>
     requires { IsVector (number_lists S.content objects.now) column.now }
 {
-    let alive = all_alive(rt.alloc(), numbers.len())?;
-    let flags = Vec::from_elem(rt.alloc(), true, numbers.len())?;
-    let mut times = NO_TIMES;
+    let Some(alive) = all_alive(rt.alloc(), numbers.len()) else {
+        return None;
+    };
+    let Ok(flags) = Vec::from_elem(rt.alloc(), true, numbers.len()) else {
+        return None;
+    };
+    let mut left = 0i64;
     for _ in 0..rounds {
-        time_list(rt, numbers, &flags, &mut times);
-        time_column(rt, objects, column, &alive, &mut times)?;
+        let Some(more) = time_sums(rt, objects, column, &alive, numbers, &flags, times) else {
+            return None;
+        };
+        left = left.wrapping_add(more);
     }
-    Ok(times)
+    Some(left)
 }
 
 /// The times with a column that has no number yet.
@@ -206,12 +210,17 @@ fn time_filled<S: FarTickets>(
     column: &mut IntColumn,
     count: usize,
     rounds: u32,
-) -> Result<SumTimes, Refusal>
+    times: &mut [u128],
+) -> Option<i64>
     requires { IsVector (number_lists S.content objects.old) column.old }
 {
-    let numbers = numbers(rt.alloc(), count)?;
-    fill(objects, column, &numbers)?;
-    time_rounds(rt, objects, column, &numbers, rounds)
+    let Some(numbers) = numbers(rt.alloc(), count) else {
+        return None;
+    };
+    let Ok(()) = fill(objects, column, &numbers) else {
+        return None;
+    };
+    time_rounds(rt, objects, column, &numbers, rounds, times)
 }
 
 /// The times with a column in these objects, with row groups of 4,096 places.
@@ -220,23 +229,24 @@ fn time_in<S: FarTickets>(
     objects: &mut Objects<Option<i64>, S>,
     count: usize,
     rounds: u32,
-) -> Result<SumTimes, Refusal> {
-    match IntColumn::new(rt.alloc(), 0, 4_096) {
-        Ok(mut column) => time_filled(rt, objects, &mut column, count, rounds),
-        Err(refusal) => Err(refusal),
-    }
+    times: &mut [u128],
+) -> Option<i64> {
+    let Ok(mut column) = IntColumn::new(rt.alloc(), 0, 4_096) else {
+        return None;
+    };
+    time_filled(rt, objects, &mut column, count, rounds, times)
 }
 
 /// Times the sums of so many numbers, in a list and in a column whose objects are all local: there is room for 2,097,152
-/// numbers. The store's type alone is needed.
-pub fn measure<S: FarTickets>(
+/// numbers. Each time becomes the least of all rounds. Returns what keeps the work from being left out.
+pub(crate) fn measure<S: FarTickets>(
     rt: &HostRuntime,
-    _store: &S,
     count: usize,
     rounds: u32,
-) -> io::Result<SumTimes> {
-    match Objects::<Option<i64>, S>::new(rt.alloc(), 0, LIMITS) {
-        Ok(mut objects) => time_in(rt, &mut objects, count, rounds).map_err(io_error),
-        Err(refusal) => Err(io_error(refusal)),
-    }
+    times: &mut [u128; 4],
+) -> Option<i64> {
+    let Ok(mut objects) = Objects::<Option<i64>, S>::new(rt.alloc(), 0, LIMITS) else {
+        return None;
+    };
+    time_in(rt, &mut objects, count, rounds, times)
 }

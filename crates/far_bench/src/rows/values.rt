@@ -10,20 +10,22 @@ use far_types::{Cell, Refusal, Row, Text};
 use std::alloc::Global;
 
 /// A row of one number.
-pub fn one_number(alloc: Global) -> Result<NewRow, Refusal>
+pub(super) fn one_number(alloc: Global) -> Result<NewRow, Refusal>
     ensures numbers { IfOk result (λ row. length row.numbers ≡ 1) }
     ensures texts { IfOk result (λ row. length row.texts ≡ 0) }
 {
-    let mut row = NewRow::new(alloc, 1, 0)?;
-    row.fill(
-        &[Slot::Number(0)],
-        Row::new(Vec::from_array(alloc, [Cell::Int(7)])?),
-    );
+    let Ok(cells) = Vec::from_array(alloc, [Cell::Int(7)]) else {
+        return Err(Refusal::NoMemory);
+    };
+    let Ok(mut row) = NewRow::new(alloc, 1, 0) else {
+        return Err(Refusal::NoMemory);
+    };
+    row.fill(&[Slot::Number(0)], Row::new(cells));
     Ok(row)
 }
 
 /// A row of four numbers.
-pub fn four_numbers(alloc: Global) -> Result<NewRow, Refusal>
+pub(super) fn four_numbers(alloc: Global) -> Result<NewRow, Refusal>
     ensures numbers { IfOk result (λ row. length row.numbers ≡ 4) }
     ensures texts { IfOk result (λ row. length row.texts ≡ 0) }
 {
@@ -34,13 +36,18 @@ pub fn four_numbers(alloc: Global) -> Result<NewRow, Refusal>
         Slot::Number(3),
     ];
     let cells = [Cell::Int(1), Cell::Int(2), Cell::Int(3), Cell::Int(4)];
-    let mut row = NewRow::new(alloc, 4, 0)?;
-    row.fill(&slots, Row::new(Vec::from_array(alloc, cells)?));
+    let Ok(cells) = Vec::from_array(alloc, cells) else {
+        return Err(Refusal::NoMemory);
+    };
+    let Ok(mut row) = NewRow::new(alloc, 4, 0) else {
+        return Err(Refusal::NoMemory);
+    };
+    row.fill(&slots, Row::new(cells));
     Ok(row)
 }
 
 /// A row of sixteen numbers, all missing.
-pub fn sixteen_numbers(alloc: Global) -> Result<NewRow, Refusal>
+pub(super) fn sixteen_numbers(alloc: Global) -> Result<NewRow, Refusal>
     ensures numbers { IfOk result (λ row. length row.numbers ≡ 16) }
     ensures texts { IfOk result (λ row. length row.texts ≡ 0) }
 {
@@ -56,7 +63,10 @@ fn eight_bytes(alloc: Global) -> Result<Cell, Refusal>
     if text.len() > 4096 {
         return Err(Refusal::TextTooLong);
     }
-    Ok(Cell::Text(Text::new(String::from_str(alloc, text)?)))
+    let Ok(text) = String::from_str(alloc, text) else {
+        return Err(Refusal::NoMemory);
+    };
+    Ok(Cell::Text(Text::new(text)))
 }
 
 /// The cells of a row of four texts.
@@ -65,31 +75,50 @@ fn texts(alloc: Global) -> Result<Row, Refusal>
     ensures kinds { IfOk result (λ row. kinds_fit (Texts ∷ Texts ∷ Texts ∷ Texts ∷ []) row ≡ true) }
     ensures short { IfOk result (λ row. list_any is_too_long row ≡ false) }
 {
-    let first = eight_bytes(alloc)?;
-    let second = eight_bytes(alloc)?;
-    let third = eight_bytes(alloc)?;
-    let last = eight_bytes(alloc)?;
-    Ok(Row::new(Vec::from_array(alloc, [first, second, third, last])?))
+    let (Ok(first), Ok(second), Ok(third), Ok(last)) = (
+        eight_bytes(alloc),
+        eight_bytes(alloc),
+        eight_bytes(alloc),
+        eight_bytes(alloc),
+    ) else {
+        return Err(Refusal::NoMemory);
+    };
+    let Ok(cells) = Vec::from_array(alloc, [first, second, third, last]) else {
+        return Err(Refusal::NoMemory);
+    };
+    Ok(Row::new(cells))
 }
 
 /// A row of one text.
-pub fn one_text(alloc: Global) -> Result<NewRow, Refusal>
+pub(super) fn one_text(alloc: Global) -> Result<NewRow, Refusal>
     ensures numbers { IfOk result (λ row. length row.numbers ≡ 0) }
     ensures texts { IfOk result (λ row. length row.texts ≡ 1) }
 {
-    let text = eight_bytes(alloc)?;
-    let mut row = NewRow::new(alloc, 0, 1)?;
-    row.fill(&[Slot::Text(0)], Row::new(Vec::from_array(alloc, [text])?));
+    let Ok(text) = eight_bytes(alloc) else {
+        return Err(Refusal::NoMemory);
+    };
+    let Ok(cells) = Vec::from_array(alloc, [text]) else {
+        return Err(Refusal::NoMemory);
+    };
+    let Ok(mut row) = NewRow::new(alloc, 0, 1) else {
+        return Err(Refusal::NoMemory);
+    };
+    row.fill(&[Slot::Text(0)], Row::new(cells));
     Ok(row)
 }
 
 /// A row of four texts.
-pub fn four_texts(alloc: Global) -> Result<NewRow, Refusal>
+pub(super) fn four_texts(alloc: Global) -> Result<NewRow, Refusal>
     ensures numbers { IfOk result (λ row. length row.numbers ≡ 0) }
     ensures texts { IfOk result (λ row. length row.texts ≡ 4) }
 {
     let slots = [Slot::Text(0), Slot::Text(1), Slot::Text(2), Slot::Text(3)];
-    let mut row = NewRow::new(alloc, 0, 4)?;
-    row.fill(&slots, texts(alloc)?);
+    let Ok(texts) = texts(alloc) else {
+        return Err(Refusal::NoMemory);
+    };
+    let Ok(mut row) = NewRow::new(alloc, 0, 4) else {
+        return Err(Refusal::NoMemory);
+    };
+    row.fill(&slots, texts);
     Ok(row)
 }
