@@ -278,20 +278,29 @@ pub joined : {X : Type 0} (field : Piece → List X) (of : Place → X) (c : ℕ
 joined field of c each [] = refl
 joined field of c each (one ∷ pieces) = (λ i. each one i ++ joined field of c each pieces i) ∙ sym (map-append of one (flat_map (λ p. p) pieces))
 
--- what a lending gives, joined
-module _ (table : Table) (limits : AreLimits table.limits) (column from to : ℕ) (low : from ≤ to) (given : Reply) (gives : Gives (slice_get table.schema column) (lent_part table column from to) given) where
+-- the pieces of a part of a column, joined
+module _ (table : Table) (limits : AreLimits table.limits) (column from to : ℕ) (low : from ≤ to) where
   all : flat_map (λ p. p) (pieces_of table.places table.limits.group from to) ≡ slice_range table.places from to
   all = joined-pieces table.places table.limits.group limits.group_low from to low
 
-  pub given-cells : flat_map (λ piece. piece.cells) (pieces_in given) ≡ part column from to table.places
-  given-cells = ap (flat_map (λ piece. piece.cells)) (pieces-given (slice_get table.schema column) (lent_part table column from to) given gives)
-      ∙ joined (λ piece. piece.cells) (λ place. cell_at column place.cells) column (λ places. refl) (pieces_of table.places table.limits.group from to)
+  pub part-cells : flat_map (λ piece. piece.cells) (lent_part table column from to) ≡ part column from to table.places
+  part-cells = joined (λ piece. piece.cells) (λ place. cell_at column place.cells) column (λ places. refl) (pieces_of table.places table.limits.group from to)
       ∙ ap (column_of column) all ∙ sym (cells-range column table.places from to)
 
-  pub given-flags : flat_map (λ piece. piece.flags) (pieces_in given) ≡ slice_range (flags_of table.places) from to
-  given-flags = ap (flat_map (λ piece. piece.flags)) (pieces-given (slice_get table.schema column) (lent_part table column from to) given gives)
-      ∙ joined (λ piece. piece.flags) (λ place. place.alive) column (λ places. refl) (pieces_of table.places table.limits.group from to)
+  pub part-flags : flat_map (λ piece. piece.flags) (lent_part table column from to) ≡ slice_range (flags_of table.places) from to
+  part-flags = joined (λ piece. piece.flags) (λ place. place.alive) column (λ places. refl) (pieces_of table.places table.limits.group from to)
       ∙ ap flags_of all ∙ sym (flags-range column table.places from to)
+
+  -- what a lending gives, joined
+  module _ (given : Reply) (gives : Gives (slice_get table.schema column) (lent_part table column from to) given) where
+    the-pieces : pieces_in given ≡ lent_part table column from to
+    the-pieces = pieces-given (slice_get table.schema column) (lent_part table column from to) given gives
+
+    pub given-cells : flat_map (λ piece. piece.cells) (pieces_in given) ≡ part column from to table.places
+    given-cells = ap (flat_map (λ piece. piece.cells)) the-pieces ∙ part-cells
+
+    pub given-flags : flat_map (λ piece. piece.flags) (pieces_in given) ≡ slice_range (flags_of table.places) from to
+    given-flags = ap (flat_map (λ piece. piece.flags)) the-pieces ∙ part-flags
 
 -- the rows of a table are those that hold its places
 pub record AreHeld {K : Type 0} (content : K → List ℕ) (held : Rows K) (table : Table) : Type 0 where

@@ -1,5 +1,5 @@
 // The promises of a run in the subject's own words, as they follow from the relation of steps.
-ghost use Rattle.std.specs.Prelude.{◌≡◌, ◌≢◌, ℕ, List, ◌∷◌, [], ◌++◌, Some, IfSome, true, false, slice_range};
+ghost use Rattle.std.specs.Prelude.{◌≡◌, ◌≢◌, ◌≤◌, ℕ, List, ◌∷◌, [], ◌++◌, Some, IfSome, true, false, slice_range};
 ghost use Rattle.std.specs.List.{flat_map};
 ghost use Rattle.far_types.specs.declared.answer.Answer.{Answer};
 ghost use Rattle.far_types.specs.declared.cell.Kind.{Kind};
@@ -27,7 +27,7 @@ ghost use Rattle.far_frame.specs.declared.step.Reply.TheVariants as reply;
 ghost use Rattle.far_frame.specs.declared.step.Step.{Step};
 ghost use Rattle.far_frame.specs.declared.step.Step.TheVariants as step;
 ghost use Rattle.far_frame.specs.Jobs.{JobRecord};
-ghost use Rattle.far_frame.specs.Lending.{flags_of, pieces_in};
+ghost use Rattle.far_frame.specs.Lending.{flags_of, lent_part, pieces_in};
 ghost use Rattle.far_frame.specs.Pins.{ArePinnedHere, is_here, is_pinning, pins_on};
 ghost use Rattle.far_frame.specs.Renewing.{IsMigratedTo};
 ghost use Rattle.far_frame.specs.Runs.{is_movement, is_refused, plain_rows};
@@ -71,8 +71,15 @@ pub fn a_migration_keeps_the_table<S: FarTickets, N: FarTickets>()
     ensures { (name : List ℕ) → (old : World S.Ticket) → (new : World N.Ticket) → IsMigratedTo S.content N.content name old new → new.state.table ≡ old.state.table }
 {}
 
-/// A part of a column that is lent is, joined, that part of its column, with the flags of its places; dead places are in it too.
-pub fn a_lent_part_is_that_of_its_column<S: FarTickets>()
+/// The pieces of a part of a column (`lent_part`, which the contracts of the lendings of a `View` and of a frame cite) are, joined, that part
+/// of its column, with the flags of its places; dead places are in it too.
+pub fn a_lent_part_is_that_of_its_column()
+    ensures cells { (table : Table) → AreLimits table.limits → (column from to : ℕ) → from ≤ to → flat_map (λ piece. piece.cells) (lent_part table column from to) ≡ part column from to table.places }
+    ensures flags { (table : Table) → AreLimits table.limits → (column from to : ℕ) → from ≤ to → flat_map (λ piece. piece.flags) (lent_part table column from to) ≡ slice_range (flags_of table.places) from to }
+{}
+
+/// The reply of a lending gives, joined, that part of the column, with the flags of its places.
+pub fn a_lent_reply_is_that_part<S: FarTickets>()
     ensures cells { (old : World S.Ticket) → AreLimits old.state.table.limits → (column from to : ℕ) → (given : Reply) → (new : World S.Ticket) → is_refused given ≡ false → IsStep S.content S.number_of old (step.Lend column from to) given new → flat_map (λ piece. piece.cells) (pieces_in given) ≡ part column from to old.state.table.places }
     ensures flags { (old : World S.Ticket) → AreLimits old.state.table.limits → (column from to : ℕ) → (given : Reply) → (new : World S.Ticket) → is_refused given ≡ false → IsStep S.content S.number_of old (step.Lend column from to) given new → flat_map (λ piece. piece.flags) (pieces_in given) ≡ slice_range (flags_of old.state.table.places) from to }
 {}
