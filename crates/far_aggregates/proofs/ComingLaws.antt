@@ -132,6 +132,10 @@ pub pair-fits : (g : ℕ) (k : Kept) (p : Pair) → KeptFolds k → KeptHasRoom 
 pair-fits g (kept.Totals live) p f r = f
 pair-fits g (kept.Extrema live) p f r = (r, refl)
 
+pub coming-fits : (g : ℕ) (s : Slot) (p : Pair) → Folds s → HasRoom g s → Fits g s (coming_in g s p)
+coming-fits g None p f r = tt
+coming-fits g (Some a) p f r = pair-fits g a.kept p f r
+
 -- what comes of a place fits what is kept, where totals are few and extrema have room
 kept-fits : (g : ℕ) (a : Aggregate) (k : Kept) (o : Change) → KeptFolds k → KeptHasRoom g k → Fits g (Some (record a { kept = k })) (option_map (coming_of g k) o)
 kept-fits g a k None f r = tt

@@ -1,8 +1,6 @@
 -- What a row gives to each aggregate, and what is kept of pairs.
-use Rattle.std.specs.Prelude.{◌≡◌, ℕ, ℤ, Option, ◌≤◌, ◌^◌, ◌/◌, true, cond, List, length, None, Some, slice_get}
+use Rattle.std.specs.Prelude.{◌≡◌, ℕ, ◌≤◌, ◌^◌, ◌/◌, true, cond, List, length, None, Some, slice_get}
 use Rattle.far_types.specs.declared.cell.Cell.{Cell}
-use Rattle.far_types.specs.declared.key.Key.{Key}
-use Rattle.far_types.specs.declared.key.Key.TheVariants.{Int}
 use Rattle.far_types.specs.declared.spec.Spec.{Spec}
 use Rattle.far_types.specs.Answers.{Totals, Extrema, totals}
 use Rattle.far_types.specs.Cells.{Cells}
@@ -10,8 +8,6 @@ use Rattle.far_types.specs.Changes.{with_pair, without_pair, with_seen}
 use Rattle.far_types.specs.Pairs.{Pair, PairsFit, pair_of}
 use Rattle.far_types.specs.Table.{Place, place_pair, is_unbuilt}
 use Rattle.far_aggregates.specs.declared.aggregate.Kept.{Kept}
-use Rattle.far_aggregates.specs.declared.changes.Given.{Given}
-use Rattle.far_aggregates.specs.declared.changes.Given.TheVariants.{Nothing, Under, Other}
 use Rattle.far_aggregates.specs.declared.aggregate.Kept.TheVariants as kept
 use Rattle.far_aggregates.specs.Kept.{Slot, Change}
 
@@ -35,17 +31,6 @@ alive_with row = record { cells = row; alive = true }
 abbrev pub change_of : ℕ → ℕ → Gives → Slot → Change
 change_of size i gives None = None
 change_of size i gives (Some a) = cond (is_unbuilt a.unbuilt (i / size)) None (gives a.spec)
-
--- the key that a number is
-abbrev pub key_by : Option ℤ → Option Key
-key_by None = None
-key_by (Some number) = Some (Int number)
-
--- what is told of a change with no call
-abbrev pub IsGiven : Change → Given → Type 0
-IsGiven change Nothing = change ≡ None
-IsGiven change (Under number value) = change ≡ Some (key_by number, value)
-IsGiven change Other = Unit {0}
 
 -- one pair more or less, where there is one
 abbrev pub with_change : Totals → Change → Totals

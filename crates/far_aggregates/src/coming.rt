@@ -1,14 +1,16 @@
 // Pairs that come into what is kept, and how they are taken back where a later growth is refused.
 ghost use Rattle.std.specs.Prelude.{◌≡◌, ◌/◌, ◌^◌, ◌<◌, ◌≤◌, ◌∷◌, ◌++◌, [], Some, OnOk, OnErr, IfErr, IfOk, length, map, take};
-ghost use Rattle.far_aggregates.specs.Changes.{Folds, EachFolds, row_gives, key_by};
+ghost use Rattle.far_types.specs.declared.key.Key.TheVariants as keys;
+ghost use Rattle.far_types.specs.Lent.{key_by};
+ghost use Rattle.far_aggregates.specs.Changes.{Folds, EachFolds, row_gives};
 ghost use Rattle.far_aggregates.specs.Coming.{stood_in, come_of, coming_in, kept_more, added, back, KeptMayAdd, MayAdd, MayBack, KeptFits, Fits, EachMayBack};
 ghost use Rattle.far_aggregates.specs.Rooms.{HasRoom, HaveRoom};
 ghost use Rattle.far_aggregates.specs.Until.{zip_until, zip_all};
 
 use super::aggregate::{Aggregate, Kept};
-use super::changes::{Given, Pair, change, give, key_of};
+use super::changes::{Pair, give};
 use far_extrema::Span;
-use far_types::{Key, LendCells, Refusal};
+use far_types::{CellRef, Key, LendCells, PairRef, Refusal, number_key};
 use std::alloc::Global;
 
 /// A pair that comes, and where extrema are kept what stood under its key in the row group, which takes it back.
@@ -33,31 +35,25 @@ fn stood(kept: &Kept, group: u32, key: &Option<Key>) -> Option<Span>
     }
 }
 
-/// What comes of a row that is alive at a place into an aggregate.
-fn come<R: LendCells>(
+/// What comes of a value under a text into an aggregate.
+fn come_of_text(
     alloc: Global,
     slot: &Option<Aggregate>,
-    row: &R,
-    size: u32,
-    place: usize,
-    group: usize,
+    group: u32,
+    text: &str,
+    value: i64,
 ) -> Result<Option<Coming>, Refusal>
-    requires size { 0 < size }
-    requires few { place ≤ 2 ^ 24 }
-    requires group { group ≡ place / size }
-    requires groups { group < 2 ^ 32 }
-    ensures ok { IfOk result (λ come. come ≡ come_of size place (row_gives (R.cells row.now)) slot.now) }
+    ensures ok { IfOk result (λ come. come ≡ coming_in group slot.now (Some (keys.Text text.now), value)) }
     ensures memory { IfErr result (λ e. e ≡ Refusal.NoMemory) }
 {
     match slot {
         None => Ok(None),
-        Some(aggregate) => match change(alloc, slot, row, size, place, group)? {
-            None => Ok(None),
-            Some(pair) => {
-                let stood = stood(&aggregate.kept, group as u32, &pair.0);
-                Ok(Some(Coming { pair, stood }))
-            }
-        },
+        Some(aggregate) => {
+            let key = CellRef::Text(text).key(alloc, None)?;
+            let stood = stood(&aggregate.kept, group, &key);
+            let pair = (key, value);
+            Ok(Some(Coming { pair, stood }))
+        }
     }
 }
 
@@ -152,41 +148,36 @@ fn come_under(
             Ok(())
         }
         Some(aggregate) => {
-            let key = key_of(number);
+            let key = number_key(number);
             let stood = stood(&aggregate.kept, group, &key);
-            let pair = (key_of(number), value);
+            let pair = (number_key(number), value);
             comes.push(Some(Coming { pair, stood }))?;
             add_to(&mut aggregate.kept, group, &key, value, stood)
         }
     }
 }
 
-/// As `come_next`, where the key is perhaps no number.
+/// As `come_under`, where the key is a text. Its string takes memory, so it is made before the aggregate grows.
 #[inline(never)]
-fn come_otherwise<R: LendCells>(
+fn come_under_text(
     alloc: Global,
     comes: &mut Vec<Option<Coming>>,
     slot: &mut Option<Aggregate>,
-    row: &R,
-    size: u32,
-    place: usize,
-    group: usize,
+    group: u32,
+    text: &str,
+    value: i64,
 ) -> Result<(), Refusal>
-    requires size { 0 < size }
-    requires few { place ≤ 2 ^ 24 }
-    requires group { group ≡ place / size }
-    requires groups { group < 2 ^ 32 }
     requires folds { Folds slot.old }
-    requires room { HasRoom (place / size) slot.old }
-    ensures ok { OnOk result (slot.new ≡ added (place / size) slot.old (come_of size place (row_gives (R.cells row.now)) slot.old)) }
-    ensures comes { OnOk result (comes.new.items ≡ comes.old.items ++ come_of size place (row_gives (R.cells row.now)) slot.old ∷ []) }
+    requires room { HasRoom group slot.old }
+    ensures ok { OnOk result (slot.new ≡ added group slot.old (coming_in group slot.old (Some (keys.Text text.now), value))) }
+    ensures comes { OnOk result (comes.new.items ≡ comes.old.items ++ coming_in group slot.old (Some (keys.Text text.now), value) ∷ []) }
     ensures err { OnErr result (slot.new ≡ slot.old) }
     ensures before { OnErr result (take (length comes.old.items) comes.new.items ≡ comes.old.items) }
     ensures memory { IfErr result (λ e. e ≡ Refusal.NoMemory) }
 {
     let at = comes.len();
-    comes.push(come(alloc, slot, row, size, place, group)?)?;
-    add_one(slot, group as u32, &comes[at])
+    comes.push(come_of_text(alloc, slot, group, text, value)?)?;
+    add_one(slot, group, &comes[at])
 }
 
 /// What comes of a row that is alive at a place into an aggregate comes in, and stands behind what came into those before.
@@ -213,12 +204,14 @@ fn come_next<R: LendCells>(
     ensures memory { IfErr result (λ e. e ≡ Refusal.NoMemory) }
 {
     match give(slot, row, size, place, group) {
-        Given::Nothing => {
+        PairRef::Nothing => {
             comes.push(None)?;
             Ok(())
         }
-        Given::Under(number, value) => come_under(comes, slot, group as u32, number, value),
-        Given::Other => come_otherwise(alloc, comes, slot, row, size, place, group),
+        PairRef::Under { number, value } => come_under(comes, slot, group as u32, number, value),
+        PairRef::UnderText { text, value } => {
+            come_under_text(alloc, comes, slot, group as u32, text, value)
+        }
     }
 }
 

@@ -5,11 +5,10 @@ ghost use Rattle.far_types.specs.Cells.{key_in};
 ghost use Rattle.far_offload.specs.Columns.{cell_of};
 
 use crate::column::Column;
-use far_types::{CellRef, Key, Refusal};
+use far_types::{Key, Refusal};
 use std::alloc::Global;
 
-/// The key of a column at a place, where there is one. The memory of an earlier key is used again. A number is told apart
-/// here, where the loop over the places is: it takes no memory.
+/// The key of a column at a place, where there is one. The memory of an earlier key is used again.
 #[inline(always)]
 pub(crate) fn key_at(
     alloc: Global,
@@ -23,8 +22,5 @@ pub(crate) fn key_at(
     let Some(column) = column else {
         return Ok(None);
     };
-    match column.cell(place) {
-        CellRef::Int(number) => Ok(Some(Key::Int(number))),
-        cell => cell.key(alloc, earlier),
-    }
+    column.cell(place).key(alloc, earlier)
 }

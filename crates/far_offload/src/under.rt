@@ -16,7 +16,7 @@ use crate::column::{Column, find};
 use crate::kept::{value_at, value_beyond};
 use crate::plain::widened;
 use far_codec::LentInts;
-use far_types::{CellRef, Key, Spec};
+use far_types::{Key, Spec};
 
 /// The column of the keys, where there is one and it is at hand.
 fn key_column<'a, 'b>(columns: &'a [Column<'b>], key: Option<u32>) -> Option<&'a Column<'b>>
@@ -30,13 +30,9 @@ fn key_column<'a, 'b>(columns: &'a [Column<'b>], key: Option<u32>) -> Option<&'a
 fn gives(column: Option<&Column<'_>>, place: usize, key: &Key) -> bool
     ensures { IsTrue result ↔ (key_in (option_map (cell_of place) (option_copied column.entry)) ≡ Some key.now) }
 {
-    let Some(column) = column else {
-        return false;
-    };
-    match (column.cell(place), key) {
-        (CellRef::Int(number), Key::Int(key)) => number == *key,
-        (CellRef::Text(text), Key::Text(key)) => text == key.as_str(),
-        _ => false,
+    match column {
+        Some(column) => column.cell(place).is_key(key),
+        None => false,
     }
 }
 

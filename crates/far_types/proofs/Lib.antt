@@ -5,5 +5,4 @@ pub mod LentLaws
 pub mod LineLaws
 pub mod PlaceLaws
 pub mod TotalLaws
-pub mod UnderLaws
 pub mod Values

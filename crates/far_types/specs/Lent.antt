@@ -1,9 +1,14 @@
--- What is lent in place, as cells of the plain table.
+-- What is lent in place, as cells and pairs of the plain table.
 use Rattle.std.specs.Prelude.{ℤ, ℕ, List, Option, None, Some}
 use Rattle.far_types.specs.declared.cell.Cell.{Cell}
 use Rattle.far_types.specs.declared.cell.Cell.TheVariants as cell
 use Rattle.far_types.specs.declared.cell_ref.CellRef.{CellRef}
 use Rattle.far_types.specs.declared.cell_ref.CellRef.TheVariants as lent
+use Rattle.far_types.specs.declared.key.Key.{Key}
+use Rattle.far_types.specs.declared.key.Key.TheVariants as key
+use Rattle.far_types.specs.declared.pair_ref.PairRef.{PairRef}
+use Rattle.far_types.specs.declared.pair_ref.PairRef.TheVariants as pairs
+use Rattle.far_types.specs.Pairs.{Pair}
 
 -- the cell that is lent in place
 abbrev pub lent_cell : CellRef → Cell
@@ -20,3 +25,14 @@ int_cell None = cell.Missing
 abbrev pub text_cell : Option (List ℕ) → Cell
 text_cell (Some text) = cell.Text text
 text_cell None = cell.Missing
+
+-- the key that a number is
+abbrev pub key_by : Option ℤ → Option Key
+key_by None = None
+key_by (Some number) = Some (key.Int number)
+
+-- the pair that is lent in place
+abbrev pub lent_pair : PairRef → Option Pair
+lent_pair pairs.Nothing = None
+lent_pair (pairs.Under number value) = Some (key_by number, value)
+lent_pair (pairs.UnderText text value) = Some (Some (key.Text text.now), value)

@@ -18,4 +18,3 @@ pub mod Pairs
 pub mod RefusalExamples
 pub mod Refusals
 pub mod Table
-pub mod Under

@@ -1,5 +1,5 @@
 // Cells lent in place.
-ghost use Rattle.std.specs.Prelude.{◌≡◌, Some, IfOk, IfErr, IfSome, FitsSigned};
+ghost use Rattle.std.specs.Prelude.{◌≡◌, ◌↔◌, IsTrue, Some, IfOk, IfErr, IfSome, FitsSigned};
 ghost use Rattle.std.specs.Int.{w64};
 ghost use Rattle.std.specs.Option.{option_copied};
 ghost use Rattle.far_types.specs.declared.key.Key.TheVariants as keys;
@@ -72,8 +72,21 @@ impl<'a> CellRef<'a> {
         }
     }
 
-    /// The key that the cell gives, or `None` where it has no value. The memory of an earlier key is used again.
-    /// Refused with `NoMemory` (1) alone.
+    /// Whether the key that the cell gives is this one. Takes no memory.
+    #[inline(always)]
+    pub fn is_key(self, key: &Key) -> bool
+        ensures { IsTrue result ↔ (key_in (Some (lent_cell self.entry)) ≡ Some key.now) }
+    {
+        match (self, key) {
+            (CellRef::Int(number), Key::Int(key)) => number == *key,
+            (CellRef::Text(text), Key::Text(key)) => text == key.as_str(),
+            _ => false,
+        }
+    }
+
+    /// The key that the cell gives, or `None` where it has no value. The memory of an earlier key is used again. Refused with
+    /// `NoMemory` (1) alone. A number is told apart where the caller's loop is: only a text costs a call.
+    #[inline(always)]
     pub fn key(self, alloc: Global, earlier: Option<Key>) -> Result<Option<Key>, Refusal>
         ensures key { IfOk result (λ key. key ≡ key_in (Some (lent_cell self.entry))) }
         ensures memory { IfErr result (λ e. e ≡ Refusal.NoMemory) }
@@ -87,6 +100,7 @@ impl<'a> CellRef<'a> {
 }
 
 /// The key of a text. The memory of an earlier key is used again.
+#[inline(never)]
 fn text_key(alloc: Global, earlier: Option<Key>, text: &str) -> Result<Key, Refusal>
     ensures key { IfOk result (λ key. key ≡ keys.Text text.now) }
     ensures memory { IfErr result (λ e. e ≡ Refusal.NoMemory) }

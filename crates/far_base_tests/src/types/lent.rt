@@ -42,6 +42,25 @@ fn a_key_uses_the_memory_of_an_earlier_one(rt: HostRuntime) {
     }
 }
 
+fn is_text_key(alloc: Global, cell: CellRef<'_>, bytes: &str) -> Result<bool, Refusal> {
+    let key = Key::Text(text(alloc, bytes)?);
+    Ok(cell.is_key(&key))
+}
+
+#[test]
+fn a_cell_is_no_key_but_its_own(rt: HostRuntime) {
+    assert!(rt; CellRef::Int(5).is_key(&Key::Int(5)) && !CellRef::Int(5).is_key(&Key::Int(6)));
+    for (bytes, expected) in [("ab", true), ("a", false), ("abc", false), ("", false)] {
+        let cell = CellRef::Text("ab");
+        assert!(rt;
+            is_text_key(rt.alloc(), cell, bytes) == Ok(expected),
+            "{bytes}"
+        );
+    }
+    assert!(rt; is_text_key(rt.alloc(), CellRef::Int(5), "5") == Ok(false));
+    assert!(rt; is_text_key(rt.alloc(), CellRef::Missing, "") == Ok(false));
+}
+
 /// Whether the row has the number 1, this text and no third cell.
 fn has_one_and(row: &LentRow<'_>, bytes: &str) -> bool {
     row.len() == 2 && is_number(row.get(0), 1) && is_text(row.get(1), bytes) && row.get(2).is_none()

@@ -1,6 +1,6 @@
 // What rows give to an aggregate, in hand and lent.
 use crate::types::samples::{row_of, spec, text};
-use far_types::{Key, LentRow, Op, Refusal, Row, Spec, Test};
+use far_types::{Key, LentRow, Op, PairRef, Refusal, Row, Spec, Test, number_key};
 use std::alloc::Global;
 
 /// Whether a row gives this pair, in hand and lent.
@@ -16,6 +16,15 @@ fn gives(
     let in_hand = spec.pair_of(alloc, row)?;
     let lent = spec.pair_of(alloc, &LentRow::of_row(row))?;
     Ok(in_hand == *pair && lent == *pair)
+}
+
+/// Whether a value is lent under a text, or nothing is where there is no value.
+fn lends(pair: PairRef<'_>, bytes: &str, value: Option<i64>) -> bool {
+    match (pair, value) {
+        (PairRef::UnderText { text, value }, Some(expected)) => text == bytes && value == expected,
+        (PairRef::Nothing, None) => true,
+        _ => false,
+    }
 }
 
 /// A row, and the value that it gives under its text to the extrema of column 0 by column 1, over the rows whose number is not
@@ -52,11 +61,11 @@ impl Folded {
         Ok(is_kept && gives(alloc, &spec, &row, &self.pair(alloc)?)?)
     }
 
-    /// The value that the row has under a key.
-    fn value_under(&self, alloc: Global, key: &str) -> Result<Option<i64>, Refusal> {
+    /// Whether the row lends its pair where it lies.
+    fn is_lent(&self, alloc: Global) -> Result<bool, Refusal> {
+        let spec = Folded::spec(alloc)?;
         let row = row_of(alloc, self.number, self.bytes)?;
-        let key = Some(Key::Text(text(alloc, key)?));
-        Ok(Folded::spec(alloc)?.value_under(&row, &key))
+        Ok(lends(spec.lend_pair(&row), self.bytes, self.value))
     }
 }
 
@@ -88,13 +97,19 @@ fn a_row_gives_its_value_under_its_key_where_all_tests_pass(rt: HostRuntime) {
     for row in &ROWS {
         let (number, bytes) = (row.number, row.bytes);
         assert!(rt; row.is_right(rt.alloc()) == Ok(true), "{number:?} {bytes}");
-        assert!(rt;
-            row.value_under(rt.alloc(), bytes) == Ok(row.value),
-            "{number:?} {bytes}"
-        );
-        assert!(rt;
-            row.value_under(rt.alloc(), "a") == Ok(None),
-            "{number:?} {bytes} under a"
-        );
+        assert!(rt; row.is_lent(rt.alloc()) == Ok(true), "{number:?} {bytes}");
     }
+}
+
+/// The pair of the row of a number and a text, by the totals of its number under the number.
+fn number_pair(alloc: Global, number: i64) -> Result<Option<(Option<Key>, i64)>, Refusal> {
+    let row = row_of(alloc, Some(number), "ab")?;
+    let spec = Spec::totals(alloc, 0).by(0);
+    spec.lend_pair(&row).pair(alloc, None)
+}
+
+#[test]
+fn a_row_gives_its_value_under_its_number(rt: HostRuntime) {
+    assert!(rt; number_pair(rt.alloc(), 5) == Ok(Some((number_key(Some(5)), 5))));
+    assert!(rt; number_key(Some(5)) == Some(Key::Int(5)) && number_key(None).is_none());
 }

@@ -1,0 +1,53 @@
+// What a row gives to an aggregate, lent in place.
+ghost use Rattle.std.specs.Prelude.{◌≡◌, IfOk, IfErr};
+ghost use Rattle.far_types.specs.Lent.{key_by, lent_pair};
+
+use super::cell_ref::CellRef;
+use super::key::Key;
+use super::refusal::Refusal;
+use std::alloc::Global;
+
+/// What a row gives to an aggregate: its pair, of which a text is lent where it lies, or nothing where the row is not kept or
+/// not folded. `specs/Lent.antt` has the pair that it stands for (`lent_pair`).
+#[derive(Clone, Copy, Debug)]
+pub enum PairRef<'a> {
+    /// No pair.
+    Nothing,
+    /// A value under a number, or under no key in an aggregate without key column.
+    Under { number: Option<i64>, value: i64 },
+    /// A value under a text.
+    UnderText { text: &'a str, value: i64 },
+}
+
+/// The key that a number is, and no key where there is no number. Takes no memory.
+#[inline(always)]
+pub fn number_key(number: Option<i64>) -> Option<Key>
+    ensures { result ≡ key_by number }
+{
+    match number {
+        Some(number) => Some(Key::Int(number)),
+        None => None,
+    }
+}
+
+impl<'a> PairRef<'a> {
+    /// The pair with a key of its own, or `None` where there is none. The memory of an earlier key is used again. Refused with
+    /// `NoMemory` (1) alone.
+    pub fn pair(
+        self,
+        alloc: Global,
+        earlier: Option<Key>,
+    ) -> Result<Option<(Option<Key>, i64)>, Refusal>
+        ensures pair { IfOk result (λ pair. pair ≡ lent_pair self.entry) }
+        ensures memory { IfErr result (λ e. e ≡ Refusal.NoMemory) }
+    {
+        match self {
+            PairRef::Nothing => Ok(None),
+            PairRef::Under { number, value } => Ok(Some((number_key(number), value))),
+            PairRef::UnderText { text, value } => {
+                let key = CellRef::Text(text).key(alloc, earlier)?;
+                Ok(Some((key, value)))
+            }
+        }
+    }
+}
