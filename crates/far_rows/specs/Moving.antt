@@ -1,16 +1,17 @@
 -- The objects of rows: which they are, how they change in place, and why that is refused.
-use Rattle.std.specs.Prelude.{ℕ, ◌<◌, [], ◌∷◌, length, Option, is_none, option_map, slice_get, Bool, false}
+use Rattle.std.specs.Prelude.{◌≡◌, ℕ, ◌<◌, List, [], ◌∷◌, length, Option, is_none, option_map, slice_get, Bool, false}
 use Rattle.std.specs.Option.{option_and_then, option_map_or, option_or}
 use Rattle.far_types.specs.declared.refusal.Refusal.{Refusal}
 use Rattle.far_types.specs.declared.refusal.Refusal.TheVariants as refusal
 use Rattle.far_types.specs.FirstOf.{first_of}
+use Rattle.far_scopes.specs.Movement.{AreHere}
 use Rattle.far_scopes.specs.Effects.{pinned as pinned_in, unpinned as unpinned_in, touched as touched_in}
 use Rattle.far_scopes.specs.Refusing.{pinned_out, unpin_refusal as unpin_refusal_in}
 use Rattle.far_rows.specs.declared.slot.Slot.{Slot}
 use Rattle.far_rows.specs.declared.slot.Slot.TheVariants as slot
 use Rattle.far_rows.specs.declared.object.Object.{Object}
 use Rattle.far_rows.specs.declared.object.Object.TheVariants as object
-use Rattle.far_rows.specs.Rows.{Rows, object_of}
+use Rattle.far_rows.specs.Rows.{Rows, object_of, cells_of}
 use Rattle.far_rows.specs.Refusing.{no_column, absent_in}
 
 -- the object of this number, among those of a slot's kind
@@ -42,6 +43,14 @@ module _ {K : Type 0} where
   abbrev pub touched : Rows K → Object → Rows K
   touched r (object.Number o) = record r { number_objects = touched_in r.number_objects o }
   touched r (object.Text o) = record r { text_objects = touched_in r.text_objects o }
+
+  -- what a call that moves objects in place leaves alone, accepted or not
+  pub record KeepsCells (content : K → List ℕ) (is_of : K → List ℕ → Type 0) (old new : Rows K) : Type 0 where
+    -- each column has the cells that it had
+    pub cells : cells_of content new ≡ cells_of content old
+    -- tickets of a store stay tickets of it
+    pub number_store : (name : List ℕ) → AreHere is_of name old.number_objects → AreHere is_of name new.number_objects
+    pub text_store : (name : List ℕ) → AreHere is_of name old.text_objects → AreHere is_of name new.text_objects
 
   -- its pins are used up
   abbrev pub pins_used : Rows K → Object → Bool × Refusal

@@ -2,7 +2,6 @@
 //! The rows of a table whose columns lie in objects that may be away.
 
 mod job;
-mod lent_cell;
 mod lent_column;
 mod new_cell;
 mod new_row;

@@ -1,10 +1,9 @@
 // A cell that is to come.
 ghost use Rattle.std.specs.Prelude.{◌≡◌, true};
 ghost use Rattle.far_types.specs.Cells.{is_of_kind};
-ghost use Rattle.far_types.specs.Lent.{lent_cell};
+ghost use Rattle.far_types.specs.Lent.{lent_cell, text_cell};
 ghost use Rattle.far_rows.specs.Setting.{cell_of, kind_in};
 
-use super::lent_cell::lent_number;
 use far_types::{Cell, CellRef, Kind, Text};
 
 /// A value for a place of a column, a number or a text, each of which may be missing.
@@ -37,9 +36,19 @@ impl NewCell {
         ensures { lent_cell result ≡ cell_of self.now }
     {
         match self {
-            NewCell::Number(number) => lent_number(*number),
-            NewCell::Text(Some(text)) => CellRef::Text(text.as_str()),
-            NewCell::Text(None) => CellRef::Missing,
+            NewCell::Number(number) => CellRef::of_int(*number),
+            NewCell::Text(text) => text_ref(text),
         }
+    }
+}
+
+// The cell of a text that may be missing, lent in place.
+#[inline(always)]
+pub(crate) fn text_ref(text: &Option<Text>) -> CellRef<'_>
+    ensures { lent_cell result ≡ text_cell text.now }
+{
+    match text {
+        Some(text) => CellRef::Text(text.as_str()),
+        None => CellRef::Missing,
     }
 }

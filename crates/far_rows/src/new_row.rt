@@ -7,7 +7,7 @@ ghost use Rattle.far_texts.specs.RefusingTogether.{any_too_long};
 ghost use Rattle.far_types.specs.Lent.{int_cell, text_cell, lent_cell};
 ghost use Rattle.far_rows.specs.Slots.{AreSlots, IsWithin, cell_in, kind_of, row_of, with_value};
 
-use super::lent_cell::lent_number;
+use super::new_cell::text_ref;
 use super::new_row_ref::NewRowRef;
 use super::slot::Slot;
 use far_types::{Cell, CellRef, Kind, LentRow, Refusal, Row, Text};
@@ -107,11 +107,8 @@ impl NewRow {
         ensures { lent_cell result ≡ cell_in self.now slot }
     {
         match slot {
-            Slot::Number(number) => lent_number(self.numbers[number]),
-            Slot::Text(text) => match &self.texts[text] {
-                Some(text) => CellRef::Text(text.as_str()),
-                None => CellRef::Missing,
-            },
+            Slot::Number(number) => CellRef::of_int(self.numbers[number]),
+            Slot::Text(text) => text_ref(&self.texts[text]),
         }
     }
 

@@ -62,7 +62,7 @@ impl<'a, S: FarTickets> LendGroup for MixedGroup<'a, S> {
             return Some(column);
         }
         match content_for(self.contents, number) {
-            Some(form) => Some(column_of(number, form)),
+            Some(bytes) => Some(column_of(number, bytes)),
             None => None,
         }
     }

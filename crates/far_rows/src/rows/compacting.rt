@@ -1,9 +1,8 @@
 // Segments of the local memory of the rows' objects that are compacted.
-ghost use Rattle.std.specs.Prelude.{◌≡◌, ◌<◌, ◌≤◌, ◌↔◌, ◌⊎◌, ℕ, List, length, OnOk, OnErr, IfErr, IsErrOf};
+ghost use Rattle.std.specs.Prelude.{◌≡◌, ◌<◌, ◌≤◌, ◌↔◌, ◌⊎◌, length, OnOk, OnErr, IfErr, IsErrOf};
 ghost use Rattle.far_log.specs.Changes.{HasNoEmptyOther};
 ghost use Rattle.far_scopes.specs.Compaction.{IsCompacted};
-ghost use Rattle.far_scopes.specs.Movement.{AreHere};
-ghost use Rattle.far_rows.specs.Rows.{cells_of};
+ghost use Rattle.far_rows.specs.Moving.{KeepsCells};
 
 use super::Rows;
 use far_store::FarTickets;
@@ -18,9 +17,8 @@ impl<S: FarTickets> Rows<S> {
     /// one and no other is without parts, else with `NoMemory` (1) alone; then nothing is changed.
     pub fn compact_numbers(&mut self, alloc: Global, segment: u32) -> Result<(), Refusal>
         ensures compacted { OnOk result (IsCompacted self.old.number_objects.memory self.new.number_objects.memory segment) }
-        ensures kept { self.new ≡ record self.old { number_objects = record self.old.number_objects { memory = self.new.number_objects.memory } } }
-        ensures cells { cells_of S.content self.new ≡ cells_of S.content self.old }
-        ensures store { (name : List ℕ) → AreHere S.is_of name self.old.number_objects → AreHere S.is_of name self.new.number_objects }
+        ensures stays { self.new ≡ record self.old { number_objects = record self.old.number_objects { memory = self.new.number_objects.memory } } }
+        ensures kept { KeepsCells S.content S.is_of self.old self.new }
         ensures missing { IsErrOf result Refusal.OutOfRange ↔ (length self.old.number_objects.memory.room ≤ segment) }
         ensures full { IsErrOf result Refusal.RegionFull ↔ ((segment < length self.old.number_objects.memory.room) × HasNoEmptyOther self.old.number_objects.memory.room segment) }
         ensures refused { IfErr result (λ e. (e ≡ Refusal.OutOfRange) ⊎ ((e ≡ Refusal.RegionFull) ⊎ (e ≡ Refusal.NoMemory))) }
@@ -33,9 +31,8 @@ impl<S: FarTickets> Rows<S> {
     /// `RegionFull` (17) and `NoMemory` (1).
     pub fn compact_texts(&mut self, alloc: Global, segment: u32) -> Result<(), Refusal>
         ensures compacted { OnOk result (IsCompacted self.old.text_objects.memory self.new.text_objects.memory segment) }
-        ensures kept { self.new ≡ record self.old { text_objects = record self.old.text_objects { memory = self.new.text_objects.memory } } }
-        ensures cells { cells_of S.content self.new ≡ cells_of S.content self.old }
-        ensures store { (name : List ℕ) → AreHere S.is_of name self.old.text_objects → AreHere S.is_of name self.new.text_objects }
+        ensures stays { self.new ≡ record self.old { text_objects = record self.old.text_objects { memory = self.new.text_objects.memory } } }
+        ensures kept { KeepsCells S.content S.is_of self.old self.new }
         ensures missing { IsErrOf result Refusal.OutOfRange ↔ (length self.old.text_objects.memory.room ≤ segment) }
         ensures full { IsErrOf result Refusal.RegionFull ↔ ((segment < length self.old.text_objects.memory.room) × HasNoEmptyOther self.old.text_objects.memory.room segment) }
         ensures refused { IfErr result (λ e. (e ≡ Refusal.OutOfRange) ⊎ ((e ≡ Refusal.RegionFull) ⊎ (e ≡ Refusal.NoMemory))) }

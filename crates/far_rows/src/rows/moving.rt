@@ -1,16 +1,15 @@
 // The objects of the rows, which are named by their columns and row groups.
-ghost use Rattle.std.specs.Prelude.{◌≡◌, ◌<◌, ℕ, List, length, Some, option_map, IfOk, IfSome, OnOk, OnErr, IsSomeAnd, slice_get};
+ghost use Rattle.std.specs.Prelude.{◌≡◌, ◌<◌, ℕ, length, Some, option_map, IfOk, IfSome, OnOk, OnErr, IsSomeAnd, slice_get};
 ghost use Rattle.far_types.specs.declared.name.Name.{Name};
 ghost use Rattle.far_codec.specs.FarForm.{FitsCount};
 ghost use Rattle.far_codec.specs.TextForm.{IsTextsForm};
 ghost use Rattle.far_scopes.specs.Memory.{list_in};
-ghost use Rattle.far_scopes.specs.Movement.{AreHere};
 ghost use Rattle.far_scopes.specs.Refusing.{refusal_in};
 ghost use Rattle.far_rows.specs.declared.slot.Slot.TheVariants as slot;
 ghost use Rattle.far_rows.specs.declared.object.Object.TheVariants as object;
 ghost use Rattle.far_rows.specs.Naming.{names_of};
-ghost use Rattle.far_rows.specs.Rows.{cells_of, object_of};
-ghost use Rattle.far_rows.specs.Moving.{object_in, object_at, IsInUse, pinned, unpinned, touched, object_refusal, pin_refusal, unpin_refusal};
+ghost use Rattle.far_rows.specs.Rows.{object_of};
+ghost use Rattle.far_rows.specs.Moving.{object_in, object_at, IsInUse, pinned, unpinned, touched, KeepsCells, object_refusal, pin_refusal, unpin_refusal};
 
 use super::Rows;
 use crate::object::Object;
@@ -88,9 +87,7 @@ impl<S: FarTickets> Rows<S> {
     /// exactly where it has 65,535 pins. Then nothing is changed.
     pub fn pin(&mut self, column: usize, group: u32) -> Result<(), Refusal>
         ensures pinned { OnOk result (IsSomeAnd (object_at self.old column group) (λ object. self.new ≡ pinned self.old object)) }
-        ensures cells { cells_of S.content self.new ≡ cells_of S.content self.old }
-        ensures number_store { (name : List ℕ) → AreHere S.is_of name self.old.number_objects → AreHere S.is_of name self.new.number_objects }
-        ensures text_store { (name : List ℕ) → AreHere S.is_of name self.old.text_objects → AreHere S.is_of name self.new.text_objects }
+        ensures kept { KeepsCells S.content S.is_of self.old self.new }
         ensures refused { refusal_in result ≡ pin_refusal self.old column group }
         ensures err { OnErr result (self.new ≡ self.old) }
     {
@@ -106,9 +103,7 @@ impl<S: FarTickets> Rows<S> {
     /// of the row group is used; else with `NotPinned` (18) exactly where the object has no pin. Then nothing is changed.
     pub fn unpin(&mut self, column: usize, group: u32) -> Result<(), Refusal>
         ensures unpinned { OnOk result (IsSomeAnd (object_at self.old column group) (λ object. self.new ≡ unpinned self.old object)) }
-        ensures cells { cells_of S.content self.new ≡ cells_of S.content self.old }
-        ensures number_store { (name : List ℕ) → AreHere S.is_of name self.old.number_objects → AreHere S.is_of name self.new.number_objects }
-        ensures text_store { (name : List ℕ) → AreHere S.is_of name self.old.text_objects → AreHere S.is_of name self.new.text_objects }
+        ensures kept { KeepsCells S.content S.is_of self.old self.new }
         ensures refused { refusal_in result ≡ unpin_refusal self.old column group }
         ensures err { OnErr result (self.new ≡ self.old) }
     {
@@ -124,9 +119,7 @@ impl<S: FarTickets> Rows<S> {
     /// of the row group is used; then nothing is changed.
     pub fn touch(&mut self, column: usize, group: u32) -> Result<(), Refusal>
         ensures touched { OnOk result (IsSomeAnd (object_at self.old column group) (λ object. self.new ≡ touched self.old object)) }
-        ensures cells { cells_of S.content self.new ≡ cells_of S.content self.old }
-        ensures number_store { (name : List ℕ) → AreHere S.is_of name self.old.number_objects → AreHere S.is_of name self.new.number_objects }
-        ensures text_store { (name : List ℕ) → AreHere S.is_of name self.old.text_objects → AreHere S.is_of name self.new.text_objects }
+        ensures kept { KeepsCells S.content S.is_of self.old self.new }
         ensures refused { refusal_in result ≡ object_refusal self.old column group }
         ensures err { OnErr result (self.new ≡ self.old) }
     {

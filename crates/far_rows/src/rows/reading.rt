@@ -15,7 +15,6 @@ ghost use Rattle.far_rows.specs.Rows.{all_numbers, all_texts, cells_of};
 ghost use Rattle.far_rows.specs.Refusing.{told_at, absent_at, absents, cell_refusal, text_refusal};
 
 use super::Rows;
-use crate::lent_cell::{lent_number, lent_text};
 use crate::row_ref::RowRef;
 use crate::slot::Slot;
 use far_columns::IntColumn;
@@ -86,8 +85,8 @@ impl<S: FarTickets> Rows<S> {
         // It tells that each slot is that of a column.
         let _len = self.len();
         match slot {
-            Slot::Number(number) => Ok(lent_number(self.number_at(column, number, place)?)),
-            Slot::Text(text) => Ok(lent_text(self.text_at(column, text, place)?)),
+            Slot::Number(number) => Ok(CellRef::of_int(self.number_at(column, number, place)?)),
+            Slot::Text(text) => Ok(CellRef::of_text(self.text_at(column, text, place)?)),
         }
     }
 

@@ -10,16 +10,10 @@ returns-in-Some-clause-cells g c =
     let content = g.S.FarTickets.content in
     subst (λ (m : MixedRows g.row.S-Ticket.Denot). IsOfPlaces (places_mixed content m) c.in-Some.column) c.self.view_is c.in-Some.ensures.cells
 
-pub column_of-requires : goal.column_of-requires
-column_of-requires g c =
-    let content = g.S.FarTickets.content in
-    let i = c.self.inside in
-    (found-read (IsRead content i.local) c.args.number i.contents.now c.self.invariant.each c.in-Some-content_for.form.now c.in-Some-content_for.ensures).form
-
 pub returns-in-Some-content_for-clause-cells : goal.returns-in-Some-content_for-clause-cells
 returns-in-Some-content_for-clause-cells g c =
     let content = g.S.FarTickets.content in
     let i = c.self.inside in
-    let read = found-read (IsRead content i.local) c.args.number i.contents.now c.self.invariant.each c.in-Some-content_for.form.now c.in-Some-content_for.ensures in
+    let read = found-read (IsRead content i.local) c.args.number i.contents.now c.self.invariant.each c.in-Some-content_for.bytes.now c.in-Some-content_for.ensures in
     subst (λ (m : MixedRows g.row.S-Ticket.Denot). IsOfPlaces (places_mixed content m) c.column_of.result) c.self.view_is
-    (subst (λ (column : ℕ × List Cell). IsOfPlaces (places_mixed content record { group = i.local; spec = i.spec.now }) column) (sym c.column_of.ensures) read.cells)
+    (subst (λ (column : ℕ × List Cell). IsOfPlaces (places_mixed content record { group = i.local; spec = i.spec.now }) column) (sym (c.column_of.ensures.form read.form)) read.cells)
