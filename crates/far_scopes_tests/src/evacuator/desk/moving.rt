@@ -1,11 +1,11 @@
 // Jobs that are begun, carried and accepted.
-ghost use Rattle.std.specs.Prelude.{IfOk};
-ghost use Rattle.far_scopes.specs.Movement.{AreHere};
+ghost use Rattle.std.specs.Prelude.{◌≡◌, IfOk, OnOk};
+ghost use Rattle.far_scopes.specs.Movement.{AreClean, AreHere, version_of};
 ghost use Rattle.far_evacuator.specs.Jobs.{IsFormOf};
 
 use super::Desk;
 use crate::evacuator::call::Phase;
-use far_evacuator::{EvacJob, Want, begin_evac, begin_fetch, commit, install};
+use far_evacuator::{Carried, EvacJob, Want, begin_evac, begin_fetch, commit, install};
 use far_fixtures::Element;
 use far_scopes::Objects;
 use far_store::{FarStore, Meter};
@@ -56,7 +56,7 @@ impl<'a, T: Element, S: FarStore> Desk<'a, T, S> {
     /// Commits the evacuation that was carried last, and keeps it.
     fn commit(&mut self) -> Result<(), Refusal> {
         match &self.carried {
-            Some(carried) => commit(&mut self.objects, self.store, carried),
+            Some(carried) => commit_unwritten(&mut self.objects, self.store, carried),
             None => Err(Refusal::StaleJob),
         }
     }
@@ -126,4 +126,20 @@ fn begin_spelled<T: Element, S: FarStore>(
         }
     }
     begin_evac(alloc, objects, store, want)
+}
+
+// Sends the object of a carried evacuation away. What goes away was not written since the job was begun.
+fn commit_unwritten<T: Element, S: FarStore>(
+    objects: &mut Objects<T, S>,
+    store: &S,
+    carried: &Carried<T, S>,
+) -> Result<(), Refusal>
+    requires here { AreHere S.is_of (S.name store.now) objects.old }
+    requires carried_here { S.is_of carried.now.ticket (S.name store.now) }
+    requires clean { AreClean T.meaning S.content objects.old }
+    ensures unwritten { OnOk result (version_of objects.old carried.now.job.object ≡ carried.now.job.version) }
+    ensures here { AreHere S.is_of (S.name store.now) objects.new }
+    ensures clean { AreClean T.meaning S.content objects.new }
+{
+    commit(objects, store, carried)
 }
