@@ -1,7 +1,7 @@
 -- The region once the parts of one segment lie in another.
-use Rattle.std.proofs.Common.{◌≡◌, ◌≢◌, ℕ, zero, suc, ◌+◌, ◌<◌, ◌≤◌, List, [], ◌∷◌, ◌++◌, length, get_or, map, Some, IsSome, refl, sym, ap, ◌∙◌, inl, inr, arith}
+use Rattle.std.proofs.Common.{◌≡◌, ◌≢◌, ℕ, zero, suc, ◌+◌, ◌<◌, ◌≤◌, List, [], ◌∷◌, ◌++◌, length, get_or, map, Some, IsSome, refl, sym, ap, subst, ◌∙◌, inl, inr, arith}
 use Rattle.std.specs.Prelude.{slice_set, sum_by, Contains}
-use Rattle.far_log.specs.Room.{Part, SegmentRoom, Room, segment_of, list_at, AreLaid, IsRegion}
+use Rattle.far_log.specs.Room.{Part, SegmentRoom, Room, segment_of, space_in, fill_from, list_at, AreLaid, IsRegion}
 use Rattle.far_log.specs.Changes.{gathered, compacted, laid_from, list_or_none, IsOrder, IsEmptyOther, Compacts, with_segment}
 use Rattle.std.proofs.Common.{get_or-set_same, get_or-set_other, length-set, take, drop}
 use Rattle.std.proofs.lemmas.Bool.{eq-eqb, ne_eqb, cases_eq}
@@ -10,6 +10,9 @@ use Rattle.std.proofs.lemmas.List.Sums.{sum_by-cons}
 use Rattle.std.proofs.lemmas.List.Elements.{All-get_or}
 use Rattle.far_log.proofs.Gathers.{list-there, lens-le-size, some-list}
 use Rattle.far_log.proofs.RoomLaws.{region-set, laid-segment, even-sizes}
+use Rattle.far_log.specs.declared.skip.Skip.{Skip}
+use Rattle.far_log.specs.Skipping.{IsSkip, IsSpaced}
+use Rattle.far_log.proofs.Skipped.{skip-set, skip-less}
 use Rattle.far_log.proofs.Halves.{set-low-last, set-high-last}
 
 module _ {X : Type 0} (segs low high : Room X) (from to : ℕ) (order : List ℕ) (source target s t : SegmentRoom X)
@@ -91,6 +94,17 @@ module _ {X : Type 0} (old : Room X) (from to : ℕ) (order : List ℕ) (region 
       (omega (arith, there, length-set old to (record (segment_of old to) { parts = gathered (segment_of old from).parts order })))
       (ap (λ s. s.size) (sym (stays from (λ e. target.other (sym e)))))
       (omega arith)
+
+  -- what is skipped, if that is told of the segment that is empty now
+  pub compacted-skip : (known new : Skip) → IsSkip old known → IsSpaced known new from (segment_of old 0).size → IsSkip (compacted old from to order) new
+  compacted-skip known new skip spaced =
+      let filled_one : SegmentRoom X = record (segment_of old to) { parts = gathered (segment_of old from).parts order } in
+      let empty_one : SegmentRoom X = record (segment_of old from) { parts = [] } in
+      let empty : fill_from 0 (segment_of old to).parts ≡ 0 = ap (fill_from 0) target.empty in
+      let space : space_in empty_one ≡ (segment_of old 0).size = omega (arith, even-sizes old from region there) in
+      skip-set filled_room known (skip-less old known skip to filled_one target.within (omega (arith, empty))) from empty_one new
+      (omega (arith, there, length-set old to filled_one))
+      (subst (IsSpaced known new from) (sym space) spaced)
 
   at-target : segment_of (compacted old from to order) to ≡ record (segment_of old to) { parts = gathered (segment_of old from).parts order }
   at-target = get_or-set_other filled_room from to _ _ target.other ∙ get_or-set_same old to _ _ target.within

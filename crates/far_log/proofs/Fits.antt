@@ -8,10 +8,10 @@ use Rattle.far_log.specs.Room.{lowest_for, fit_in_order}
 use Rattle.far_log.specs.Fitting.{once_filled, waiting_fit}
 
 -- the lowest segment, the first or one behind it
-lowest-first : (f : ℕ) (fs : List ℕ) (n : ℕ) → nat_le n f ≡ true → lowest_for (f ∷ fs) n ≡ Some 0
+pub lowest-first : (f : ℕ) (fs : List ℕ) (n : ℕ) → nat_le n f ≡ true → lowest_for (f ∷ fs) n ≡ Some 0
 lowest-first f fs n takes = rw takes (rw (lt-ltb 0 (suc (length fs)) (omega arith)) refl)
 
-lowest-later : (f : ℕ) (fs : List ℕ) (n : ℕ) → nat_le n f ≡ false → lowest_for (f ∷ fs) n ≡ option_map_or (λ i. Some (suc i)) (lowest_for fs n) None
+pub lowest-later : (f : ℕ) (fs : List ℕ) (n : ℕ) → nat_le n f ≡ false → lowest_for (f ∷ fs) n ≡ option_map_or (λ i. Some (suc i)) (lowest_for fs n) None
 lowest-later f fs n refuses =
     let first : ℕ = position_or_len (λ space. nat_le n space) fs in
     let next : 1 + first ≡ suc first = omega arith in

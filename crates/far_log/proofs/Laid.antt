@@ -63,6 +63,15 @@ module _ {X : Type 0} where
       let later = laid-overwritten (end_of p) size at ws ps h.2 in
       (h.0, omega (arith, h.1, long), laid-before (p.offset + length (written_over p.list (at - p.offset) (drop (p.offset - at) ws))) (end_of p) size (map (overwritten at ws) ps) (omega (arith, long)) later)
 
+  fill-overwritten : (from at : ℕ) (ws : List X) (ps : List (Part X)) → fill_from from (map (overwritten at ws) ps) ≡ fill_from from ps
+  fill-overwritten from at ws [] = refl
+  fill-overwritten from at ws (p ∷ ps) =
+      let long : length (written_over p.list (at - p.offset) (drop (p.offset - at) ws)) ≡ length p.list = length-over p.list (at - p.offset) (drop (p.offset - at) ws) in
+      ap (λ n. fill_from (p.offset + n) (map (overwritten at ws) ps)) long ∙ fill-overwritten (end_of p) at ws ps
+
+  pub space-written : (s : SegmentRoom X) (at : ℕ) (ws : List X) → space_in (written s at ws) ≡ space_in s
+  space-written s at ws = ap (λ n. s.size - n) (fill-overwritten 0 at ws s.parts)
+
   pub laid-written : (s : SegmentRoom X) (at : ℕ) (ws : List X) → IsLaid s → IsLaid (written s at ws)
   laid-written s at ws h = laid-overwritten 0 s.size at ws s.parts h
 

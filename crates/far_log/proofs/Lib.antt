@@ -12,4 +12,5 @@ pub mod RoomLaws
 pub mod Gathers
 pub mod Halves
 pub mod Fits
+pub mod Skipped
 pub mod Compactions

@@ -4,3 +4,4 @@ pub mod Storage
 pub mod Lending
 pub mod Fitting
 pub mod Chunking
+pub mod Skipping

@@ -15,6 +15,7 @@ mod fitting;
 mod links;
 mod region;
 mod segment;
+mod skip;
 mod slots;
 
 pub use compaction::Moved;

@@ -1,12 +1,14 @@
 // The local region.
-ghost use Rattle.std.specs.Prelude.{◌≡◌, ◌≢◌, ℕ, ◌+◌, ◌-◌, ◌<◌, ◌≤◌, ◌^◌, ◌↔◌, ◌⊎◌, List, [], ◌++◌, length, take, drop, replicate, true, false, Some, IsSome, IsSomeAnd, IsTrue, IfOk, IfErr, IfSome, OnOk, OnErr, IfNone, IsErrOf, slice_index, slice_range, slice_set, All};
+ghost use Rattle.std.specs.Prelude.{◌≡◌, ◌≢◌, ℕ, ◌+◌, ◌-◌, ◌<◌, ◌≤◌, ◌^◌, ◌↔◌, ◌⊎◌, List, [], ◌++◌, length, take, drop, replicate, true, false, Some, IsSome, IsSomeAnd, IsTrue, IfOk, IfErr, IfSome, OnOk, OnErr, IfNone, IsErrOf, slice_index, slice_range, slice_set, option_map, All};
 ghost use Rattle.std.specs.Borrow.{sem};
 ghost use Rattle.far_log.specs.Room.{part_of, used_of, spaces_of, space_of, capacity_of, fits_in, target_of, fit_in_order, segment_of, IsRegion};
+ghost use Rattle.far_log.specs.Skipping.{IsSkip};
 ghost use Rattle.far_log.specs.Changes.{ChangesOnly, WritesPart, written_at, IsPlaced, IsEmptyOther, HasNoEmptyOther, IsOrder, Compacts, with_segment, without_part};
 
 use super::compaction::{Moved, move_segment};
 use super::fitting::{fill, none_waits};
 use super::segment::Segment;
+use super::skip::Skip;
 use far_pointer::At;
 use far_types::Refusal;
 use std::alloc::Global;
@@ -20,6 +22,7 @@ use std::marker::Model;
 #[derive(Drop)]
 pub struct Region<T> {
     segments: Vec<Segment<T>>,
+    skip: Skip,
 }
 
 impl<T> Model for Region<T> {
@@ -27,11 +30,11 @@ impl<T> Model for Region<T> {
 
     ghost Value = { Room T };
 
-    ghost use Rattle.far_log.specs.Room.{IsRegion};
+    ghost use Rattle.far_log.specs.Skipping.{IsSearched};
 
     ghost view = { λ r. r.segments.items };
 
-    ghost invariant = { λ r. IsRegion r.segments.items };
+    ghost invariant = { λ r. IsSearched r.segments.items r.skip };
 }
 
 // Takes the memory of one segment, and gives it back. An allocator that maps each large block by itself until one of its size
@@ -59,18 +62,35 @@ impl<T: Copy + Drop> Region<T> {
         for _ in 0..segments {
             made.push(Segment::new(alloc, size)?)?;
         }
-        Ok(Region { segments: made })
+        Ok(Region {
+            segments: made,
+            skip: Skip::none(),
+        })
     }
 
-    // The number of the lowest segment that has the space for a list of `len` elements.
-    fn target(&self, len: usize) -> Option<usize>
-        ensures lowest { result ≡ target_of self.now len }
+    // Looks for the lowest segment that has the space for a list of `len` elements: `first` of what is found, which tells
+    // of all segments that the search passed.
+    fn search(&self, len: usize) -> Option<Skip>
+        ensures lowest { option_map (λ found. found.first) result ≡ target_of self.now len }
+        ensures passed { IfSome result (IsSkip self.now) }
         ensures sound { IsRegion self.now }
     {
-        self.segments
-            .iter()
-            .map(|segment| segment.space())
-            .position(|space| len <= space)
+        let known = self.skip.for_list(len);
+        let mut number = known.first;
+        let mut more = known.len;
+        while number < self.segments.len() {
+            let space = self.segments[number].space();
+            if len <= space {
+                return Some(Skip {
+                    first: number,
+                    next: number.max(known.next),
+                    len: more,
+                });
+            }
+            more = more.max(space + 1);
+            number = known.next.max(number + 1);
+        }
+        None
     }
 
     /// Whether some segment has the space for a list of `len` elements behind its fill. Takes no memory.
@@ -78,7 +98,7 @@ impl<T: Copy + Drop> Region<T> {
         ensures fits { result ≡ fits_in self.now len }
         ensures sound { IsRegion self.now }
     {
-        self.target(len).is_some()
+        self.search(len).is_some()
     }
 
     /// Whether lists of these lengths, none of them empty and at most 16, can be placed one after the other. Takes no
@@ -94,11 +114,12 @@ impl<T: Copy + Drop> Region<T> {
         let mut room = [0; 16];
         let waiting = &mut room[..lens.len()];
         waiting.copy_from_slice(lens);
-        for segment in &self.segments {
+        let first = self.skip.first_for(lens);
+        for number in first..self.segments.len() {
             if none_waits(waiting) {
                 return true;
             }
-            fill(segment.space(), waiting);
+            fill(self.segments[number].space(), waiting);
         }
         none_waits(waiting)
     }
@@ -172,7 +193,11 @@ impl<T: Copy + Drop> Region<T> {
         ensures change { ChangesOnly self.old self.new at None }
         ensures sound { IsRegion self.new }
     {
-        self.segments[at.segment as usize].drop_at(at.offset);
+        let number = at.segment as usize;
+        let segment = &mut self.segments[number];
+        segment.drop_at(at.offset);
+        let space = segment.space();
+        self.skip = self.skip.with_space(number, space);
     }
 
     /// Places a list as a new part in the lowest segment that has the space, at its fill, and answers where it lies.
@@ -190,12 +215,16 @@ impl<T: Copy + Drop> Region<T> {
         ensures refused { IfErr result (λ e. (e ≡ Refusal.RegionFull) ⊎ (e ≡ Refusal.NoMemory)) }
         ensures err { OnErr result (self.new ≡ self.old) }
     {
-        let Some(number) = self.target(items.len()) else {
+        let Some(found) = self.search(items.len()) else {
             return Err(Refusal::RegionFull);
         };
-        let offset = self.segments[number].place(items)?;
+        let segment = &mut self.segments[found.first];
+        let offset = segment.place(items)?;
+        let space = segment.space();
+        let skip = self.skip.after_search(found, items.len());
+        self.skip = skip.with_space(found.first, space);
         Ok(At {
-            segment: number as u16,
+            segment: found.first as u16,
             offset,
         })
     }
@@ -254,7 +283,9 @@ impl<T: Copy + Drop> Region<T> {
         let Some(to) = self.empty_other(from) else {
             return Err(Refusal::RegionFull);
         };
+        let size = self.size() as usize;
         let offsets = move_segment(alloc, &mut self.segments, from, to, order)?;
+        self.skip = self.skip.with_space(from, size);
         Ok(Moved {
             segment: to as u16,
             offsets,

@@ -1,0 +1,131 @@
+-- Searches for space that skip segments of which it is known that they have none.
+use Rattle.std.proofs.Common.{◌≡◌, ◌≢◌, ◌⊎◌, ℕ, zero, suc, ◌+◌, ◌-◌, ◌<◌, ◌≤◌, true, false, List, [], ◌∷◌, length, map, drop, Some, None, refl, sym, ap, subst, ◌∙◌, inl, inr, arith, get_or-set_same, get_or-set_other}
+use Rattle.std.specs.Prelude.{nat_le}
+use Rattle.std.specs.List.{list_all}
+use Rattle.std.specs.Option.{option_map_or}
+use Rattle.std.proofs.lemmas.Bool.{le-leb, lt-leb, cases_eq, cases_lt}
+use Rattle.far_log.specs.declared.skip.Skip.{Skip}
+use Rattle.far_log.specs.Room.{SegmentRoom, Room, space_in, segment_of, target_of}
+use Rattle.far_log.specs.Changes.{with_segment, with_part, written}
+use Rattle.far_log.specs.Fitting.{once_filled, waiting_fit}
+use Rattle.far_log.specs.Skipping.{IsSkip, IsSpaced}
+use Rattle.far_log.proofs.Fits.{lowest-first, lowest-later, filled-first}
+use Rattle.far_log.proofs.Laid.{space-with_part, space-written}
+
+-- lists that a segment does not take all wait on
+unfilled : (f len : ℕ) (ws : List ℕ) → f < len → list_all (λ n. nat_le len n) ws ≡ true → once_filled f ws ≡ ws
+unfilled f len [] lt all = refl
+unfilled f len (w ∷ ws) lt all = elim (cases_lt w len) [
+  | inl less ↦ let short : nat_le len w ≡ false = lt-leb len w less in absurd (let never = rw short at all in cc)
+  | inr long ↦
+      let enough : nat_le len w ≡ true = le-leb len w long in
+      let refuses : nat_le w f ≡ false = lt-leb w f (omega (arith, lt, long)) in
+      rw refuses (ap (λ l. w ∷ l) (unfilled f len ws lt (rw enough at all)))
+]
+
+module _ {X : Type 0} where
+  -- no segment below this one has the space for so many elements
+  abbrev pub HasNoSpace : Room X → ℕ → ℕ → Type 0
+  HasNoSpace room below len = (k : ℕ) → k < below → space_in (segment_of room k) < len
+
+  -- what is found first is the lowest
+  pub lowest-is : (room : Room X) (n len : ℕ) → HasNoSpace room n len → n < length room → len ≤ space_in (segment_of room n) → target_of room len ≡ Some n
+  lowest-is [] n len none lt takes = absurd (omega (arith, lt))
+  lowest-is (s ∷ room) zero len none lt takes = lowest-first (space_in s) (map space_in room) len (le-leb len (space_in s) takes)
+  lowest-is (s ∷ room) (suc n) len none lt takes =
+      let first : space_in s < len = none 0 (omega arith) in
+      lowest-later (space_in s) (map space_in room) len (lt-leb len (space_in s) first)
+      ∙ ap (λ o. option_map_or (λ i. Some (suc i)) o None) (lowest-is room n len (λ k less. none (suc k) (omega (arith, less))) (omega (arith, lt)) takes)
+
+  -- where nothing is found there is none
+  pub none-takes : (room : Room X) (n len : ℕ) → HasNoSpace room n len → length room ≤ n → target_of room len ≡ None
+  none-takes [] n len none le = refl
+  none-takes (s ∷ room) zero len none le = absurd (omega (arith, le))
+  none-takes (s ∷ room) (suc n) len none le =
+      let first : space_in s < len = none 0 (omega arith) in
+      lowest-later (space_in s) (map space_in room) len (lt-leb len (space_in s) first)
+      ∙ ap (λ o. option_map_or (λ i. Some (suc i)) o None) (none-takes room n len (λ k less. none (suc k) (omega (arith, less))) (omega (arith, le)))
+
+  -- several lists of which none is shorter
+  pub skipped-fit : (room : Room X) (below len : ℕ) (ws : List ℕ) → HasNoSpace room below len → list_all (λ n. nat_le len n) ws ≡ true
+      → waiting_fit (map space_in room) ws ≡ waiting_fit (map space_in (drop below room)) ws
+  skipped-fit room zero len ws none all = refl
+  skipped-fit [] (suc below) len ws none all = refl
+  skipped-fit (s ∷ room) (suc below) len ws none all =
+      filled-first (space_in s) (map space_in room) ws
+      ∙ ap (waiting_fit (map space_in room)) (unfilled (space_in s) len ws (none 0 (omega arith)) all)
+      ∙ skipped-fit room below len ws (λ k less. none (suc k) (omega (arith, less))) all
+
+  -- longer lists
+  pub no-space-longer : (room : Room X) (below len more : ℕ) → HasNoSpace room below len → len ≤ more → HasNoSpace room below more
+  no-space-longer room below len more none le = λ k lt. let less = none k lt in omega (arith, less, le)
+
+  -- where nothing is skipped
+  pub skip-nothing : (room : Room X) → IsSkip room record { first = 0; next = 0; len = 0 }
+  skip-nothing room = record { ordered = omega arith; full = λ k lt ne. absurd (omega (arith, lt)) }
+
+  module _ (room : Room X) (known : Skip) (skip : IsSkip room known) where
+    -- those in front of the first that is looked at
+    pub before-first : HasNoSpace room known.first known.len
+    before-first k lt = skip.full k (omega (arith, lt, skip.ordered)) (λ e. omega (arith, lt, e))
+
+    -- those that were passed once one more was looked at, which has no space
+    pub passed-more : (number more after : ℕ) → known.first ≤ number → known.len ≤ more → HasNoSpace room number more → (after ≤ number + 1) ⊎ (after ≤ known.next) → (to : ℕ) → more ≤ to → space_in (segment_of room number) < to → HasNoSpace room after to
+    passed-more number more after first less none reach to le space k lt = elim (cases_lt k number) [
+      | inl before ↦ let h = none k before in omega (arith, h, le)
+      | inr behind ↦ elim (cases_eq k number) [
+        | inl same ↦ rw same space
+        | inr other ↦ elim reach [
+          | inl near ↦ absurd (omega (arith, lt, near, behind, other))
+          | inr far ↦ let h = skip.full k (omega (arith, lt, far)) (λ e. omega (arith, e, first, behind, other)) in omega (arith, h, less, le)
+        ]
+      ]
+    ]
+
+    -- what is found
+    pub skip-found : (number more next : ℕ) → known.first ≤ number → known.len ≤ more → HasNoSpace room number more → number ≤ next → (next ≤ number) ⊎ (next ≤ known.next) → IsSkip room record { first = number; next = next; len = more }
+    skip-found number more next first less none ordered reach = record {
+      ordered = ordered;
+      full = λ k lt ne. elim (cases_lt k number) [
+        | inl before ↦ none k before
+        | inr behind ↦ elim reach [
+          | inl near ↦ absurd (omega (arith, lt, near, behind))
+          | inr far ↦ let h = skip.full k (omega (arith, lt, far)) (λ e. omega (arith, e, first, behind, ne)) in omega (arith, h, less)
+        ]
+      ];
+    }
+
+    -- another segment under a number
+    pub skip-set : (number : ℕ) (s : SegmentRoom X) (new : Skip) → number < length room → IsSpaced known new number (space_in s) → IsSkip (with_segment room number s) new
+    skip-set number s new within spaced = record {
+      ordered = spaced.ordered;
+      full = λ k lt ne. elim (cases_eq k number) [
+        | inl same ↦ rw (same, get_or-set_same room number s record { parts = []; size = 0 } within) (let h = spaced.here (subst (λ i. i < new.next) same lt) (λ e. ne (same ∙ e)) in omega (arith, h, spaced.len))
+        | inr other ↦ rw (get_or-set_other room number k s record { parts = []; size = 0 } other) (let kept = spaced.kept k lt ne other in let h = skip.full k kept.0 kept.1 in omega (arith, h, spaced.len))
+      ];
+    }
+
+    -- one that has no more space than before
+    pub skip-less : (number : ℕ) (s : SegmentRoom X) → number < length room → space_in s ≤ space_in (segment_of room number) → IsSkip (with_segment room number s) known
+    skip-less number s within less = record {
+      ordered = skip.ordered;
+      full = λ k lt ne. elim (cases_eq k number) [
+        | inl same ↦ rw (same, get_or-set_same room number s record { parts = []; size = 0 } within) (let h = skip.full number (subst (λ i. i < known.next) same lt) (λ e. ne (same ∙ e)) in omega (arith, h, less))
+        | inr other ↦ rw (get_or-set_other room number k s record { parts = []; size = 0 } other) (skip.full k lt ne)
+      ];
+    }
+
+    -- one that is written
+    pub skip-written : (number at : ℕ) (ws : List X) → number < length room → IsSkip (with_segment room number (written (segment_of room number) at ws)) known
+    skip-written number at ws within = skip-less number (written (segment_of room number) at ws) within (omega (arith, space-written (segment_of room number) at ws))
+
+  -- what is skipped is one of two
+  pub skip-either : (room : Room X) (one other skip : Skip) → IsSkip room one → IsSkip room other → (skip ≡ one) ⊎ (skip ≡ other) → IsSkip room skip
+  skip-either room one other skip h h' is = elim is [
+    | inl same ↦ subst (IsSkip room) (sym same) h
+    | inr same ↦ subst (IsSkip room) (sym same) h'
+  ]
+
+  -- what a search goes by
+  pub skip-known : (items room : Room X) → items ≡ room → (known skip : Skip) → IsSkip items known → (skip ≡ known) ⊎ (skip ≡ record { first = 0; next = 0; len = 0 }) → IsSkip room skip
+  skip-known items room same known skip h is = skip-either room known record { first = 0; next = 0; len = 0 } skip (subst (λ r. IsSkip r known) same h) (skip-nothing room) is

@@ -1,0 +1,23 @@
+-- internal: what a region knows of its segments, so that a search for space need not look at them.
+use Rattle.std.specs.Prelude.{◌≡◌, ◌≢◌, ℕ, ◌<◌, ◌≤◌}
+use Rattle.far_log.specs.declared.skip.Skip.{Skip}
+use Rattle.far_log.specs.Room.{Room, space_in, segment_of, IsRegion}
+
+module _ {X : Type 0} where
+  -- no segment below `next`, but `first`, has the space for `len` elements
+  pub record IsSkip (room : Room X) (skip : Skip) : Type 0 where
+    pub ordered : skip.first ≤ skip.next
+    pub full : (k : ℕ) → k < skip.next → k ≢ skip.first → space_in (segment_of room k) < skip.len
+
+  -- the segments, and what a search skips of them
+  pub record IsSearched (room : Room X) (skip : Skip) : Type 0 where
+    pub region : IsRegion room
+    pub skipped : IsSkip room skip
+
+-- what is skipped once the segment with this number has this space: what was skipped before, or this segment without the
+-- space
+pub record IsSpaced (old new : Skip) (number space : ℕ) : Type 0 where
+  pub len : new.len ≡ old.len
+  pub ordered : new.first ≤ new.next
+  pub kept : (k : ℕ) → k < new.next → k ≢ new.first → k ≢ number → (k < old.next) × (k ≢ old.first)
+  pub here : number < new.next → number ≢ new.first → space < old.len

@@ -1,0 +1,99 @@
+// Where a search for space looks.
+ghost use Rattle.std.specs.Prelude.{◌≡◌, ◌≤◌, ◌⊎◌, nat_le, true};
+ghost use Rattle.std.specs.List.{list_all};
+ghost use Rattle.far_log.specs.Skipping.{IsSpaced};
+
+// How many segments a search may go through again, each time, so that shorter lists go on to skip those in front.
+const NEAR: usize = 64;
+
+/// What a search for space need not look at: no segment below `next`, but `first`, has the space for `len` elements. So a
+/// search for a list that is not shorter looks at `first`, and then at `next` and those behind it.
+///
+/// It is more than the number of a segment. A full segment mostly has the space for some short list, so `len` says for
+/// which lists it counts as full. And a list that is replaced leaves space in its segment, which may be far in front of
+/// the others that have some. It is `first`, and when it is full again the search goes on where it was.
+#[derive(Clone, Copy)]
+pub struct Skip {
+    /// The number of the segment that is looked at first.
+    pub first: usize,
+    /// The number of the segment that is looked at after it.
+    pub next: usize,
+    /// How long a list is at least for which so few segments are looked at.
+    pub len: usize,
+}
+
+impl Skip {
+    /// Nothing is skipped.
+    pub fn none() -> Skip
+        ensures { result ≡ record { first = 0; next = 0; len = 0 } }
+    {
+        Skip {
+            first: 0,
+            next: 0,
+            len: 0,
+        }
+    }
+
+    /// What a search for a list of `len` elements skips.
+    pub fn for_list(self, len: usize) -> Skip
+        ensures long { result.len ≤ len }
+        ensures known { (result ≡ self) ⊎ (result ≡ record { first = 0; next = 0; len = 0 }) }
+    {
+        if self.len <= len { self } else { Skip::none() }
+    }
+
+    /// The number of the first segment to look at for several lists.
+    pub fn first_for(self, lens: &[usize]) -> usize
+        ensures { (result ≡ 0) ⊎ ((result ≡ self.first) × (list_all (λ n. nat_le self.len n) lens.now ≡ true)) }
+    {
+        if none_shorter(lens, self.len) {
+            self.first
+        } else {
+            0
+        }
+    }
+
+    /// What is skipped once a search for a list of `len` elements ended with `found`.
+    ///
+    /// After a search through many segments that is `found`, so that the next one need not look at them again. After a short
+    /// one it is that only where no list is the worse for it.
+    pub fn after_search(self, found: Skip, len: usize) -> Skip
+        ensures { (result ≡ self) ⊎ (result ≡ found) }
+    {
+        let passed = found.first.saturating_sub(self.for_list(len).next);
+        let is_far = passed > NEAR;
+        let is_no_worse = found.len <= self.len
+            && self.first <= found.first
+            && self.next <= found.next;
+        if is_far || is_no_worse { found } else { self }
+    }
+
+    /// What is skipped once a segment has this space, more or less than before.
+    pub fn with_space(self, number: usize, space: usize) -> Skip
+        requires { self.first ≤ self.next }
+        ensures { IsSpaced self result number space }
+    {
+        let (first, next) = if space < self.len {
+            let is_first = number == self.first;
+            (if is_first { self.next } else { self.first }, self.next)
+        } else if number < self.first {
+            (number, self.first)
+        } else if self.first < number && number < self.next {
+            (self.first, number)
+        } else {
+            (self.first, self.next)
+        };
+        Skip {
+            first,
+            next,
+            len: self.len,
+        }
+    }
+}
+
+// Whether no length is below this one.
+fn none_shorter(lens: &[usize], len: usize) -> bool
+    ensures { result ≡ list_all (λ n. nat_le len n) lens.now }
+{
+    lens.iter().all(|n| len <= *n)
+}
