@@ -1,9 +1,10 @@
-// Rows that are to come: worked examples.
+// Rows and values that are to come: worked examples.
 ghost use Rattle.std.specs.Prelude.{◌≡◌, length};
 
 use crate::rows::fixture::{Values, row};
-use far_rows::{NewRow, Slot};
-use far_types::{CellRef, Refusal, Text};
+use crate::rows::look::{is_cell, value_in};
+use far_rows::{NewCell, NewRow, Slot};
+use far_types::{Cell, CellRef, Kind, LentRow, Refusal, Text};
 use std::alloc::Global;
 
 /// The values of two rows.
@@ -39,7 +40,18 @@ fn is_text(text: &Option<Text>, due: Option<&str>) -> bool {
     }
 }
 
-/// Whether a row has no value at first, and of two rows that it takes the cells of, one after the other, keeps the last.
+/// Whether a row is lent with these values, and no other.
+fn are_lent(lent: &LentRow<'_>, values: &Values<'_>) -> bool {
+    for column in 0..5 {
+        if !is_cell(lent.get(column), value_in(values, column)) {
+            return false;
+        }
+    }
+    true
+}
+
+/// Whether a row has no value at first, and of two rows that it takes the cells of, one after the other, keeps and lends the
+/// last.
 fn keeps_the_last(alloc: Global) -> Result<bool, Refusal> {
     let slots = [
         Slot::Text(0),
@@ -55,10 +67,29 @@ fn keeps_the_last(alloc: Global) -> Result<bool, Refusal> {
     let is_empty = has(&taken, [None, None], [None, None]);
     taken.fill(&slots, row(alloc, &FIRST)?);
     taken.fill(&slots, row(alloc, &SECOND)?);
-    Ok(is_empty && has(&taken, [Some("two"), None], [None, Some(2)]))
+    let is_last = has(&taken, [Some("two"), None], [None, Some(2)]);
+    Ok(is_empty && is_last && are_lent(&taken.lend(&slots), &SECOND))
+}
+
+/// Whether a value of either kind, and none, is lent as the cell that it was made of.
+fn lends_its_cell(alloc: Global) -> Result<bool, Refusal> {
+    let text = Text::new(String::from_str(alloc, "one")?);
+    let text = NewCell::new(Kind::Text, Cell::Text(text));
+    let number = NewCell::new(Kind::Int, Cell::Int(2));
+    let none = NewCell::new(Kind::Text, Cell::Missing);
+    Ok(
+        is_cell(Some(text.lend()), Some(CellRef::Text("one")))
+            && is_cell(Some(number.lend()), Some(CellRef::Int(2)))
+            && is_cell(Some(none.lend()), Some(CellRef::Missing)),
+    )
 }
 
 #[test]
 fn of_two_rows_the_last_is_kept(rt: HostRuntime) {
     assert_eq!(rt; keeps_the_last(rt.alloc()), Ok(true));
+}
+
+#[test]
+fn a_value_is_lent_as_its_cell(rt: HostRuntime) {
+    assert_eq!(rt; lends_its_cell(rt.alloc()), Ok(true));
 }

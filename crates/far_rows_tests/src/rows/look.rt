@@ -150,7 +150,7 @@ fn has_values<S: FarTickets>(rows: &Rows<S>, place: usize, values: &Values<'_>) 
 }
 
 /// The value for a column.
-fn value_in<'a>(values: &Values<'a>, column: usize) -> Option<CellRef<'a>> {
+pub fn value_in<'a>(values: &Values<'a>, column: usize) -> Option<CellRef<'a>> {
     match column {
         0 => Some(values.0),
         1 => Some(values.1),
@@ -161,7 +161,7 @@ fn value_in<'a>(values: &Values<'a>, column: usize) -> Option<CellRef<'a>> {
 }
 
 /// Whether both are the same cell, or none.
-fn is_cell(one: Option<CellRef<'_>>, other: Option<CellRef<'_>>) -> bool {
+pub fn is_cell(one: Option<CellRef<'_>>, other: Option<CellRef<'_>>) -> bool {
     match (one, other) {
         (Some(CellRef::Int(one)), Some(CellRef::Int(other))) => one == other,
         (Some(CellRef::Text(one)), Some(CellRef::Text(other))) => one == other,
