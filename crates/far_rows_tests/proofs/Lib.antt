@@ -2,3 +2,4 @@ mod Walking
 mod Sized
 mod Laid
 mod Told
+mod Found

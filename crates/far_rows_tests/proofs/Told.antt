@@ -1,7 +1,8 @@
 -- What an outcome tells whose refusal is known.
-use Rattle.std.proofs.Common.{◌≡◌, Option, None, Some, sym}
-use Rattle.std.specs.Prelude.{Result, Ok, Err, OnOk, IfErr}
+use Rattle.std.proofs.Common.{◌≡◌, ◌≢◌, ◌↔◌, ℕ, zero, suc, Option, None, Some, refl, sym, arith}
+use Rattle.std.specs.Prelude.{Result, Ok, Err, OnOk, IfErr, IsErrOf}
 use Rattle.far_types.specs.declared.refusal.Refusal.{Refusal}
+use Rattle.far_types.specs.declared.refusal.Refusal.TheVariants.{Pinned}
 use Rattle.far_scopes.specs.Refusing.{refusal_in}
 
 pub served : {A : Type 0} (r : Result A Refusal) (due : Option Refusal) → refusal_in r ≡ due → OnOk r (due ≡ None)
@@ -11,3 +12,15 @@ served (Err refusal) due e = tt
 pub refused : {A : Type 0} (r : Result A Refusal) (due : Option Refusal) → refusal_in r ≡ due → IfErr r (λ refusal. due ≡ Some refusal)
 refused (Ok x) due e = tt
 refused (Err refusal) due e = sym e
+
+no-pin : (pins : ℕ) → ¬ (pins ≢ 0) → pins ≡ 0
+no-pin zero none = refl
+no-pin (suc n) none = absurd (none (λ is. omega (arith, is)))
+
+not-pinned : {A : Type 0} (x : A) → IsErrOf (Ok x) Pinned → ⊥
+not-pinned x is = cc
+
+-- what is accepted has no pin, if all that may be accepted and has one is refused
+pub unpinned : {A : Type 0} (r : Result A Refusal) (P : Type 0) (pins : ℕ) → OnOk r P → (IsErrOf r Pinned ↔ (P × (pins ≢ 0))) → OnOk r (pins ≡ 0)
+unpinned (Ok x) P pins accepted pinned = no-pin pins (λ some. not-pinned x (pinned.1 (accepted, some)))
+unpinned (Err e) P pins accepted pinned = tt

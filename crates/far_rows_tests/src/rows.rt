@@ -12,3 +12,4 @@ mod pushing;
 mod renewing;
 mod script;
 mod setting;
+mod telling;

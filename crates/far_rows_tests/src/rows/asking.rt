@@ -48,16 +48,16 @@ fn may_put<S: FarTickets>(
     rows.may_set(column, place, value)
 }
 
-// A table of a column of texts, with one row, which has no text.
-fn one_row<S: FarTickets>(alloc: Global, limits: &Limits) -> Result<Rows<S>, Refusal>
+/// A table of a column of texts and one of numbers, with one row, which has no value.
+pub fn one_row<S: FarTickets>(alloc: Global, limits: &Limits) -> Result<Rows<S>, Refusal>
     requires { AreLimits limits.now }
     ensures of { IfOk result (AreOf limits.now) }
-    ensures slots { IfOk result (λ rows. rows.slots ≡ slot.Text 0 ∷ []) }
+    ensures slots { IfOk result (λ rows. rows.slots ≡ slot.Text 0 ∷ slot.Number 0 ∷ []) }
     ensures place { IfOk result (λ rows. length rows.alive ≡ 1) }
 {
-    let schema = Schema::new(Vec::from_array(alloc, [Kind::Text])?)?;
+    let schema = Schema::new(Vec::from_array(alloc, [Kind::Text, Kind::Int])?)?;
     let mut rows = Rows::new(alloc, &schema, limits, 7)?;
-    let row = NewRow::new(alloc, 0, 1)?;
+    let row = NewRow::new(alloc, 1, 1)?;
     may_insert(&rows, limits, &row)?;
     rows.may_push(&row)?;
     rows.push(alloc, &row)?;

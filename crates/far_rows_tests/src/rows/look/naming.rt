@@ -1,36 +1,34 @@
 // Objects that are found by the column and the row group that they are named by.
-ghost use Rattle.std.specs.Prelude.{◌<◌, length};
+ghost use Rattle.std.specs.Prelude.{◌≡◌, ◌<◌, Ok, length};
 
 use far_rows::{Object, Rows};
 use far_store::FarTickets;
+use far_types::Refusal;
 
-// Whether an object of numbers is that of the column and the row group that it is named by.
-fn is_number_named<S: FarTickets>(rows: &Rows<S>, o: u32) -> bool
+// What is found by the name that an object of numbers bears: that object.
+fn number_found<S: FarTickets>(rows: &Rows<S>, o: u32) -> Result<Object, Refusal>
     requires { o < length rows.now.number_objects.entries }
+    ensures { result ≡ Ok (Object.Number o) }
 {
     let name = rows.number_objects().name(o);
-    match rows.object(name.column as usize, name.group) {
-        Ok(Object::Number(found)) => found == o,
-        _ => false,
-    }
+    rows.object(name.column as usize, name.group)
 }
 
 // Likewise of an object of texts.
-fn is_text_named<S: FarTickets>(rows: &Rows<S>, o: u32) -> bool
+fn text_found<S: FarTickets>(rows: &Rows<S>, o: u32) -> Result<Object, Refusal>
     requires { o < length rows.now.text_objects.entries }
+    ensures { result ≡ Ok (Object.Text o) }
 {
     let name = rows.text_objects().name(o);
-    match rows.object(name.column as usize, name.group) {
-        Ok(Object::Text(found)) => found == o,
-        _ => false,
-    }
+    rows.object(name.column as usize, name.group)
 }
 
 /// How many objects of numbers are found so.
 pub fn numbers_named<S: FarTickets>(rows: &Rows<S>) -> u32 {
     let mut found = 0u32;
     for o in 0..rows.number_objects().count() {
-        found = found.saturating_add(u32::from(is_number_named(rows, o)));
+        let is_found = number_found(rows, o) == Ok(Object::Number(o));
+        found = found.saturating_add(u32::from(is_found));
     }
     found
 }
@@ -39,7 +37,8 @@ pub fn numbers_named<S: FarTickets>(rows: &Rows<S>) -> u32 {
 pub fn texts_named<S: FarTickets>(rows: &Rows<S>) -> u32 {
     let mut found = 0u32;
     for o in 0..rows.text_objects().count() {
-        found = found.saturating_add(u32::from(is_text_named(rows, o)));
+        let is_found = text_found(rows, o) == Ok(Object::Text(o));
+        found = found.saturating_add(u32::from(is_found));
     }
     found
 }
