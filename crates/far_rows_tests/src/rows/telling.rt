@@ -1,4 +1,4 @@
-// Callers that know something of the objects of rows by one clause alone.
+// Callers that know something of the objects of rows by what a call of theirs tells, and by nothing else.
 ghost use Rattle.std.specs.Prelude.{◌≡◌, ◌*◌, ◌<◌, Err, IfOk, IsOk, Some, length, option_map};
 ghost use Rattle.far_scopes.specs.Memory.{list_in};
 
