@@ -127,7 +127,25 @@ const FULL: Calls = &[
     (Call::Row(0), Due::Row(&[Int(4), Text("pear")])),
 ];
 
-static MIGRATIONS: [Migration; 4] = [
+/// An object that was pinned before does not go away until it is unpinned.
+const PINNED: Calls = &[
+    (Call::Evac(1, 1), Due::Job(3)),
+    (Call::Carry(3), Due::Done),
+    (Call::Commit(3), Due::Refused(Refusal::Pinned)),
+    (Call::Row(3), Due::Row(&[Int(7), Text("plum")])),
+    (Call::Unpin(1, 1), Due::Done),
+    (Call::Unpin(1, 1), Due::Refused(Refusal::NotPinned)),
+    (Call::Commit(3), Due::Done),
+    (
+        Call::Row(3),
+        Due::Refused(Refusal::Absent {
+            column: 1,
+            group: 1,
+        }),
+    ),
+];
+
+static MIGRATIONS: [Migration; 5] = [
     Migration {
         name: "all is the same in another store",
         from: SOUND,
@@ -164,6 +182,13 @@ static MIGRATIONS: [Migration; 4] = [
         },
         refused: Some(Refusal::FarFull),
         then: FULL,
+    },
+    Migration {
+        name: "an object is as pinned in another store",
+        from: SOUND,
+        to: SOUND,
+        refused: None,
+        then: PINNED,
     },
 ];
 
