@@ -2,7 +2,7 @@ use Rattle.std.proofs.Common.{◌≡◌, ℕ, List, ◌++◌, length}
 use Rattle.std.specs.Map.{keys_of}
 use Rattle.far_scopes.specs.Coldest.{coldest}
 use Rattle.far_scopes.proofs.ColdestLaws.{coldest_in}
-use Rattle.far_scopes.proofs.objects.Objects.coldest.Given as goal
+use Rattle.far_scopes.proofs.objects.Objects.first_cold.Given as goal
 
 abbrev pub invariant-loop-o : goal.invariant-loop-o
 invariant-loop-o g l =
