@@ -77,13 +77,14 @@ impl<S: FarTickets> Rows<S> {
         ensures empty { IfOk result (λ rows. rows ≡ empty_rows schema.now limits.now number) }
         ensures memory { IfErr result (λ e. e ≡ Refusal.NoMemory) }
     {
+        let reciprocal = Reciprocal::new(limits.group as usize);
         let columns = columns_of(alloc, schema, limits)?;
         let number_objects = Objects::new(alloc, number, number_limits(limits))?;
         let text_objects = Objects::new(alloc, number, text_limits(limits))?;
         Ok(Rows {
             slots: columns.slots,
             size: limits.group,
-            reciprocal: Reciprocal::new(limits.group as usize),
+            reciprocal,
             numbers: columns.numbers,
             texts: columns.texts,
             number_objects,

@@ -56,10 +56,11 @@ impl TextColumn {
         ensures empty { result ≡ record { column = column; size = size; limit = limit; objects = []; len = 0 } }
         ensures is { (lists : Lists) → IsTextColumn lists result }
     {
+        let reciprocal = Reciprocal::new(size);
         TextColumn {
             column,
             size,
-            reciprocal: Reciprocal::new(size),
+            reciprocal,
             limit,
             objects: Vec::new(alloc),
             len: 0,

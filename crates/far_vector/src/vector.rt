@@ -63,10 +63,11 @@ impl<T: Elem> FarVector<T> {
         ensures memory { IfErr result (λ e. e ≡ Refusal.NoMemory) }
     {
         let size = size as usize;
+        let reciprocal = Reciprocal::new(size);
         Ok(FarVector {
             column,
             size,
-            reciprocal: Reciprocal::new(size),
+            reciprocal,
             objects: Vec::new(alloc),
             len: 0,
             blank,

@@ -81,7 +81,7 @@ impl<'a, S: FarTickets> TextCells<'a, S> {
         ensures none { IfNone result ((self.old ≡ []) × (self.new ≡ [])) }
     {
         let (alive, flags) = self.flags.split_first()?;
-        let cursor = self.cursor.inside(self.column, self.objects);
+        let cursor = self.cursor.entered(self.column, self.objects);
         let text = text_of(cursor.form, cursor.index);
         self.flags = flags;
         self.cursor = Cursor {

@@ -60,7 +60,7 @@ impl<'a> Cursor<'a> {
 
     // The same place, as one of the row group that it lies in.
     #[inline(always)]
-    pub(super) fn inside<S: FarTickets>(
+    pub(super) fn entered<S: FarTickets>(
         self,
         column: &TextColumn,
         objects: &'a Objects<u8, S>,
@@ -68,7 +68,7 @@ impl<'a> Cursor<'a> {
         requires is { IsTextColumn (lists_of S.content objects.now) column.now }
         requires cursor { IsCursor (lists_of S.content objects.now) column.now self.place self.group self.index self.form.now }
         requires here { text_refusal S.content objects.now column.now self.place ≡ None }
-        ensures place { result.place ≡ self.place }
+        ensures place { result.place ≡ self.entry.place }
         ensures cursor { IsCursor (lists_of S.content objects.now) column.now result.place result.group result.index result.form.now }
         ensures inside { result.index < column.now.size }
     {

@@ -41,7 +41,7 @@ impl TextColumn {
         if len > self.limit {
             return Err(Refusal::ChunkFull);
         }
-        let o = self.object_in_use(objects, self.group_of(place));
+        let o = self.object_in_use(objects, place / self.size);
         objects.may_replace(o, len)
     }
 
@@ -60,9 +60,8 @@ impl TextColumn {
         ensures length { IfOk result (λ form. length form.items ≡ texts_length (group_with (lists_of S.content objects.now) self.now place text.now)) }
         ensures memory { IfErr result (λ e. e ≡ Refusal.NoMemory) }
     {
-        let group = self.group_of(place);
-        let form = self.form(objects, group)?;
-        form_with(alloc, form, self.index_in(group, place), text)
+        let form = self.form(objects, place / self.size)?;
+        form_with(alloc, form, place % self.size, text)
     }
 
     /// Sets the text of a place. The column itself stays as it is: its texts lie in the objects, of which that of the
@@ -94,7 +93,7 @@ impl TextColumn {
     {
         self.may_set(objects, place, text)?;
         let form = self.form_set(alloc, objects, place, text)?;
-        let o = self.object_in_use(objects, self.group_of(place));
+        let o = self.object_in_use(objects, place / self.size);
         objects.replace(o, &form)
     }
 }
