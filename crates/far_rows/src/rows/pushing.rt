@@ -174,7 +174,9 @@ impl<S: FarTickets> Rows<S> {
     {
         let _number = self.number_objects.number();
         let _number = self.text_objects.number();
-        let index = self.reciprocal.remainder(self.alive.len(), self.size as usize);
+        let index = self
+            .reciprocal
+            .remainder(self.alive.len(), self.size as usize);
         let begins = index == 0;
         self.alive.push()?;
         let pushed = push_values(
