@@ -101,8 +101,6 @@ pub enum Call {
     Merge(u64),
     Compact(Kind, u32),
     Prefetch(u32),
-    /// Carries a job, and once more if the store failed.
-    CarryAtLast(u64),
     /// Takes all pins off an object, puts them on again, and tells how many there are.
     Repin(u32, u32),
     /// Looks at the row of a place.
@@ -119,6 +117,8 @@ pub enum Call {
     Coldest,
     /// Computes an aggregate from scratch, by so many workers.
     Recount(u32, u32),
+    /// The same once more, after a first time on the same meter that met a fault.
+    RecountAgain(u32, u32),
     /// Looks whether so many faults were met so far: `FarFault` says no.
     Faults(u64),
 }

@@ -10,6 +10,8 @@ mod call;
 #[cfg(test)]
 mod migrating;
 #[cfg(test)]
+mod migrating_frames;
+#[cfg(test)]
 mod moving;
 #[cfg(test)]
 mod opening;
@@ -21,6 +23,8 @@ mod random_steps;
 mod recounts;
 #[cfg(test)]
 mod repeating;
+#[cfg(test)]
+mod runs;
 #[cfg(test)]
 mod script;
 #[cfg(test)]

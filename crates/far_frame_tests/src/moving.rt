@@ -2,9 +2,9 @@
 use crate::answers::Due;
 use crate::call::Value::{Int, Missing, Text};
 use crate::call::{Call, EXTREMA, TOTALS, TOTALS_BY_TEXT};
-use crate::opening::{PAIRS, SOUND};
+use crate::opening::{FOUR_SEGMENTS, Opening, PAIRS, SOUND};
 use crate::script::{Calls, Script, answered, play_all};
-use far_types::{Name, Refusal};
+use far_types::{Kind, Limits, Name, Refusal};
 use std::test::Fail;
 
 /// The first row, of which each column is one object.
@@ -141,7 +141,67 @@ const COLDEST: Calls = &[
     (Call::Coldest, Due::Coldest(None)),
 ];
 
-static SCRIPTS: [Script; 8] = [
+/// Numbers in row groups of two, with room for two of them in each of three segments.
+const THREE_SEGMENTS: Opening = Opening {
+    kinds: &[Kind::Int],
+    limits: Limits {
+        int_segments: 3,
+        ..FOUR_SEGMENTS
+    },
+    rows: &[
+        (Call::Insert(&[Int(1)]), Due::Place(0)),
+        (Call::Insert(&[Int(2)]), Due::Place(1)),
+        (Call::Insert(&[Int(3)]), Due::Place(2)),
+        (Call::Insert(&[Int(4)]), Due::Place(3)),
+    ],
+};
+
+/// The second row group alone is left in the first segment. It goes to the beginning of the second one, and the first is empty: so there
+/// is room for five row groups more. Before the last of them each segment has one, and there is none to which another could be compacted.
+const COMPACTED: Calls = &[
+    (Call::Evac(0, 0), Due::Job(0)),
+    (Call::Carry(0), Due::Done),
+    (Call::Commit(0), Due::Done),
+    (Call::Compact(Kind::Int, 0), Due::Done),
+    (
+        Call::Lend(0, 2, 4),
+        Due::Lent(2, &[(Int(3), true), (Int(4), true)]),
+    ),
+    (Call::Insert(&[Int(5)]), Due::Place(4)),
+    (Call::Insert(&[Int(6)]), Due::Place(5)),
+    (Call::Insert(&[Int(7)]), Due::Place(6)),
+    (Call::Insert(&[Int(8)]), Due::Place(7)),
+    (Call::Insert(&[Int(9)]), Due::Place(8)),
+    (Call::Insert(&[Int(10)]), Due::Place(9)),
+    (Call::Insert(&[Int(11)]), Due::Place(10)),
+    (
+        Call::Compact(Kind::Int, 0),
+        Due::Refused(Refusal::RegionFull),
+    ),
+    (
+        Call::Compact(Kind::Int, 3),
+        Due::Refused(Refusal::OutOfRange),
+    ),
+    (Call::Insert(&[Int(12)]), Due::Place(11)),
+    (Call::Insert(&[Int(13)]), Due::Place(12)),
+    (Call::Insert(&[Int(14)]), Due::Place(13)),
+    (Call::Insert(&[Int(15)]), Due::Refused(Refusal::RegionFull)),
+    (
+        Call::Lend(0, 2, 7),
+        Due::Lent(
+            2,
+            &[
+                (Int(3), true),
+                (Int(4), true),
+                (Int(5), true),
+                (Int(6), true),
+                (Int(7), true),
+            ],
+        ),
+    ),
+];
+
+static SCRIPTS: [Script; 9] = [
     Script {
         name: "a row that is away refuses edits of every column",
         opening: PAIRS,
@@ -183,6 +243,12 @@ static SCRIPTS: [Script; 8] = [
         opening: PAIRS,
         plan: SOUND,
         calls: WRITTEN,
+    },
+    Script {
+        name: "a compaction empties a segment",
+        opening: THREE_SEGMENTS,
+        plan: SOUND,
+        calls: COMPACTED,
     },
     Script {
         name: "the coldest object has no pin",

@@ -29,6 +29,12 @@ pub const FOUR_SEGMENTS: Limits = Limits {
     text_size: 64,
 };
 
+/// Row groups of four, each of which fills one of four segments.
+pub const A_SEGMENT_EACH: Limits = Limits {
+    group: 4,
+    ..FOUR_SEGMENTS
+};
+
 /// A column of numbers in row groups of two, of which two are begun, with an aggregate of them.
 pub const NUMBERS: Opening = Opening {
     kinds: &[Kind::Int],

@@ -2,10 +2,34 @@
 use crate::answers::Due;
 use crate::call::Value::Int;
 use crate::call::{Call, TOTALS};
-use crate::opening::{FOUR_SEGMENTS, Opening, Plan, SOUND};
+use crate::opening::{A_SEGMENT_EACH, FOUR_SEGMENTS, Opening, Plan, SOUND};
 use crate::script::{Calls, Script, answered, play_all};
 use far_types::{Kind, Refusal};
 use std::test::Fail;
+
+/// Two row groups, both away, with an aggregate into which neither is built.
+const ALL_AWAY: Opening = Opening {
+    kinds: &[Kind::Int],
+    limits: A_SEGMENT_EACH,
+    rows: &[
+        (Call::Insert(&[Int(1)]), Due::Place(0)),
+        (Call::Insert(&[Int(2)]), Due::Place(1)),
+        (Call::Insert(&[Int(3)]), Due::Place(2)),
+        (Call::Insert(&[Int(4)]), Due::Place(3)),
+        (Call::Insert(&[Int(5)]), Due::Place(4)),
+        (Call::Insert(&[Int(6)]), Due::Place(5)),
+        (Call::Insert(&[Int(7)]), Due::Place(6)),
+        (Call::Insert(&[Int(8)]), Due::Place(7)),
+        (Call::Evac(0, 0), Due::Job(0)),
+        (Call::Carry(0), Due::Done),
+        (Call::Commit(0), Due::Done),
+        (Call::Evac(0, 1), Due::Job(1)),
+        (Call::Carry(1), Due::Done),
+        (Call::Commit(1), Due::Done),
+        (Call::Watch(TOTALS), Due::Aggregate(0)),
+        (Call::Ask(0), Due::Refused(Refusal::Building(2))),
+    ],
+};
 
 /// Four row groups: one is local, the others are away.
 const MOSTLY_AWAY: Opening = Opening {
@@ -38,16 +62,14 @@ const FIRST_GET_FAILS: Plan = Plan {
     failing_get: 1,
 };
 
-/// The count and the sum of the rows.
-const TOTAL: Due<'static> = Due::Lines(&[(None, 7, 56)]);
+/// The count and the sum of the rows that are all away.
+const TOTAL: Due<'static> = Due::Lines(&[(None, 8, 36)]);
 
-const FAULT: Due<'static> = Due::Refused(Refusal::FarFault);
+const BY_ONE: Calls = &[(Call::RecountAgain(0, 1), TOTAL)];
 
-const BY_ONE: Calls = &[(Call::Recount(0, 1), FAULT), (Call::Recount(0, 1), TOTAL)];
+const BY_THREE: Calls = &[(Call::RecountAgain(0, 3), TOTAL)];
 
-const BY_THREE: Calls = &[(Call::Recount(0, 3), FAULT), (Call::Recount(0, 3), TOTAL)];
-
-const BY_64: Calls = &[(Call::Recount(0, 64), FAULT), (Call::Recount(0, 64), TOTAL)];
+const BY_64: Calls = &[(Call::RecountAgain(0, 64), TOTAL)];
 
 const WORKERS: Calls = &[
     (Call::Recount(0, 0), Due::Refused(Refusal::OutOfRange)),
@@ -55,6 +77,13 @@ const WORKERS: Calls = &[
     (Call::Recount(0, 3), TOTAL),
     (Call::Recount(0, 64), TOTAL),
     (Call::Recount(0, 65), Due::Refused(Refusal::OutOfRange)),
+    (Call::Ask(0), Due::Refused(Refusal::Building(2))),
+];
+
+/// More row groups than workers, in two kinds of place.
+const UNEVEN: Calls = &[
+    (Call::Recount(0, 2), Due::Lines(&[(None, 7, 56)])),
+    (Call::Recount(0, 3), Due::Lines(&[(None, 7, 56)])),
 ];
 
 /// A missing aggregate is told before a wrong number of workers.
@@ -64,34 +93,40 @@ const UNKNOWN: Calls = &[
     (Call::Recount(32, 1), Due::Refused(Refusal::NoAggregate)),
 ];
 
-static SCRIPTS: [Script; 5] = [
+static SCRIPTS: [Script; 6] = [
     Script {
         name: "a recount by one that met a fault is repeated",
-        opening: MOSTLY_AWAY,
+        opening: ALL_AWAY,
         plan: FIRST_GET_FAILS,
         calls: BY_ONE,
     },
     Script {
         name: "a recount by three that met a fault is repeated",
-        opening: MOSTLY_AWAY,
+        opening: ALL_AWAY,
         plan: FIRST_GET_FAILS,
         calls: BY_THREE,
     },
     Script {
         name: "a recount by 64 that met a fault is repeated",
-        opening: MOSTLY_AWAY,
+        opening: ALL_AWAY,
         plan: FIRST_GET_FAILS,
         calls: BY_64,
     },
     Script {
         name: "a recount has from 1 to 64 workers",
-        opening: MOSTLY_AWAY,
+        opening: ALL_AWAY,
         plan: SOUND,
         calls: WORKERS,
     },
     Script {
-        name: "a recount of an aggregate that is not there is refused",
+        name: "a recount reads rows that are local and rows that are away",
         opening: MOSTLY_AWAY,
+        plan: SOUND,
+        calls: UNEVEN,
+    },
+    Script {
+        name: "a recount of an aggregate that is not there is refused",
+        opening: ALL_AWAY,
         plan: SOUND,
         calls: UNKNOWN,
     },

@@ -7,7 +7,7 @@ use crate::call::{Call, step};
 use crate::opening::{Opening, Plan, store, world};
 use far_frame::{Frame, Reply, Step, World};
 use far_store::{FarStore, FarTickets, Meter};
-use far_types::Refusal;
+use far_types::{Answer, Refusal};
 use std::alloc::Global;
 use std::sync::Wait;
 use std::test::Fail;
@@ -134,6 +134,11 @@ fn is_answered_once<S: FarStore, R: Threads + Sync>(
                 1,
             )
         }
+        Call::RecountAgain(a, workers) => is_due(
+            recounted_again(rt, world.frame(), world.store(), a, workers),
+            due,
+            1,
+        ),
         call => is_served(alloc, world, call, due),
     }
 }
@@ -149,7 +154,6 @@ fn is_served<S: FarStore>(
 {
     let size = world.frame().limits().group;
     match call {
-        Call::CarryAtLast(n) => is_due(carried_at_last(world, n), due, size),
         Call::Repin(column, group) => is_due(repinned(world, column, group), due, size),
         Call::Faults(_)
         | Call::IsAlive(_)
@@ -167,15 +171,6 @@ fn is_due(reply: Reply, due: Due<'_>, size: u32) -> Result<bool, Refusal> {
     match reply {
         Reply::Refused(Refusal::NoMemory) => Err(Refusal::NoMemory),
         reply => Ok(is_reply(&reply, due, size)),
-    }
-}
-
-fn carried_at_last<S: FarStore>(world: &mut World<S>, n: u64) -> Reply
-    requires few { world.old.faults < 9 }
-{
-    match world.serve(Step::Carry(n)) {
-        Reply::Refused(Refusal::FarFault) => world.serve(Step::Carry(n)),
-        reply => reply,
     }
 }
 
@@ -267,6 +262,23 @@ fn is_coldest<S: FarStore>(frame: &Frame<S>, store: &S, due: Due<'_>) -> Result<
     }
 }
 
+// A recount on a meter of few faults.
+fn recount_on<S: FarStore, R: Threads + Sync>(
+    rt: &R,
+    frame: &Frame<S>,
+    store: &S,
+    meter: &mut Meter,
+    a: u32,
+    workers: u32,
+) -> Result<Answer, Refusal>
+    requires here { AreAt S.is_of (S.name store.now) frame.now.rows }
+{
+    if meter.faults() >= 9 {
+        return Err(Refusal::StaleJob);
+    }
+    frame.recount(rt, store, meter, a, workers)
+}
+
 // What a recount answers. It meets one fault exactly where it is refused for one.
 fn recounted<S: FarStore, R: Threads + Sync>(
     rt: &R,
@@ -278,11 +290,38 @@ fn recounted<S: FarStore, R: Threads + Sync>(
     requires here { AreAt S.is_of (S.name store.now) frame.now.rows }
 {
     let mut meter = Meter::new();
-    let found = frame.recount(rt, store, &mut meter, a, workers);
+    let found = recount_on(rt, frame, store, &mut meter, a, workers);
     match (found, meter.faults()) {
         (Ok(answer), 0) => Reply::Answer(answer),
         (Err(Refusal::FarFault), 1) => Reply::Refused(Refusal::FarFault),
         (Err(refusal), 0) if refusal != Refusal::FarFault => Reply::Refused(refusal),
+        _ => Reply::Done,
+    }
+}
+
+// What a recount answers after one that was refused for a fault, where their meter shows that one fault both times.
+fn recounted_again<S: FarStore, R: Threads + Sync>(
+    rt: &R,
+    frame: &Frame<S>,
+    store: &S,
+    a: u32,
+    workers: u32,
+) -> Reply
+    requires here { AreAt S.is_of (S.name store.now) frame.now.rows }
+{
+    let mut meter = Meter::new();
+    let first = recount_on(rt, frame, store, &mut meter, a, workers);
+    match (first, meter.faults()) {
+        (Err(Refusal::FarFault), 1) => {}
+        (Err(Refusal::NoMemory), 0) => return Reply::Refused(Refusal::NoMemory),
+        _ => return Reply::Done,
+    }
+    let again = match recount_on(rt, frame, store, &mut meter, a, workers) {
+        Err(Refusal::NoMemory) => recount_on(rt, frame, store, &mut meter, a, workers),
+        again => again,
+    };
+    match (again, meter.faults()) {
+        (Ok(answer), 1) => Reply::Answer(answer),
         _ => Reply::Done,
     }
 }

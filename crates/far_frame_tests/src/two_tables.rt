@@ -1,4 +1,4 @@
-//! Jobs of one table at another over the same store: stale there, accepted at their own, and stale there the second time.
+//! Jobs of one table at another over the same store: stale there, and accepted at their own, once, carried and at the end of their kind.
 ghost use Rattle.std.specs.Prelude.{◌+◌, ◌<◌, ◌≤◌, ◌^◌, ℕ, List, IfOk};
 ghost use Rattle.far_rows.specs.Jobs.{AreAt};
 ghost use Rattle.far_frame.specs.Jobs.{IsJobAt};
@@ -13,24 +13,28 @@ use std::sync::Wait;
 
 /// How a job ends.
 #[derive(Clone, Copy)]
-enum End {
+pub enum End {
     Commit,
     Install,
     Merge,
 }
 
-// Registers an aggregate.
-fn watch<S: FarTickets>(frame: &mut Frame<S>, spec: Spec) -> Result<u32, Refusal>
+/// Registers an aggregate.
+pub fn watch<S: FarTickets>(frame: &mut Frame<S>, spec: Spec) -> Result<u32, Refusal>
     ensures { (name : List ℕ) → AreAt S.is_of name frame.old.rows → AreAt S.is_of name frame.new.rows }
 {
     frame.watch(spec)
 }
 
-// Inserts a row of one number.
-fn insert<S: FarTickets>(alloc: Global, frame: &mut Frame<S>) -> Result<(), Refusal>
+/// Inserts a row of one number.
+pub fn insert<S: FarTickets>(
+    alloc: Global,
+    frame: &mut Frame<S>,
+    number: i64,
+) -> Result<(), Refusal>
     ensures { (name : List ℕ) → AreAt S.is_of name frame.old.rows → AreAt S.is_of name frame.new.rows }
 {
-    let cells = Vec::from_array(alloc, [Cell::Int(4)])?;
+    let cells = Vec::from_array(alloc, [Cell::Int(number)])?;
     frame.insert(Row::new(cells))?;
     Ok(())
 }
@@ -39,7 +43,7 @@ fn insert<S: FarTickets>(alloc: Global, frame: &mut Frame<S>) -> Result<(), Refu
 fn fill<S: FarTickets>(alloc: Global, frame: &mut Frame<S>) -> Result<(), Refusal>
     ensures { (name : List ℕ) → AreAt S.is_of name frame.old.rows → AreAt S.is_of name frame.new.rows }
 {
-    insert(alloc, frame)?;
+    insert(alloc, frame, 4)?;
     watch(frame, spec(alloc, TOTALS)?)?;
     Ok(())
 }
@@ -57,7 +61,7 @@ fn begun<S: FarTickets>(frame: &Frame<S>, store: &S, end: End) -> Result<Job<S>,
 }
 
 /// Begins and carries the job that ends so.
-fn carried<S: FarStore>(
+pub fn carried<S: FarStore>(
     alloc: Global,
     frame: &Frame<S>,
     store: &S,
@@ -100,7 +104,65 @@ fn ends_so<S: FarStore>(
     }
 }
 
-/// Whether a carried job is stale at another table, accepted at its own, and stale there the second time.
+/// Whether a job is stale at a table, at whichever end.
+fn is_stale<S: FarStore>(frame: &mut Frame<S>, store: &S, job: &Job<S>) -> Result<bool, Refusal>
+    requires here { AreAt S.is_of (S.name store.now) frame.old.rows }
+    requires job_here { IsJobAt S.is_of (S.name store.now) job.now }
+    ensures { AreAt S.is_of (S.name store.now) frame.new.rows }
+{
+    let stale = Err(Refusal::StaleJob);
+    let at_commit = ends_so(frame, store, job, End::Commit, stale)?;
+    let at_install = ends_so(frame, store, job, End::Install, stale)?;
+    let at_merge = ends_so(frame, store, job, End::Merge, stale)?;
+    Ok(at_commit && at_install && at_merge)
+}
+
+// Another end. The two others of an end are its next and the next of that.
+fn next(end: End) -> End {
+    match end {
+        End::Commit => End::Install,
+        End::Install => End::Merge,
+        End::Merge => End::Commit,
+    }
+}
+
+/// Whether a job is stale at its table at the two ends that are not its own.
+fn is_of_one_kind<S: FarStore>(
+    frame: &mut Frame<S>,
+    store: &S,
+    job: &Job<S>,
+    end: End,
+) -> Result<bool, Refusal>
+    requires here { AreAt S.is_of (S.name store.now) frame.old.rows }
+    requires job_here { IsJobAt S.is_of (S.name store.now) job.now }
+    ensures { AreAt S.is_of (S.name store.now) frame.new.rows }
+{
+    let stale = Err(Refusal::StaleJob);
+    let at_next = ends_so(frame, store, job, next(end), stale)?;
+    let at_last = ends_so(frame, store, job, next(next(end)), stale)?;
+    Ok(at_next && at_last)
+}
+
+/// Whether a job that is begun is stale at its own table before it is carried.
+fn is_stale_uncarried<S: FarStore>(
+    frame: &mut Frame<S>,
+    store: &S,
+    end: End,
+) -> Result<bool, Refusal>
+    requires here { AreAt S.is_of (S.name store.now) frame.old.rows }
+    ensures { AreAt S.is_of (S.name store.now) frame.new.rows }
+{
+    match begun(frame, store, end) {
+        Ok(job) => {
+            let told = is_stale(frame, store, &job);
+            drop(job);
+            told
+        }
+        Err(refusal) => Err(refusal),
+    }
+}
+
+/// Whether a carried job is stale at another table, and at its own as a job of another kind; accepted there, and stale from then on.
 fn is_of_one_table<S: FarStore>(
     own: &mut Frame<S>,
     other: &mut Frame<S>,
@@ -114,15 +176,15 @@ fn is_of_one_table<S: FarStore>(
     ensures own { AreAt S.is_of (S.name store.now) own.new.rows }
     ensures other { AreAt S.is_of (S.name store.now) other.new.rows }
 {
-    let stale = Err(Refusal::StaleJob);
-    let is_stale_there = ends_so(other, store, job, end, stale)?;
+    let is_stale_there = is_stale(other, store, job)?;
+    let is_of_one_kind = is_of_one_kind(own, store, job, end)?;
     let is_accepted = ends_so(own, store, job, end, Ok(()))?;
-    let is_stale_then = ends_so(own, store, job, end, stale)?;
-    Ok(is_stale_there && is_accepted && is_stale_then)
+    let is_stale_then = is_stale(own, store, job)?;
+    Ok(is_stale_there && is_of_one_kind && is_accepted && is_stale_then)
 }
 
 /// The same of a new job of the first table.
-fn is_told_apart<S: FarStore>(
+fn is_told_at_its_end<S: FarStore>(
     alloc: Global,
     own: &mut Frame<S>,
     other: &mut Frame<S>,
@@ -142,6 +204,24 @@ fn is_told_apart<S: FarStore>(
         }
         Err(refusal) => Err(refusal),
     }
+}
+
+/// The same, and whether another such job is stale before it is carried.
+fn is_told_apart<S: FarStore>(
+    alloc: Global,
+    own: &mut Frame<S>,
+    other: &mut Frame<S>,
+    store: &S,
+    end: End,
+) -> Result<bool, Refusal>
+    requires own { AreAt S.is_of (S.name store.now) own.old.rows }
+    requires other { AreAt S.is_of (S.name store.now) other.old.rows }
+    ensures own { AreAt S.is_of (S.name store.now) own.new.rows }
+    ensures other { AreAt S.is_of (S.name store.now) other.new.rows }
+{
+    let is_stale_uncarried = is_stale_uncarried(own, store, end)?;
+    let is_told_at_its_end = is_told_at_its_end(alloc, own, other, store, end)?;
+    Ok(is_stale_uncarried && is_told_at_its_end)
 }
 
 /// The same of jobs of each kind: both objects go away, and one is built in from the store and comes back.

@@ -3,80 +3,210 @@
 use crate::answers::Due;
 use crate::call::Value::Int;
 use crate::call::{Call, TOTALS};
-use crate::opening::{NUMBERS, Plan, SOUND};
+use crate::opening::{A_SEGMENT_EACH, NUMBERS, Opening, Plan, SOUND};
 use crate::script::{Calls, Script, answered, play_all};
-use far_types::Refusal;
+use far_types::{Kind, Refusal};
 use std::test::Fail;
+
+/// Two full row groups of four numbers, with an aggregate of them.
+const EIGHT: Opening = Opening {
+    kinds: &[Kind::Int],
+    limits: A_SEGMENT_EACH,
+    rows: &[
+        (Call::Watch(TOTALS), Due::Aggregate(0)),
+        (Call::Insert(&[Int(1)]), Due::Place(0)),
+        (Call::Insert(&[Int(2)]), Due::Place(1)),
+        (Call::Insert(&[Int(3)]), Due::Place(2)),
+        (Call::Insert(&[Int(4)]), Due::Place(3)),
+        (Call::Insert(&[Int(5)]), Due::Place(4)),
+        (Call::Insert(&[Int(6)]), Due::Place(5)),
+        (Call::Insert(&[Int(7)]), Due::Place(6)),
+        (Call::Insert(&[Int(8)]), Due::Place(7)),
+    ],
+};
+
+/// Three of them.
+const TWELVE: Opening = Opening {
+    kinds: &[Kind::Int],
+    limits: A_SEGMENT_EACH,
+    rows: &[
+        (Call::Watch(TOTALS), Due::Aggregate(0)),
+        (Call::Insert(&[Int(1)]), Due::Place(0)),
+        (Call::Insert(&[Int(2)]), Due::Place(1)),
+        (Call::Insert(&[Int(3)]), Due::Place(2)),
+        (Call::Insert(&[Int(4)]), Due::Place(3)),
+        (Call::Insert(&[Int(5)]), Due::Place(4)),
+        (Call::Insert(&[Int(6)]), Due::Place(5)),
+        (Call::Insert(&[Int(7)]), Due::Place(6)),
+        (Call::Insert(&[Int(8)]), Due::Place(7)),
+        (Call::Insert(&[Int(9)]), Due::Place(8)),
+        (Call::Insert(&[Int(10)]), Due::Place(9)),
+        (Call::Insert(&[Int(11)]), Due::Place(10)),
+        (Call::Insert(&[Int(12)]), Due::Place(11)),
+    ],
+};
+
+const FAULT: Due<'static> = Due::Refused(Refusal::FarFault);
 
 /// The second evacuation meets a fault; its job stays.
 const SECOND_PUT: Calls = &[
     (Call::Evac(0, 0), Due::Job(0)),
-    (Call::Evac(0, 1), Due::Job(1)),
-    (Call::Carry(0), Due::Done),
-    (Call::Carry(1), Due::Refused(Refusal::FarFault)),
-    (Call::Commit(0), Due::Done),
-    (Call::Ask(0), Due::Lines(&[(None, 3, 18)])),
-    (Call::Carry(1), Due::Done),
-    (Call::Commit(1), Due::Done),
-    (Call::Ask(0), Due::Lines(&[(None, 3, 18)])),
-];
-
-/// The first fetch meets a fault; its job stays.
-const FIRST_GET: Calls = &[
-    (Call::Evac(0, 1), Due::Job(0)),
     (Call::Carry(0), Due::Done),
     (Call::Commit(0), Due::Done),
-    (Call::Fetch(0, 1), Due::Job(1)),
-    (Call::Carry(1), Due::Refused(Refusal::FarFault)),
-    (Call::Ask(0), Due::Lines(&[(None, 3, 18)])),
+    (Call::Evac(0, 1), Due::Job(1)),
+    (Call::Carry(1), FAULT),
+    (Call::Faults(1), Due::Done),
+    (Call::Ask(0), Due::Lines(&[(None, 8, 36)])),
     (Call::Carry(1), Due::Done),
-    (Call::Install(1), Due::Done),
-    (Call::Insert(&[Int(8)]), Due::Place(3)),
+    (Call::Commit(1), Due::Done),
+    (Call::Ask(0), Due::Lines(&[(None, 8, 36)])),
 ];
 
-/// Each of three row groups goes away and comes back, while one put or get fails.
-const ALL_MOVED: Calls = &[
-    (Call::Insert(&[Int(8)]), Due::Place(3)),
-    (Call::Insert(&[Int(9)]), Due::Place(4)),
-    (Call::Insert(&[Int(10)]), Due::Place(5)),
-    (Call::Evac(0, 0), Due::Job(0)),
-    (Call::CarryAtLast(0), Due::Done),
-    (Call::Commit(0), Due::Done),
-    (Call::Ask(0), Due::Lines(&[(None, 6, 45)])),
-    (Call::Evac(0, 1), Due::Job(1)),
-    (Call::CarryAtLast(1), Due::Done),
-    (Call::Commit(1), Due::Done),
-    (Call::Ask(0), Due::Lines(&[(None, 6, 45)])),
-    (Call::Evac(0, 2), Due::Job(2)),
-    (Call::CarryAtLast(2), Due::Done),
-    (Call::Commit(2), Due::Done),
-    (Call::Ask(0), Due::Lines(&[(None, 6, 45)])),
-    (Call::Fetch(0, 0), Due::Job(3)),
-    (Call::CarryAtLast(3), Due::Done),
-    (Call::Install(3), Due::Done),
-    (Call::Ask(0), Due::Lines(&[(None, 6, 45)])),
-    (Call::Fetch(0, 1), Due::Job(4)),
-    (Call::CarryAtLast(4), Due::Done),
-    (Call::Install(4), Due::Done),
-    (Call::Ask(0), Due::Lines(&[(None, 6, 45)])),
-    (Call::Fetch(0, 2), Due::Job(5)),
-    (Call::CarryAtLast(5), Due::Done),
-    (Call::Install(5), Due::Done),
-    (Call::Ask(0), Due::Lines(&[(None, 6, 45)])),
-    (
-        Call::Lend(0, 0, 6),
-        Due::Lent(
-            0,
-            &[
-                (Int(5), true),
-                (Int(6), true),
-                (Int(7), true),
-                (Int(8), true),
-                (Int(9), true),
-                (Int(10), true),
-            ],
-        ),
+/// What the aggregate of twelve answers always.
+const ASK: (Call, Due<'static>) = (Call::Ask(0), Due::Lines(&[(None, 12, 78)]));
+
+/// All twelve rows, which are local.
+const LEND: (Call, Due<'static>) = (
+    Call::Lend(0, 0, 12),
+    Due::Lent(
+        0,
+        &[
+            (Int(1), true),
+            (Int(2), true),
+            (Int(3), true),
+            (Int(4), true),
+            (Int(5), true),
+            (Int(6), true),
+            (Int(7), true),
+            (Int(8), true),
+            (Int(9), true),
+            (Int(10), true),
+            (Int(11), true),
+            (Int(12), true),
+        ],
     ),
+);
+
+/// Each of three row groups goes away and comes back. The first put and the first get fail, and the carry is repeated.
+const FIRST_OF_EACH: Calls = &[
+    (Call::Evac(0, 0), Due::Job(0)),
+    (Call::Carry(0), FAULT),
+    ASK,
+    (Call::Carry(0), Due::Done),
+    (Call::Commit(0), Due::Done),
+    ASK,
+    (Call::Evac(0, 1), Due::Job(1)),
+    (Call::Carry(1), Due::Done),
+    (Call::Commit(1), Due::Done),
+    ASK,
+    (Call::Evac(0, 2), Due::Job(2)),
+    (Call::Carry(2), Due::Done),
+    (Call::Commit(2), Due::Done),
+    ASK,
+    (Call::Fetch(0, 0), Due::Job(3)),
+    (Call::Carry(3), FAULT),
+    ASK,
+    (Call::Carry(3), Due::Done),
+    (Call::Install(3), Due::Done),
+    ASK,
+    (Call::Fetch(0, 1), Due::Job(4)),
+    (Call::Carry(4), Due::Done),
+    (Call::Install(4), Due::Done),
+    ASK,
+    (Call::Fetch(0, 2), Due::Job(5)),
+    (Call::Carry(5), Due::Done),
+    (Call::Install(5), Due::Done),
+    ASK,
+    LEND,
+    (Call::Faults(2), Due::Done),
+];
+
+/// Each of three row groups goes away and comes back. The second put and the second get fail, and the carry is repeated.
+const SECOND_OF_EACH: Calls = &[
+    (Call::Evac(0, 0), Due::Job(0)),
+    (Call::Carry(0), Due::Done),
+    (Call::Commit(0), Due::Done),
+    ASK,
+    (Call::Evac(0, 1), Due::Job(1)),
+    (Call::Carry(1), FAULT),
+    ASK,
+    (Call::Carry(1), Due::Done),
+    (Call::Commit(1), Due::Done),
+    ASK,
+    (Call::Evac(0, 2), Due::Job(2)),
+    (Call::Carry(2), Due::Done),
+    (Call::Commit(2), Due::Done),
+    ASK,
+    (Call::Fetch(0, 0), Due::Job(3)),
+    (Call::Carry(3), Due::Done),
+    (Call::Install(3), Due::Done),
+    ASK,
+    (Call::Fetch(0, 1), Due::Job(4)),
+    (Call::Carry(4), FAULT),
+    ASK,
+    (Call::Carry(4), Due::Done),
+    (Call::Install(4), Due::Done),
+    ASK,
+    (Call::Fetch(0, 2), Due::Job(5)),
+    (Call::Carry(5), Due::Done),
+    (Call::Install(5), Due::Done),
+    ASK,
+    LEND,
+    (Call::Faults(2), Due::Done),
+];
+
+/// Each of three row groups goes away and comes back. The third put and the third get fail, and the carry is repeated.
+const THIRD_OF_EACH: Calls = &[
+    (Call::Evac(0, 0), Due::Job(0)),
+    (Call::Carry(0), Due::Done),
+    (Call::Commit(0), Due::Done),
+    ASK,
+    (Call::Evac(0, 1), Due::Job(1)),
+    (Call::Carry(1), Due::Done),
+    (Call::Commit(1), Due::Done),
+    ASK,
+    (Call::Evac(0, 2), Due::Job(2)),
+    (Call::Carry(2), FAULT),
+    ASK,
+    (Call::Carry(2), Due::Done),
+    (Call::Commit(2), Due::Done),
+    ASK,
+    (Call::Fetch(0, 0), Due::Job(3)),
+    (Call::Carry(3), Due::Done),
+    (Call::Install(3), Due::Done),
+    ASK,
+    (Call::Fetch(0, 1), Due::Job(4)),
+    (Call::Carry(4), Due::Done),
+    (Call::Install(4), Due::Done),
+    ASK,
+    (Call::Fetch(0, 2), Due::Job(5)),
+    (Call::Carry(5), FAULT),
+    ASK,
+    (Call::Carry(5), Due::Done),
+    (Call::Install(5), Due::Done),
+    ASK,
+    LEND,
+    (Call::Faults(2), Due::Done),
+];
+
+/// The row groups are away and none is built in. The first read of a build from the store fails.
+const FIRST_OFFLOAD: Calls = &[
+    (Call::Evac(0, 0), Due::Job(0)),
+    (Call::Carry(0), Due::Done),
+    (Call::Commit(0), Due::Done),
+    (Call::Evac(0, 1), Due::Job(1)),
+    (Call::Carry(1), Due::Done),
+    (Call::Commit(1), Due::Done),
+    (Call::Evac(0, 2), Due::Job(2)),
+    (Call::Carry(2), Due::Done),
+    (Call::Commit(2), Due::Done),
+    (Call::Watch(TOTALS), Due::Aggregate(1)),
+    (Call::Ask(1), Due::Refused(Refusal::Building(3))),
+    (Call::Offload(1, 0), Due::Job(3)),
+    (Call::Carry(3), FAULT),
+    (Call::Carry(3), Due::Done),
+    (Call::Merge(3), Due::Done),
+    (Call::Ask(1), Due::Refused(Refusal::Building(2))),
     (Call::Faults(1), Due::Done),
 ];
 
@@ -114,7 +244,7 @@ const STRIDE: Calls = &[
     (Call::Lend(0, 8, 10), Due::Refused(Refusal::OutOfRange)),
 ];
 
-/// A row group that is away is built in from the store, whose first read fails, as a scan builds in the other.
+/// A row group that is away is built in from the store, as a scan builds in the other.
 const BUILT: Calls = &[
     (Call::Watch(TOTALS), Due::Aggregate(1)),
     (Call::Offload(1, 0), Due::Refused(Refusal::StaleJob)),
@@ -123,7 +253,6 @@ const BUILT: Calls = &[
     (Call::Commit(0), Due::Done),
     (Call::Scan(1, 0), Due::Refused(ABSENT)),
     (Call::Offload(1, 0), Due::Job(1)),
-    (Call::Carry(1), Due::Refused(Refusal::FarFault)),
     (Call::Carry(1), Due::Done),
     (Call::Merge(1), Due::Done),
     (Call::Merge(1), Due::Refused(Refusal::StaleJob)),
@@ -187,18 +316,8 @@ const ABSENT: Refusal = Refusal::Absent {
     group: 0,
 };
 
-const PUT_1: Plan = Plan {
-    failing_put: 1,
-    ..SOUND
-};
-
 const PUT_2: Plan = Plan {
     failing_put: 2,
-    ..SOUND
-};
-
-const PUT_3: Plan = Plan {
-    failing_put: 3,
     ..SOUND
 };
 
@@ -207,12 +326,20 @@ const GET_1: Plan = Plan {
     ..SOUND
 };
 
-const GET_2: Plan = Plan {
+const FIRST: Plan = Plan {
+    failing_put: 1,
+    failing_get: 1,
+    ..SOUND
+};
+
+const SECOND: Plan = Plan {
+    failing_put: 2,
     failing_get: 2,
     ..SOUND
 };
 
-const GET_3: Plan = Plan {
+const THIRD: Plan = Plan {
+    failing_put: 3,
     failing_get: 3,
     ..SOUND
 };
@@ -222,59 +349,41 @@ const SMALL: Plan = Plan {
     ..SOUND
 };
 
-static SCRIPTS: [Script; 14] = [
+static SCRIPTS: [Script; 11] = [
     Script {
-        name: "all moved while the first put fails",
-        opening: NUMBERS,
-        plan: PUT_1,
-        calls: ALL_MOVED,
+        name: "all moved while the first put and the first get fail",
+        opening: TWELVE,
+        plan: FIRST,
+        calls: FIRST_OF_EACH,
     },
     Script {
-        name: "all moved while the second put fails",
-        opening: NUMBERS,
-        plan: PUT_2,
-        calls: ALL_MOVED,
+        name: "all moved while the second put and the second get fail",
+        opening: TWELVE,
+        plan: SECOND,
+        calls: SECOND_OF_EACH,
     },
     Script {
-        name: "all moved while the third put fails",
-        opening: NUMBERS,
-        plan: PUT_3,
-        calls: ALL_MOVED,
-    },
-    Script {
-        name: "all moved while the first get fails",
-        opening: NUMBERS,
-        plan: GET_1,
-        calls: ALL_MOVED,
-    },
-    Script {
-        name: "all moved while the second get fails",
-        opening: NUMBERS,
-        plan: GET_2,
-        calls: ALL_MOVED,
-    },
-    Script {
-        name: "all moved while the third get fails",
-        opening: NUMBERS,
-        plan: GET_3,
-        calls: ALL_MOVED,
+        name: "all moved while the third put and the third get fail",
+        opening: TWELVE,
+        plan: THIRD,
+        calls: THIRD_OF_EACH,
     },
     Script {
         name: "a carry that met a fault is repeated",
-        opening: NUMBERS,
+        opening: EIGHT,
         plan: PUT_2,
         calls: SECOND_PUT,
     },
     Script {
-        name: "a fetch that met a fault is repeated",
-        opening: NUMBERS,
+        name: "a build that met a fault is repeated",
+        opening: TWELVE,
         plan: GET_1,
-        calls: FIRST_GET,
+        calls: FIRST_OFFLOAD,
     },
     Script {
         name: "a row group that is away is built in",
         opening: NUMBERS,
-        plan: GET_1,
+        plan: SOUND,
         calls: BUILT,
     },
     Script {

@@ -17,6 +17,7 @@ static EXAMPLES: &[Scene] = &[
             (Step::Insert(0, 5), Ok(Reply::Applied(1, 0))),
             (Step::Gauge(0), Ok(Reply::Reading(1, 1, 5))),
             (Step::Lend(0), Ok(Reply::Lent(5))),
+            (Step::Lend(4), Err(Refusal::OutOfRange)),
             (Step::Evacuate(0), Ok(Reply::Object(FIRST))),
             (Step::Set(0, 0, 6), Err(AWAY)),
             (Step::Fetch(0, 0), Ok(Reply::Done)),
