@@ -1,6 +1,17 @@
-use Rattle.std.proofs.Common.{sym, subst}
+use Rattle.std.proofs.Common.{arith, sym, subst}
 use Rattle.far_rows.specs.Jobs.{AreAt}
+use Rattle.far_table.specs.State.{AreChecked}
+use Rattle.far_table.proofs.LiveEdits.{none-checked}
 use Rattle.far_table.proofs.live_table.LiveTable.open.Goals as goal
+
+pub invariant_of-result : goal.invariant_of-result
+invariant_of-result g c =
+    let rows = c.in_ok-rows.rows in
+    record {
+      registrations_few = omega arith;
+      kept = c.new-2.ensures.kept rows.limits.group rows.places;
+      checked = subst (AreChecked rows.schema) (sym c.new-2.ensures.registered) (none-checked rows.schema 32);
+    }
 
 -- there is no object yet, so no ticket
 pub returns-clause-here : goal.returns-clause-here
