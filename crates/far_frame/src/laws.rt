@@ -71,8 +71,9 @@ pub fn a_migration_keeps_the_table<S: FarTickets, N: FarTickets>()
     ensures { (name : List ℕ) → (old : World S.Ticket) → (new : World N.Ticket) → IsMigratedTo S.content N.content name old new → new.state.table ≡ old.state.table }
 {}
 
-/// The pieces of a part of a column (`lent_part`, which the contracts of the lendings of a `View` and of a frame cite) are, joined, that part
-/// of its column, with the flags of its places; dead places are in it too.
+/// The pieces of a part of a column (`lent_part`) are, joined, that part of its column, with the flags of its places; dead places are in
+/// it too. The contracts of `View::ints` and of the two `record_lending` cite `lent_part`, as does the step `Lend`. `View::texts` lends the
+/// part in one piece, so its contract says of the whole what is said here of the pieces joined.
 pub fn a_lent_part_is_that_of_its_column()
     ensures cells { (table : Table) → AreLimits table.limits → (column from to : ℕ) → from ≤ to → flat_map (λ piece. piece.cells) (lent_part table column from to) ≡ part column from to table.places }
     ensures flags { (table : Table) → AreLimits table.limits → (column from to : ℕ) → from ≤ to → flat_map (λ piece. piece.flags) (lent_part table column from to) ≡ slice_range (flags_of table.places) from to }
