@@ -1,8 +1,8 @@
 -- A pair that came into what is kept can be taken back, and then it is as it was.
-use Rattle.std.proofs.Common.{◌≡◌, ◌≢◌, ℕ, zero, suc, ◌<◌, ◌≤◌, ◌/◌, List, [], ◌∷◌, length, map, take, refl, sym, ap, ◌∙◌, subst, arith, Option, None, Some, slice_get, slice_set}
+use Rattle.std.proofs.Common.{◌≡◌, ◌≢◌, ℕ, zero, suc, ◌<◌, ◌/◌, List, [], ◌∷◌, length, map, take, refl, sym, ap, ◌∙◌, subst, arith, Option, None, Some, slice_get, slice_set}
 use Rattle.std.specs.Prelude.{ℤ, option_map}
 use Rattle.std.specs.FinMap as fin
-use Rattle.std.proofs.lemmas.List.{get_or-set_same, length-map, length-take, length-take-le, take-map}
+use Rattle.std.proofs.lemmas.List.{get_or-set_same, length-map, length-take-le, take-map, take_all}
 use Rattle.far_types.specs.Answers.{Totals, Extrema, totals}
 use Rattle.far_types.specs.Changes.{count_in, with_pair, without_pair, with_seen, widened}
 use Rattle.far_types.specs.Pairs.{Pair}
@@ -18,7 +18,7 @@ use Rattle.far_aggregates.specs.declared.aggregate.Kept.TheVariants as kept
 use Rattle.far_aggregates.specs.declared.coming.Coming.{Coming}
 use Rattle.far_aggregates.specs.Kept.{Slot, Change}
 use Rattle.far_aggregates.specs.Changes.{Gives, change_of, KeptFolds, Folds, EachFolds}
-use Rattle.far_aggregates.specs.Coming.{coming_of, come_of, coming_in, kept_more, added, kept_back, back, KeptMayAdd, MayAdd, KeptMayBack, MayBack, EachMayBack, KeptFits, Fits, EachFits}
+use Rattle.far_aggregates.specs.Coming.{coming_of, come_of, coming_in, kept_more, added, kept_back, back, KeptMayAdd, KeptMayBack, MayBack, EachMayBack, KeptFits, Fits, EachFits}
 use Rattle.far_aggregates.specs.Rooms.{KeptHasRoom, HasRoom, HaveRoom}
 use Rattle.far_aggregates.specs.Until.{zip_until, zip_all}
 use Rattle.far_aggregates.proofs.CountLaws.{few_under, can_take}
@@ -67,11 +67,6 @@ undone m p ps h = ap (λ t. without_pair (with_pair t p) p) h ∙ ap (λ t. with
 kept-undo : (g : ℕ) (k : Kept) (c : Coming) → KeptFits g k c → kept_back g (kept_more g k c.pair) c ≡ k
 kept-undo g (kept.Totals live) c h = ap (λ t. kept.Totals (record { left = live.left; totals = t })) (undone live.totals c.pair h.0 h.1)
 kept-undo g (kept.Extrema live) c h = ap (λ gs. kept.Extrema (record live { groups = gs })) (seen-undone g live.groups c.pair c.stood h.0 h.1)
-
-pub fits-may_add : (g : ℕ) (s : Slot) (c : Option Coming) → Fits g s c → MayAdd g s c
-fits-may_add g None c h = tt
-fits-may_add g (Some a) None h = tt
-fits-may_add g (Some a) (Some c) h = kept-may_add g a.kept c h
 
 fits-may_back : (g : ℕ) (s : Slot) (c : Option Coming) → Fits g s c → MayBack g (added g s c) c
 fits-may_back g None c h = tt
@@ -132,10 +127,6 @@ pub pair-fits : (g : ℕ) (k : Kept) (p : Pair) → KeptFolds k → KeptHasRoom 
 pair-fits g (kept.Totals live) p f r = f
 pair-fits g (kept.Extrema live) p f r = (r, refl)
 
-pub coming-fits : (g : ℕ) (s : Slot) (p : Pair) → Folds s → HasRoom g s → Fits g s (coming_in g s p)
-coming-fits g None p f r = tt
-coming-fits g (Some a) p f r = pair-fits g a.kept p f r
-
 -- what comes of a place fits what is kept, where totals are few and extrema have room
 kept-fits : (g : ℕ) (a : Aggregate) (k : Kept) (o : Change) → KeptFolds k → KeptHasRoom g k → Fits g (Some (record a { kept = k })) (option_map (coming_of g k) o)
 kept-fits g a k None f r = tt
@@ -158,31 +149,28 @@ each-fits size i o (t ∷ slots) f r (suc k) s c here there = each-fits size i o
 may_back-alike : (g n : ℕ) (slots : List Slot) (comes more : List (Option Coming)) → take n more ≡ take n comes → EachMayBack g n slots comes → EachMayBack g n slots more
 may_back-alike g n slots comes more e h k s c l here there = h k s c l here (sym (get-take n k comes l) ∙ ap (λ (cs : List (Option Coming)). slice_get cs k) (sym e) ∙ get-take n k more l ∙ there)
 
--- a row comes into one after the other: what came into the first n is listed, and perhaps one more
-module _ (size i : ℕ) (o : Gives) (slots : List Slot) (folds : EachFolds slots) (room : HaveRoom (i / size) slots) (n : ℕ) (within : n < length slots) (comes more : List (Option Coming)) (is : comes ≡ map (come_of size i o) (take n slots)) (before : take (length comes) more ≡ comes) where
+-- a row comes into one after the other: what came into the first n is listed
+module _ (size i : ℕ) (o : Gives) (slots : List Slot) (folds : EachFolds slots) (room : HaveRoom (i / size) slots) (n : ℕ) (within : n < length slots) (comes : List (Option Coming)) (is : comes ≡ map (come_of size i o) (take n slots)) where
   abbrev all : List (Option Coming)
   all = map (come_of size i o) slots
 
   abbrev mid : List Slot
   mid = zip_until (added (i / size)) n slots all
 
-  alike : take n more ≡ take n all
+  pub next-many : length comes ≡ n
+  next-many = ap length is ∙ length-map (take n slots) (come_of size i o) ∙ length-take-le n slots (omega arith)
+
+  alike : take n comes ≡ take n all
   alike =
-      let many : length comes ≡ n = ap length is ∙ length-map (take n slots) (come_of size i o) ∙ length-take-le n slots (omega arith) in
-      ap (λ m. take m more) (sym many) ∙ before ∙ is ∙ sym (take-map (come_of size i o) n slots)
+      let many = next-many in
+      take_all n comes (omega arith) ∙ is ∙ sym (take-map (come_of size i o) n slots)
 
-  pub next-many : n ≤ length more
-  next-many =
-      let some = length-take n more in
-      let same : length (take n more) ≡ n = ap length alike ∙ ap length (take-map (come_of size i o) n slots) ∙ length-map (take n slots) (come_of size i o) ∙ length-take-le n slots (omega arith) in
-      omega arith
+  pub next-may_back : EachMayBack (i / size) n mid comes
+  next-may_back = may_back-alike (i / size) n mid all comes alike (until-may_back (i / size) n slots all (each-fits size i o slots folds room))
 
-  pub next-may_back : EachMayBack (i / size) n mid more
-  next-may_back = may_back-alike (i / size) n mid all more alike (until-may_back (i / size) n slots all (each-fits size i o slots folds room))
-
-  pub next-undone : zip_until (back (i / size)) n mid more ≡ slots
+  pub next-undone : zip_until (back (i / size)) n mid comes ≡ slots
   next-undone =
-      sym (zip_until-take (back (i / size)) n mid more)
+      sym (zip_until-take (back (i / size)) n mid comes)
       ∙ ap (zip_until (back (i / size)) n mid) alike
       ∙ zip_until-take (back (i / size)) n mid all
       ∙ zip_until-undo (added (i / size)) (back (i / size)) n slots all (λ k s d h j. fits-undo (i / size) s d (each-fits size i o slots folds room k s d h j))

@@ -1,6 +1,6 @@
 -- What is known of what stands under no key, as it changes.
 use Rattle.std.proofs.Common.{inl, inr, ◌≡◌, true, false, cond, ℕ, ◌+◌, ◌-◌, ◌<◌, List, length, sym, ap, ◌∙◌, subst, Option, None, Some, slice_set}
-use Rattle.std.specs.Prelude.{ℤ, is_some}
+use Rattle.std.specs.Prelude.{ℤ, is_some, IfSome, slice_get}
 use Rattle.std.specs.Ordering.{eq_by_cmp}
 use Rattle.std.specs.FinMap as fin
 use Rattle.std.proofs.lemmas.List.{get_or-set_same, get_or-set_other}
@@ -24,6 +24,11 @@ known-roomy plain groups new g is known h span noted =
 
 pub known-same : (plain : List (Option (ℤ × ℤ))) (groups new : List Extrema) → new ≡ groups → AreKnown plain groups → AreKnown plain new
 known-same plain groups new is known = subst (AreKnown plain) (sym is) known
+
+-- what is noted of a row group, if anything is
+pub known-at : (plain : List (Option (ℤ × ℤ))) (groups : List Extrema) (g : ℕ) (o : Option (ℤ × ℤ)) → AreKnown plain groups → IfSome o (λ span. slice_get plain g ≡ Some (Some span)) → IfSome o (λ span. fin.get (group_at groups g) None ≡ Some span)
+known-at plain groups g None known h = tt
+known-at plain groups g (Some span) known h = known g span h
 
 -- a row group that changes, where what stands under no key stays, or is noted anew
 

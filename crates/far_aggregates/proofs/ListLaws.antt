@@ -9,6 +9,11 @@ all-set P [] i x h k = tt
 all-set P (y ∷ xs) zero x h k = (k, h.1)
 all-set P (y ∷ xs) (suc i) x h k = (h.0, all-set P xs i x h.1 k)
 
+-- a fact of each element is one of the first
+pub all-front : {X : Type 0} (P : X → Type 0) (xs ys : List X) → AllByRecursion P (xs ++ ys) → AllByRecursion P xs
+all-front P [] ys h = tt
+all-front P (x ∷ xs) ys h = (h.0, all-front P xs ys h.1)
+
 pub all-get : {X : Type 0} (P : X → Type 0) (xs : List X) (i : ℕ) (x : X) → AllByRecursion P xs → slice_get xs i ≡ Some x → P x
 all-get P [] i x h e = cc
 all-get P (y ∷ xs) zero x h e = let k : y ≡ x = cc in subst P k h.0

@@ -57,11 +57,6 @@ abbrev pub KeptMayAdd : ℕ → Kept → Pair → Type 0
 KeptMayAdd g (kept.Totals live) pair = count_in (fin.get live.totals pair.0) < 2 ^ 26
 KeptMayAdd g (kept.Extrema live) pair = g < length live.groups
 
-abbrev pub MayAdd : ℕ → Slot → Option Coming → Type 0
-MayAdd g None come = Unit {0}
-MayAdd g (Some a) None = Unit {0}
-MayAdd g (Some a) (Some come) = KeptMayAdd g a.kept come.pair
-
 -- a pair may be taken back: it is there
 abbrev pub KeptMayBack : ℕ → Kept → Pair → Type 0
 KeptMayBack g (kept.Totals live) pair = CanTake pair.1 (fin.get live.totals pair.0)

@@ -21,6 +21,7 @@ use super::readings::{first_unbuilt, plain};
 use super::registrations::{aggregate_at, forget, free_number, register};
 use super::rooms::make_rooms;
 use super::scans::build_at;
+use super::spare_keys::SpareKeys;
 use super::sparing::spared;
 use far_types::{Answer, CellRef, LendCells, Refusal, Spec};
 use std::alloc::Global;
@@ -35,6 +36,7 @@ pub struct Aggregates {
     slots: Vec<Option<Aggregate>>,
     /// The lists of an edit that has ended, for the next one, so that it makes none.
     spare: Pending,
+    spare_keys: SpareKeys,
 }
 
 impl Model for Aggregates {
@@ -70,6 +72,7 @@ impl Aggregates {
         Aggregates {
             slots: Vec::new(alloc),
             spare: Pending::nothing(alloc),
+            spare_keys: SpareKeys::new(alloc),
         }
     }
 
@@ -224,7 +227,7 @@ impl Aggregates {
         let Pending { came, mut gone, .. } = mem::replace(&mut self.spare, Pending::nothing(alloc));
         let slots = self.slots.as_mut_slice();
         make_rooms(slots, group);
-        let came = come_in(alloc, came, slots, row, size, place)?;
+        let came = come_in(&mut self.spare_keys, came, slots, row, size, place)?;
         gone.clear();
         Ok(Pending { group, came, gone })
     }
@@ -255,10 +258,10 @@ impl Aggregates {
         let Pending { came, gone, .. } = mem::replace(&mut self.spare, Pending::nothing(alloc));
         let slots = self.slots.as_mut_slice();
         make_rooms(slots, group);
-        let gone = changes(alloc, gone, slots, row, size, place)?;
+        let gone = changes(&mut self.spare_keys, gone, slots, row, size, place)?;
         let changed = Changed { row, column, cell };
-        let came = come_in(alloc, came, slots, &changed, size, place)?;
-        let gone = spared(gone, came.as_slice());
+        let came = come_in(&mut self.spare_keys, came, slots, &changed, size, place)?;
+        let gone = spared(&mut self.spare_keys, gone, came.as_slice());
         Ok(Pending { group, came, gone })
     }
 
@@ -282,7 +285,7 @@ impl Aggregates {
         let Pending { mut came, gone, .. } = mem::replace(&mut self.spare, Pending::nothing(alloc));
         let slots = self.slots.as_mut_slice();
         make_rooms(slots, group);
-        let gone = changes(alloc, gone, slots, row, size, place)?;
+        let gone = changes(&mut self.spare_keys, gone, slots, row, size, place)?;
         came.clear();
         Ok(Pending { group, came, gone })
     }
@@ -301,11 +304,12 @@ impl Aggregates {
         self.end(pending);
     }
 
-    /// Ends an edit that the rows have, where nothing is left to go out: its lists are kept for the next. Takes no memory.
+    /// Ends an edit that the rows have, where nothing is left to go out: its lists, and the strings of its text keys, are kept
+    /// for the next. Takes no memory.
     pub fn end(&mut self, pending: Pending)
         ensures same { self.new ≡ self.old }
     {
-        self.spare = pending;
+        self.spare = pending.emptied(&mut self.spare_keys);
     }
 
     /// Takes out what the row gave before an edit, which the rows have: the row group lends its columns as they are now. Its

@@ -4,8 +4,8 @@ ghost use Rattle.far_types.specs.Lent.{lent_pair};
 ghost use Rattle.far_aggregates.specs.Changes.{change_of, row_gives};
 
 use super::aggregate::Aggregate;
+use super::spare_keys::SpareKeys;
 use far_types::{Key, LendCells, PairRef, Refusal, number_key};
-use std::alloc::Global;
 
 /// A folded row: its key, none in an aggregate without key column, and its value.
 pub type Pair = (Option<Key>, i64);
@@ -33,7 +33,7 @@ pub fn give<'a, R: LendCells>(
 /// What a row that is alive at a place gives to an aggregate stands behind what it gives to those before.
 #[inline(always)]
 fn change_next<R: LendCells>(
-    alloc: Global,
+    spare: &mut SpareKeys,
     changes: &mut Vec<Option<Pair>>,
     slot: &Option<Aggregate>,
     row: &R,
@@ -49,14 +49,15 @@ fn change_next<R: LendCells>(
     match give(slot, row, size, place, group) {
         PairRef::Nothing => changes.push(None)?,
         PairRef::Under { number, value } => changes.push(Some((number_key(number), value)))?,
-        text => changes.push(text.pair(alloc, None)?)?,
+        PairRef::UnderText { text, value } => changes.push(Some((spare.key_of(text)?, value)))?,
     }
     Ok(())
 }
 
-/// What a row that is alive at a place gives to each aggregate, in a list that may have been made for an edit before.
+/// What a row that is alive at a place gives to each aggregate, in a list that may have been made for an edit before. Texts
+/// are written into the strings of spare keys.
 pub fn changes<R: LendCells>(
-    alloc: Global,
+    spare: &mut SpareKeys,
     list: Vec<Option<Pair>>,
     slots: &[Option<Aggregate>],
     row: &R,
@@ -72,7 +73,7 @@ pub fn changes<R: LendCells>(
     changes.clear();
     changes.reserve(slots.len())?;
     for slot in slots {
-        change_next(alloc, &mut changes, slot, row, size, place, group)?;
+        change_next(spare, &mut changes, slot, row, size, place, group)?;
     }
     Ok(changes)
 }

@@ -1,79 +1,23 @@
 // Pairs that come into what is kept, and how they are taken back where a later growth is refused.
-ghost use Rattle.std.specs.Prelude.{◌≡◌, ◌/◌, ◌^◌, ◌<◌, ◌≤◌, ◌∷◌, ◌++◌, [], Some, OnOk, OnErr, IfErr, IfOk, length, map, take};
+ghost use Rattle.std.specs.Prelude.{◌≡◌, ◌/◌, ◌^◌, ◌<◌, ◌≤◌, ◌∷◌, ◌++◌, [], Some, OnOk, OnErr, IfErr, IfOk, length, map, vec_len, vec_capacity};
 ghost use Rattle.far_types.specs.declared.key.Key.TheVariants as keys;
 ghost use Rattle.far_types.specs.Lent.{key_by};
 ghost use Rattle.far_aggregates.specs.Changes.{Folds, EachFolds, row_gives};
-ghost use Rattle.far_aggregates.specs.Coming.{stood_in, come_of, coming_in, kept_more, added, back, KeptMayAdd, MayAdd, MayBack, KeptFits, Fits, EachMayBack};
+ghost use Rattle.far_aggregates.specs.Coming.{stood_in, come_of, coming_in, kept_more, added, back, KeptMayAdd, MayBack, EachMayBack};
 ghost use Rattle.far_aggregates.specs.Rooms.{HasRoom, HaveRoom};
 ghost use Rattle.far_aggregates.specs.Until.{zip_until, zip_all};
 
 use super::aggregate::{Aggregate, Kept};
 use super::changes::{Pair, give};
+use super::spare_keys::SpareKeys;
 use far_extrema::Span;
-use far_types::{CellRef, Key, LendCells, PairRef, Refusal, number_key};
-use std::alloc::Global;
+use far_types::{Key, LendCells, PairRef, Refusal, number_key};
 
 /// A pair that comes, and where extrema are kept what stood under its key in the row group, which takes it back.
 #[derive(Drop)]
 pub struct Coming {
     pub pair: Pair,
     pub stood: Option<Span>,
-}
-
-/// What stands under a key in a row group, where extrema are kept. The span is taken apart and made anew, so that its numbers
-/// are passed on in registers.
-#[inline(always)]
-fn stood(kept: &Kept, group: u32, key: &Option<Key>) -> Option<Span>
-    ensures { result ≡ stood_in group key.now kept.now }
-{
-    match kept {
-        Kept::Totals(_) => None,
-        Kept::Extrema(live) => match live.span(group, key) {
-            Some((least, greatest)) => Some((least, greatest)),
-            None => None,
-        },
-    }
-}
-
-/// What comes of a value under a text into an aggregate.
-fn come_of_text(
-    alloc: Global,
-    slot: &Option<Aggregate>,
-    group: u32,
-    text: &str,
-    value: i64,
-) -> Result<Option<Coming>, Refusal>
-    ensures ok { IfOk result (λ come. come ≡ coming_in group slot.now (Some (keys.Text text.now), value)) }
-    ensures memory { IfErr result (λ e. e ≡ Refusal.NoMemory) }
-{
-    match slot {
-        None => Ok(None),
-        Some(aggregate) => {
-            let key = CellRef::Text(text).key(alloc, None)?;
-            let stood = stood(&aggregate.kept, group, &key);
-            let pair = (key, value);
-            Ok(Some(Coming { pair, stood }))
-        }
-    }
-}
-
-/// One pair more, where there is one. What stood under its key is known, so it is not looked up again.
-fn add_one(slot: &mut Option<Aggregate>, group: u32, come: &Option<Coming>) -> Result<(), Refusal>
-    requires may { MayAdd group slot.old come.now }
-    requires fits { Fits group slot.old come.now }
-    ensures ok { OnOk result (slot.new ≡ added group slot.old come.now) }
-    ensures err { OnErr result (slot.new ≡ slot.old) }
-    ensures memory { IfErr result (λ e. e ≡ Refusal.NoMemory) }
-{
-    if let Some(aggregate) = slot {
-        if let Some(come) = come {
-            match &mut aggregate.kept {
-                Kept::Totals(live) => live.add_under(&come.pair.0, come.pair.1)?,
-                Kept::Extrema(live) => live.see_over(group, &come.pair.0, come.pair.1, come.stood)?,
-            }
-        }
-    }
-    Ok(())
 }
 
 /// A pair that came is taken back.
@@ -103,29 +47,33 @@ fn back_until(slots: &mut [Option<Aggregate>], group: u32, comes: &[Option<Comin
     }
 }
 
-/// One pair more in what is kept. What stood under its key is known, so it is not looked up again.
+/// One pair more in what is kept. Returns what stood under its key in the row group, where extrema are kept: the one look-up
+/// that brings the pair in tells it.
 #[inline(always)]
 fn add_to(
     kept: &mut Kept,
     group: u32,
     key: &Option<Key>,
     value: i64,
-    stood: Option<Span>,
-) -> Result<(), Refusal>
-    requires may { KeptMayAdd group kept.old (key.now, value) }
-    requires fits { KeptFits group kept.old (record { pair = (key.now, value); stood = stood }) }
+) -> Result<Option<Span>, Refusal>
+    requires { KeptMayAdd group kept.old (key.now, value) }
+    ensures stood { IfOk result (λ stood. stood ≡ stood_in group key.now kept.old) }
     ensures ok { OnOk result (kept.new ≡ kept_more group kept.old (key.now, value)) }
     ensures err { OnErr result (kept.new ≡ kept.old) }
     ensures memory { IfErr result (λ e. e ≡ Refusal.NoMemory) }
 {
     match kept {
-        Kept::Totals(live) => live.add_under(key, value),
-        Kept::Extrema(live) => live.see_over(group, key, value, stood),
+        Kept::Totals(live) => {
+            live.add_under(key, value)?;
+            Ok(None)
+        }
+        Kept::Extrema(live) => live.see_under(group, key, value),
     }
 }
 
-/// A value under a number or under no key comes into an aggregate, and stands behind what came into those before. It is
-/// listed where it stays, since a pair that calls hand on by memory costs more than what is done with it.
+/// A value under a number or under no key comes into an aggregate, and stands behind what came into those before, for which
+/// the list has a place. It is made where it stays, since a pair that calls hand on by memory costs more than what is done
+/// with it.
 #[inline(always)]
 fn come_under(
     comes: &mut Vec<Option<Coming>>,
@@ -136,31 +84,32 @@ fn come_under(
 ) -> Result<(), Refusal>
     requires folds { Folds slot.old }
     requires room { HasRoom group slot.old }
+    requires place { vec_len comes.old < vec_capacity comes.old }
     ensures ok { OnOk result (slot.new ≡ added group slot.old (coming_in group slot.old (key_by number, value))) }
     ensures comes { OnOk result (comes.new.items ≡ comes.old.items ++ coming_in group slot.old (key_by number, value) ∷ []) }
+    ensures capacity { vec_capacity comes.new ≡ vec_capacity comes.old }
     ensures err { OnErr result (slot.new ≡ slot.old) }
-    ensures before { OnErr result (take (length comes.old.items) comes.new.items ≡ comes.old.items) }
+    ensures before { OnErr result (comes.new.items ≡ comes.old.items) }
     ensures memory { IfErr result (λ e. e ≡ Refusal.NoMemory) }
 {
     match slot {
         None => {
-            comes.push(None)?;
+            comes.push_reserved(None);
             Ok(())
         }
         Some(aggregate) => {
-            let key = number_key(number);
-            let stood = stood(&aggregate.kept, group, &key);
+            let stood = add_to(&mut aggregate.kept, group, &number_key(number), value)?;
             let pair = (number_key(number), value);
-            comes.push(Some(Coming { pair, stood }))?;
-            add_to(&mut aggregate.kept, group, &key, value, stood)
+            comes.push_reserved(Some(Coming { pair, stood }));
+            Ok(())
         }
     }
 }
 
-/// As `come_under`, where the key is a text. Its string takes memory, so it is made before the aggregate grows.
+/// As `come_under`, where the key is a text, which is written into the string of a spare key.
 #[inline(never)]
 fn come_under_text(
-    alloc: Global,
+    spare: &mut SpareKeys,
     comes: &mut Vec<Option<Coming>>,
     slot: &mut Option<Aggregate>,
     group: u32,
@@ -169,21 +118,34 @@ fn come_under_text(
 ) -> Result<(), Refusal>
     requires folds { Folds slot.old }
     requires room { HasRoom group slot.old }
+    requires place { vec_len comes.old < vec_capacity comes.old }
     ensures ok { OnOk result (slot.new ≡ added group slot.old (coming_in group slot.old (Some (keys.Text text.now), value))) }
     ensures comes { OnOk result (comes.new.items ≡ comes.old.items ++ coming_in group slot.old (Some (keys.Text text.now), value) ∷ []) }
+    ensures capacity { vec_capacity comes.new ≡ vec_capacity comes.old }
     ensures err { OnErr result (slot.new ≡ slot.old) }
-    ensures before { OnErr result (take (length comes.old.items) comes.new.items ≡ comes.old.items) }
+    ensures before { OnErr result (comes.new.items ≡ comes.old.items) }
     ensures memory { IfErr result (λ e. e ≡ Refusal.NoMemory) }
 {
-    let at = comes.len();
-    comes.push(come_of_text(alloc, slot, group, text, value)?)?;
-    add_one(slot, group, &comes[at])
+    match slot {
+        None => {
+            comes.push_reserved(None);
+            Ok(())
+        }
+        Some(aggregate) => {
+            let key = spare.key_of(text)?;
+            let stood = add_to(&mut aggregate.kept, group, &key, value)?;
+            let pair = (key, value);
+            comes.push_reserved(Some(Coming { pair, stood }));
+            Ok(())
+        }
+    }
 }
 
-/// What comes of a row that is alive at a place into an aggregate comes in, and stands behind what came into those before.
+/// What comes of a row that is alive at a place into an aggregate comes in, and stands behind what came into those before, for
+/// which the list has a place.
 #[inline(always)]
 fn come_next<R: LendCells>(
-    alloc: Global,
+    spare: &mut SpareKeys,
     comes: &mut Vec<Option<Coming>>,
     slot: &mut Option<Aggregate>,
     row: &R,
@@ -197,20 +159,22 @@ fn come_next<R: LendCells>(
     requires groups { group < 2 ^ 32 }
     requires folds { Folds slot.old }
     requires room { HasRoom (place / size) slot.old }
+    requires place { vec_len comes.old < vec_capacity comes.old }
     ensures ok { OnOk result (slot.new ≡ added (place / size) slot.old (come_of size place (row_gives (R.cells row.now)) slot.old)) }
     ensures comes { OnOk result (comes.new.items ≡ comes.old.items ++ come_of size place (row_gives (R.cells row.now)) slot.old ∷ []) }
+    ensures capacity { vec_capacity comes.new ≡ vec_capacity comes.old }
     ensures err { OnErr result (slot.new ≡ slot.old) }
-    ensures before { OnErr result (take (length comes.old.items) comes.new.items ≡ comes.old.items) }
+    ensures before { OnErr result (comes.new.items ≡ comes.old.items) }
     ensures memory { IfErr result (λ e. e ≡ Refusal.NoMemory) }
 {
     match give(slot, row, size, place, group) {
         PairRef::Nothing => {
-            comes.push(None)?;
+            comes.push_reserved(None);
             Ok(())
         }
         PairRef::Under { number, value } => come_under(comes, slot, group as u32, number, value),
         PairRef::UnderText { text, value } => {
-            come_under_text(alloc, comes, slot, group as u32, text, value)
+            come_under_text(spare, comes, slot, group as u32, text, value)
         }
     }
 }
@@ -218,7 +182,7 @@ fn come_next<R: LendCells>(
 /// The pairs of a row that is alive at a place come into what is kept for each aggregate, or none where memory is refused. What
 /// came is handed back, in a list that may have been made for an edit before: `back_all` of it undoes this.
 pub fn come_in<R: LendCells>(
-    alloc: Global,
+    spare: &mut SpareKeys,
     list: Vec<Option<Coming>>,
     slots: &mut [Option<Aggregate>],
     row: &R,
@@ -242,7 +206,7 @@ pub fn come_in<R: LendCells>(
     comes.clear();
     comes.reserve(slots.len())?;
     for i in 0..slots.len() {
-        match come_next(alloc, &mut comes, &mut slots[i], row, size, place, group) {
+        match come_next(spare, &mut comes, &mut slots[i], row, size, place, group) {
             Ok(()) => {}
             Err(refusal) => {
                 back_until(slots, group as u32, comes.as_slice(), i);

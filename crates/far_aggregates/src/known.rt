@@ -1,7 +1,8 @@
 // Live extrema, with what stands under no key beside them.
-ghost use Rattle.std.specs.Prelude.{◌≡◌, ◌≢◌, ◌-◌, ◌<◌, [], None, Some, Err, OnOk, OnErr, IfOk, IfErr, length, slice_set};
-ghost use Rattle.far_types.specs.Changes.{widened};
-ghost use Rattle.far_extrema.specs.Live.{all_groups};
+ghost use Rattle.std.specs.Prelude.{◌≡◌, ◌≢◌, ◌-◌, ◌<◌, [], None, Some, Err, OnOk, OnErr, IfOk, IfErr, IfSome, length, slice_get, slice_set};
+ghost use Rattle.std.specs.FinMap as fin;
+ghost use Rattle.far_types.specs.Changes.{widened, with_seen};
+ghost use Rattle.far_extrema.specs.Live.{all_groups, group_at};
 ghost use Rattle.far_aggregates.specs.Known.{IsNoted};
 
 use far_extrema::{GroupExtrema, LiveExtrema, Span};
@@ -30,15 +31,60 @@ impl Model for KnownExtrema {
     ghost invariant = { λ known. AreKnown known.plain.items known.live.groups };
 }
 
-/// Notes what stands under no key in a row group, or that it is not known. Where memory is refused, and behind the row group
-/// after the last, nothing is noted.
+/// A place in the list for what stands under no key in a row group, where that is the row group after the last. Where memory is
+/// refused there is none, and nothing will be noted.
+fn make_place(plain: &mut Vec<Option<Span>>, group: usize)
+    ensures { plain.new.items ≡ plain.old.items }
+{
+    if group == plain.len() {
+        let _made = plain.reserve(1).is_ok();
+    }
+}
+
+/// Notes what stands under no key in a row group, or that it is not known. Where the list has no place for it, and behind
+/// the row group after the last, nothing is noted. Takes no memory.
 fn note(plain: &mut Vec<Option<Span>>, group: usize, span: Option<Span>)
     ensures { IsNoted plain.old.items group span plain.new.items }
 {
     if group < plain.len() {
         plain[group] = span;
-    } else if group == plain.len() {
-        let _noted = plain.push(span).is_ok();
+    } else if group == plain.len() && group < plain.capacity() {
+        plain.push_reserved(span);
+    }
+}
+
+/// What is noted to stand under no key in a row group. The span is taken apart and made anew, so that its numbers are passed
+/// on in registers.
+#[inline(always)]
+fn noted_in(plain: &[Option<Span>], group: usize) -> Option<Span>
+    ensures { IfSome result (λ span. slice_get plain.now group ≡ Some (Some span)) }
+{
+    match plain.get(group) {
+        Some(Some((least, greatest))) => Some((*least, *greatest)),
+        _ => None,
+    }
+}
+
+/// One folded row more under no key, where what stands there is noted or looked up. Returns what stood there.
+fn see_noted(
+    live: &mut LiveExtrema,
+    group: u32,
+    value: i64,
+    noted: Option<Span>,
+) -> Result<Option<Span>, Refusal>
+    requires room { group < length live.old.groups }
+    requires noted { IfSome noted (λ span. fin.get (group_at live.old.groups group) None ≡ Some span) }
+    ensures stood { IfOk result (λ stood. stood ≡ fin.get (group_at live.old.groups group) None) }
+    ensures ok { OnOk result (live.new ≡ record live.old { groups = slice_set live.old.groups group (with_seen (group_at live.old.groups group) (None, value)) }) }
+    ensures err { OnErr result (live.new ≡ live.old) }
+    ensures memory { IfErr result (λ e. e ≡ Refusal.NoMemory) }
+{
+    match noted {
+        Some(span) => {
+            live.see_over(group, &None, value, span);
+            Ok(Some(span))
+        }
+        None => live.see_under(group, &None, value),
     }
 }
 
@@ -54,10 +100,8 @@ fn wider(value: i64, stood: Option<Span>) -> Span
 }
 
 impl KnownExtrema {
-    ghost use Rattle.std.specs.FinMap as fin;
     ghost use Rattle.far_types.specs.Answers.{extrema_lines};
-    ghost use Rattle.far_types.specs.Changes.{with_seen};
-    ghost use Rattle.far_extrema.specs.Live.{with_room, group_at, HasRoomFor};
+    ghost use Rattle.far_extrema.specs.Live.{with_room, HasRoomFor};
     ghost use Rattle.far_extrema.specs.Spans.{put_span};
 
     /// As `LiveExtrema::new`.
@@ -86,29 +130,43 @@ impl KnownExtrema {
         ensures err { OnErr result (self.new.groups ≡ self.old.groups) }
         ensures memory { IfErr result (λ e. e ≡ Refusal.NoMemory) }
     {
+        make_place(&mut self.plain, group as usize);
         self.live.make_room_for(group, extrema)
     }
 
-    /// As `LiveExtrema::see_over`.
+    /// As `see_under`, for a row under no key: where what stands there is noted, a value within that costs no look-up.
+    fn see_plain(&mut self, group: u32, value: i64) -> Result<Option<Span>, Refusal>
+        requires { group < length self.old.groups }
+        ensures stood { IfOk result (λ stood. stood ≡ fin.get (group_at self.old.groups group) None) }
+        ensures ok { OnOk result (self.new ≡ record self.old { groups = slice_set self.old.groups group (with_seen (group_at self.old.groups group) (None, value)) }) }
+        ensures err { OnErr result (self.new ≡ self.old) }
+        ensures memory { IfErr result (λ e. e ≡ Refusal.NoMemory) }
+    {
+        make_place(&mut self.plain, group as usize);
+        let noted = noted_in(self.plain.as_slice(), group as usize);
+        let stood = see_noted(&mut self.live, group, value, noted)?;
+        note(&mut self.plain, group as usize, Some(wider(value, stood)));
+        Ok(stood)
+    }
+
+    /// As `LiveExtrema::see_under`.
     #[inline(always)]
-    pub fn see_over(
+    pub fn see_under(
         &mut self,
         group: u32,
         key: &Option<Key>,
         value: i64,
-        stood: Option<Span>,
-    ) -> Result<(), Refusal>
-        requires room { group < length self.old.groups }
-        requires stood { stood ≡ fin.get (group_at self.old.groups group) key.now }
+    ) -> Result<Option<Span>, Refusal>
+        requires { group < length self.old.groups }
+        ensures stood { IfOk result (λ stood. stood ≡ fin.get (group_at self.old.groups group) key.now) }
         ensures ok { OnOk result (self.new ≡ record self.old { groups = slice_set self.old.groups group (with_seen (group_at self.old.groups group) (key.now, value)) }) }
         ensures err { OnErr result (self.new ≡ self.old) }
         ensures memory { IfErr result (λ e. e ≡ Refusal.NoMemory) }
     {
-        self.live.see_over(group, key, value, stood)?;
-        if key.is_none() {
-            note(&mut self.plain, group as usize, Some(wider(value, stood)));
+        match key {
+            None => self.see_plain(group, value),
+            Some(_) => self.live.see_under(group, key, value),
         }
-        Ok(())
     }
 
     /// As `LiveExtrema::span`.

@@ -19,6 +19,7 @@ mod recounting;
 mod registrations;
 mod rooms;
 mod scans;
+mod spare_keys;
 mod sparing;
 mod unbuilt;
 

@@ -3,6 +3,7 @@ ghost use Rattle.std.specs.Prelude.{◌≡◌, []};
 
 use super::changes::Pair;
 use super::coming::Coming;
+use super::spare_keys::SpareKeys;
 use std::alloc::Global;
 
 /// What an edit brought into the aggregates, and what is still to go out of them once the rows are changed. An edit that the
@@ -24,5 +25,20 @@ impl Pending {
             came: Vec::new(alloc),
             gone: Vec::new(alloc),
         }
+    }
+
+    /// The lists without their pairs, for the next edit. Their text keys become spare ones. Takes no memory.
+    pub(crate) fn emptied(self, spare: &mut SpareKeys) -> Pending
+        ensures came { result.came.items ≡ [] }
+        ensures gone { result.gone.items ≡ [] }
+    {
+        let Pending {
+            group,
+            mut came,
+            mut gone,
+        } = self;
+        spare.keep_came(&mut came);
+        spare.keep_gone(&mut gone);
+        Pending { group, came, gone }
     }
 }

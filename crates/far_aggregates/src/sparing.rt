@@ -5,6 +5,7 @@ ghost use Rattle.far_aggregates.specs.Sparing.{IsSpared, IsLeftOut, EachLeftOut}
 
 use super::changes::Pair;
 use super::coming::Coming;
+use super::spare_keys::SpareKeys;
 use far_extrema::Span;
 use far_types::Key;
 
@@ -58,33 +59,39 @@ fn is_spared(come: &Option<Coming>, gone: &Option<Pair>) -> bool
     false
 }
 
-/// A pair that need not go is left out.
-fn spare_one(come: &Option<Coming>, gone: &mut Option<Pair>)
+/// A pair that need not go is left out. Its key becomes a spare one.
+fn spare_one(keys: &mut SpareKeys, come: &Option<Coming>, gone: &mut Option<Pair>)
     ensures { IsLeftOut come.now gone.old gone.new }
 {
     if is_spared(come, gone) {
-        *gone = None;
+        if let Some(pair) = gone.take() {
+            keys.keep(pair);
+        }
     }
 }
 
 /// The pairs that need not go are left out.
-fn spare(gone: &mut [Option<Pair>], comes: &[Option<Coming>])
+fn spare(keys: &mut SpareKeys, gone: &mut [Option<Pair>], comes: &[Option<Coming>])
     requires { length gone.old ≡ length comes.now }
     ensures len { length gone.new ≡ length gone.old }
     ensures left_out { EachLeftOut comes.now gone.old gone.new }
 {
     for i in 0..gone.len() {
-        spare_one(&comes[i], &mut gone[i]);
+        spare_one(keys, &comes[i], &mut gone[i]);
     }
 }
 
 /// The pairs that are to go without those that need not, so that nobody looks up again what stands under their keys.
-pub fn spared(pairs: Vec<Option<Pair>>, comes: &[Option<Coming>]) -> Vec<Option<Pair>>
+pub fn spared(
+    keys: &mut SpareKeys,
+    pairs: Vec<Option<Pair>>,
+    comes: &[Option<Coming>],
+) -> Vec<Option<Pair>>
     requires { length pairs.items ≡ length comes.now }
     ensures len { length result.items ≡ length pairs.items }
     ensures left_out { EachLeftOut comes.now pairs.items result.items }
 {
     let mut gone = pairs;
-    spare(gone.as_mut_slice(), comes);
+    spare(keys, gone.as_mut_slice(), comes);
     gone
 }

@@ -1,6 +1,7 @@
 #![tactic(auto)]
 //! Tests of what stands below objects: the words of the table (far_types), pointer words (far_pointer), encodings (far_codec), far
-//! stores (far_store), local memory (far_log), proposals of row groups (far_prefetcher), and scripts as text (far_script).
+//! stores (far_store), local memory (far_log), proposals of row groups (far_prefetcher), quotients
+//! (far_reciprocal), and scripts as text (far_script).
 
 #[cfg(test)]
 mod codec;
@@ -10,6 +11,8 @@ mod log;
 mod pointer;
 #[cfg(test)]
 mod prefetcher;
+#[cfg(test)]
+mod reciprocal;
 #[cfg(test)]
 mod script;
 #[cfg(test)]

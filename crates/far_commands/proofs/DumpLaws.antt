@@ -1,15 +1,19 @@
 -- The live rows, place by place.
-use Rattle.std.proofs.Common.{drop, Option, subst, ◌≡◌, ◌+◌, ◌≤◌, ℕ, zero, suc, Bool, true, false, List, [], ◌∷◌, ◌++◌, length, take, append_assoc, append-nil, length-append, if◌then◌else◌, ◌∙◌, refl, sym, ap, arith, inl, inr}
+use Rattle.std.proofs.Common.{drop, Option, None, Some, subst, ◌≡◌, ◌+◌, ◌≤◌, ℕ, zero, suc, Bool, true, false, List, [], ◌∷◌, ◌++◌, length, take, append_assoc, append-nil, length-append, if◌then◌else◌, ◌∙◌, refl, sym, ap, arith, inl, inr}
 use Rattle.std.specs.Prelude.{◌≢◌}
+use Rattle.std.specs.Option.{option_map_or}
 use Rattle.std.proofs.lemmas.List.{take_all}
 use Rattle.far_types.specs.declared.cell.Cell.{Cell}
+use Rattle.far_types.specs.declared.refusal.Refusal.{Refusal}
 use Rattle.far_types.specs.Table.{Place, rows_of}
+use Rattle.far_table.specs.State.{State}
+use Rattle.far_frame.specs.Views.{away}
 use Rattle.far_script.specs.declared.fault.ShellFault.{ShellFault}
 use Rattle.far_script.specs.declared.fault.ShellFault.TheVariants as fault
-use Rattle.far_script.specs.Printing.{texts_of}
+use Rattle.far_script.specs.Printing.{refusal_text, texts_of}
 use Rattle.far_script.specs.Flow.{Prints}
 use Rattle.far_commands.specs.Cuts.{CutOff, IsFront, PrintsCut}
-use Rattle.far_commands.specs.Listings.{cells_at, is_live, row_line}
+use Rattle.far_commands.specs.Listings.{cells_at, dump_text, is_live, listing_of, row_line}
 use Rattle.far_script.proofs.FlowLaws.{prints, prints-then}
 
 rows-first : (b : Bool) (p : Place) (rest : List Place) → p.alive ≡ b → rows_of (p ∷ rest) ≡ (if b then p.cells ∷ rows_of rest else rows_of rest)
@@ -121,3 +125,19 @@ module _ (u : Option (List ℕ)) (held front : List ℕ) (places : List Place) w
       gather-cut why w left other p =
           let later = texts_of row_line (rows_of (drop (i + 1) places)) in
           (g.0 ++ p.0, prints-then u v w held g.0 k p.0 left g.1 p.1, cut-behind why whole all g.0 p.0 later other (sym (append_assoc g.0 whole later) ∙ ap (λ (t : List ℕ). t ++ later) gathered ∙ dump-rest front places (i + 1)) p.2)
+
+module _ {K : Type 0} (s : State K) where
+  -- an object is away
+  pub listed-refusal : (why : Refusal) → Some why ≡ away s → listing_of s ≡ refusal_text why
+  listed-refusal why is = ap (λ (found : Option Refusal). option_map_or refusal_text found (dump_text s.table)) (sym is)
+
+  -- none is
+  module _ (here : None ≡ away s) where
+    listed-rows : listing_of s ≡ dump_text s.table
+    listed-rows = ap (λ (found : Option Refusal). option_map_or refusal_text found (dump_text s.table)) (sym here)
+
+    pub rows-listed : (u v : Option (List ℕ)) (held left : List ℕ) → Prints u held (dump_text s.table) v left → Prints u held (listing_of s) v left
+    rows-listed u v held left p = subst (λ (text : List ℕ). Prints u held text v left) (sym listed-rows) p
+
+    pub rows-cut : (why : ShellFault) (u v : Option (List ℕ)) (held left : List ℕ) → PrintsCut why (λ said. said ≡ dump_text s.table) u held v left → PrintsCut why (λ said. said ≡ listing_of s) u held v left
+    rows-cut why u v held left p = subst (λ (text : List ℕ). PrintsCut why (λ said. said ≡ text) u held v left) (sym listed-rows) p

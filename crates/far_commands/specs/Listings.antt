@@ -1,11 +1,13 @@
 -- The rows of a table as they are listed.
-use Rattle.std.specs.Prelude.{ℕ, Bool, false, List, [], ◌∷◌, ◌++◌, codes, length, map, slice_get, if◌then◌else◌}
+use Rattle.std.specs.Prelude.{◌≡◌, ◌<◌, ◌/◌, ℕ, Bool, false, List, [], ◌∷◌, ◌++◌, codes, length, map, slice_get, if◌then◌else◌, None}
 use Rattle.std.specs.Option.{option_map_or}
 use Rattle.std.specs.Fmt.{signed_decimal}
 use Rattle.csv.specs.Writing.{default_writer, field_text, row_text}
 use Rattle.far_types.specs.declared.cell.Cell.{Cell}
 use Rattle.far_types.specs.declared.cell.Cell.TheVariants as cell
+use Rattle.far_types.specs.FirstOf.{first_of}
 use Rattle.far_types.specs.Table.{Table, Place, rows_of}
+use Rattle.far_rows.specs.Refusing.{absents}
 use Rattle.far_table.specs.State.{State}
 use Rattle.far_frame.specs.Views.{away}
 use Rattle.far_script.specs.Fields.{missing_mark}
@@ -28,6 +30,10 @@ cells_at p places = option_map_or (λ place. place.cells) (slice_get places p) [
 -- whether there is a row at a place
 abbrev pub is_live : ℕ → List Place → Bool
 is_live p places = option_map_or (λ place. place.alive) (slice_get places p) false
+
+-- a place is there, and each object of its row group is local
+abbrev pub IsHere : {K : Type 0} → State K → ℕ → Type 0
+IsHere s place = (place < length s.table.places) × (first_of (absents s.rows (place / s.table.limits.group)) ≡ None)
 
 -- a row as the csv writer writes it
 abbrev pub row_line : List Cell → List ℕ

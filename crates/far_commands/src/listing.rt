@@ -7,11 +7,11 @@ ghost use Rattle.far_types.specs.Table.{rows_of};
 ghost use Rattle.far_frame.specs.State.{live};
 ghost use Rattle.far_commands.specs.Cuts.{PrintsCut};
 ghost use Rattle.far_script.specs.Flow.{Prints};
-ghost use Rattle.far_commands.specs.Listings.{cell_text, cells_at, dump_text, field_in_record, is_live, listing_of, row_line};
+ghost use Rattle.far_commands.specs.Listings.{IsHere, cell_text, cells_at, field_in_record, is_live, listing_of, row_line};
 
 use far_frame::{Frame, View};
 use far_rows::RowRef;
-use far_script::print::{numbered, refused};
+use far_script::print::numbered;
 use far_script::{Output, Page, ShellFault};
 use far_store::FarTickets;
 use far_types::{CellRef, Refusal};
@@ -85,13 +85,14 @@ fn print_row<S: FarTickets>(page: &mut Page, row: &RowRef<'_, S>) -> Result<(), 
     Ok(())
 }
 
-/// The row of a place as a line.
+/// The row of a place as a line. A row that is here is refused with `NoMemory` (1) alone.
 fn print_place<S: FarTickets>(
     page: &mut Page,
     view: &View<'_, S>,
     place: u32,
 ) -> Result<(), Refusal>
     ensures ok { OnOk result (page.new ≡ page.old ++ row_line (cells_at place view.now.table.places)) }
+    ensures memory { IsHere view.now place → IfErr result (λ e. e ≡ Refusal.NoMemory) }
 {
     let cells = view.row_ref(place)?;
     print_row(page, &cells)
@@ -136,30 +137,8 @@ fn add_if_long<W: Write>(output: &mut Output, writer: &mut W) -> Result<(), Shel
     Ok(())
 }
 
-/// `rows COUNT`, and the live rows in the order of their places, as the csv writer writes them.
-fn dump_rows<S: FarTickets, W: Write>(
-    frame: &Frame<S>,
-    output: &mut Output,
-    writer: &mut W,
-) -> Result<(), ShellFault>
-    ensures ok { OnOk result (Prints (W.contents writer.old) output.old.page (dump_text frame.now.table) (W.contents writer.new) output.new.page) }
-    ensures err { IfErr result (λ fault. PrintsCut fault (λ said. said ≡ dump_text frame.now.table) (W.contents writer.old) output.old.page (W.contents writer.new) output.new.page) }
-    ensures fault { IfErr result (λ fault. fault ≢ ShellFault.Input) }
-{
-    let view = frame.scope();
-    output.reply.truncate(0);
-    numbered(&mut output.reply, "rows", live_rows(frame))?;
-    for place in 0..frame.places() {
-        if is_live(&view, place) {
-            print_place(&mut output.reply, &view, place)?;
-            add_if_long(output, writer)?;
-        }
-    }
-    output.add()?;
-    Ok(())
-}
-
-/// The live rows, or the refusal where an object of them is away: it comes before any row.
+/// `rows COUNT`, and the live rows in the order of their places, as the csv writer writes them. Or the refusal, if an object of them is
+/// away: it comes before any row.
 #[inline(never)]
 pub fn dump<S: FarTickets, W: Write>(
     frame: &Frame<S>,
@@ -170,16 +149,27 @@ pub fn dump<S: FarTickets, W: Write>(
     ensures err { IfErr result (λ fault. PrintsCut fault (λ said. said ≡ listing_of (live frame.now)) (W.contents writer.old) output.old.page (W.contents writer.new) output.new.page) }
     ensures fault { IfErr result (λ fault. fault ≢ ShellFault.Input) }
 {
-    match frame.scope().all() {
-        Ok(()) => {
-            dump_rows(frame, output, writer)?;
-            Ok(())
-        }
+    let view = frame.scope();
+    match view.all() {
+        Ok(()) => {}
         Err(refusal) => {
-            output.reply.truncate(0);
-            refused(&mut output.reply, &refusal)?;
-            output.add()?;
-            Ok(())
+            output.add_refusal(&refusal)?;
+            return Ok(());
         }
     }
+    output.reply.truncate(0);
+    match numbered(&mut output.reply, "rows", live_rows(frame)) {
+        Ok(()) => {}
+        Err(refusal) => return Err(ShellFault::of_memory(refusal)),
+    }
+    for place in 0..frame.places() {
+        if is_live(&view, place) {
+            match print_place(&mut output.reply, &view, place) {
+                Ok(()) => add_if_long(output, writer)?,
+                Err(refusal) => return Err(ShellFault::of_memory(refusal)),
+            }
+        }
+    }
+    output.add()?;
+    Ok(())
 }

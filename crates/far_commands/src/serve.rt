@@ -1,5 +1,5 @@
 // Lines as commands, and their answers.
-ghost use Rattle.std.specs.Prelude.{◌≡◌, ℕ, List, [], ◌++◌, ◌+◌, ◌≤◌, ◌<◌, ◌^◌, true, false, codes, IfOk, IfErr, IsOk, OnOk, OnErr, Some};
+ghost use Rattle.std.specs.Prelude.{◌≡◌, ℕ, List, [], ◌++◌, ◌+◌, ◌≤◌, ◌<◌, ◌^◌, true, false, codes, IfOk, IfErr, OnOk, OnErr, Some};
 ghost use Rattle.far_frame.specs.declared.step.Reply.{Reply};
 ghost use Rattle.far_frame.specs.State.{live};
 ghost use Rattle.far_commands.specs.Cuts.{Fails, FailsBy, Lists, PrintsCut};
@@ -122,23 +122,6 @@ fn take_step<S: FarStore>(world: &mut World<S>, step: Step, reply: &mut Page) ->
     }
 }
 
-/// Adds the reply at hand, if it was printed. It is built into its callers, since each step ends with it.
-#[inline(always)]
-fn add_printed(printed: Result<(), Refusal>, output: &mut Output) -> Result<(), ShellFault>
-    ensures printed { OnOk result (IsOk printed) }
-    ensures ok { OnOk result (output.new.page ≡ output.old.page ++ output.old.reply) }
-    ensures err { OnErr result (output.new.page ≡ output.old.page) }
-    ensures memory { IfErr result (λ fault. fault ≡ ShellFault.Memory) }
-{
-    if printed.is_err() {
-        return Err(ShellFault::Memory);
-    }
-    match output.add() {
-        Ok(()) => Ok(()),
-        Err(_) => Err(ShellFault::Memory),
-    }
-}
-
 /// Loads the rows behind a line, which have this many bytes, and prints the reply.
 fn serve_load<S: FarStore, R: Read + Drop, W: Write>(
     alloc: Global,
@@ -156,7 +139,7 @@ fn serve_load<S: FarStore, R: Read + Drop, W: Write>(
 {
     let rows = input.bytes(output, writer, count as usize)?;
     let printed = load(alloc, world, input.text(rows)?, &mut output.reply);
-    add_printed(printed, output)
+    output.add_printed(printed)
 }
 
 /// Serves a command, with the bytes behind its line that belong to it, and prints its reply.
@@ -178,17 +161,17 @@ fn serve_command<S: FarStore, A: Resources<S>, R: Read + Drop, W: Write>(
     match command {
         Command::Step(step) => {
             let printed = take_step(world, step, &mut output.reply);
-            add_printed(printed, output)
+            output.add_printed(printed)
         }
         Command::Load(count) => serve_load(resources.alloc(), world, count, input, output, writer),
         Command::Dump => dump(world.frame(), output, writer),
         Command::Renew(capacity) => {
             let printed = renew(resources, world, capacity, &mut output.reply);
-            add_printed(printed, output)
+            output.add_printed(printed)
         }
         Command::Recount(aggregate) => {
             let printed = recount(resources, world, aggregate, &mut output.reply);
-            add_printed(printed, output)
+            output.add_printed(printed)
         }
     }
 }
@@ -201,7 +184,7 @@ fn print_syntax(output: &mut Output, number: u32) -> Result<(), ShellFault>
 {
     output.reply.truncate(0);
     let printed = numbered(&mut output.reply, "syntax command", u64::from(number));
-    add_printed(printed, output)
+    output.add_printed(printed)
 }
 
 /// Answers a line: an empty one is no command, and any other the next one.
@@ -228,8 +211,8 @@ pub fn answer_line<S: FarStore, A: Resources<S>, R: Read + Drop, W: Write>(
         resources.alloc(),
         progress.world.frame().schema().as_slice(),
         input.text(line)?,
-    )? {
-        Some(command) => serve_command(
+    ) {
+        Ok(Some(command)) => serve_command(
             resources,
             &mut progress.world,
             command,
@@ -237,6 +220,7 @@ pub fn answer_line<S: FarStore, A: Resources<S>, R: Read + Drop, W: Write>(
             output,
             writer,
         ),
-        None => print_syntax(output, progress.number),
+        Ok(None) => print_syntax(output, progress.number),
+        Err(refusal) => Err(ShellFault::of_memory(refusal)),
     }
 }

@@ -1,8 +1,9 @@
 // What stands under one key.
-ghost use Rattle.std.specs.Prelude.{◌≡◌, ◌≢◌, ◌∷◌, [], None, Some, true, false, IsTrue, OnOk, OnErr, IfErr};
+ghost use Rattle.std.specs.Prelude.{◌≡◌, ◌≢◌, ◌∷◌, [], None, Some, true, false, IsTrue, OnOk, OnErr, IfOk, IfErr};
+ghost use Rattle.far_types.specs.Changes.{widened};
 ghost use Rattle.far_extrema.specs.Spreads.{at, IsSet, IsTopOf};
 
-use super::spans::Span;
+use super::spans::{Span, is_within, together};
 use super::tournament::{Spare, Tournament};
 use far_types::Refusal;
 use std::alloc::Global;
@@ -91,7 +92,7 @@ impl Holder {
     }
 
     /// A row group more, which leaves the room as it is. Refused with `NoMemory` (1) alone, and then nothing is changed.
-    pub fn add(&mut self, alloc: Global, group: u32, span: Span) -> Result<(), Refusal>
+    fn add(&mut self, alloc: Global, group: u32, span: Span) -> Result<(), Refusal>
         requires { at self.old.spans group ≡ None }
         ensures ok { OnOk result (IsSet self.old.spans group (Some span) self.new.spans) }
         ensures room { self.new.room ≡ self.old.room }
@@ -107,6 +108,41 @@ impl Holder {
             None => self.groups = Some(Tournament::new(group, span)),
         }
         Ok(())
+    }
+
+    /// A value more in a row group whose span is known: a value within that changes nothing. Takes no memory.
+    fn widen(&mut self, group: u32, stood: Span, value: i64)
+        requires { at self.old.spans group ≡ Some stood }
+        ensures spans { IsSet self.old.spans group (Some (widened value (Some stood))) self.new.spans }
+        ensures room { self.new.room ≡ self.old.room }
+    {
+        if is_within(value, stood) {
+            return;
+        }
+        let wide = together((value, value), stood);
+        self.put(group, wide);
+    }
+
+    /// A value more in a row group, which leaves the room as it is. Returns the span that stood there, or `None` where the
+    /// key did not occur. Refused with `NoMemory` (1) alone, where the key is new there, and then nothing is changed.
+    pub fn see(&mut self, alloc: Global, group: u32, value: i64) -> Result<Option<Span>, Refusal>
+        ensures stood { IfOk result (λ stood. stood ≡ at self.old.spans group) }
+        ensures ok { OnOk result (IsSet self.old.spans group (Some (widened value (at self.old.spans group))) self.new.spans) }
+        ensures room { self.new.room ≡ self.old.room }
+        ensures err { OnErr result (self.new ≡ self.old) }
+        ensures only_new { OnErr result (at self.old.spans group ≡ None) }
+        ensures memory { IfErr result (λ e. e ≡ Refusal.NoMemory) }
+    {
+        match self.span(group) {
+            Some(span) => {
+                self.widen(group, span, value);
+                Ok(Some(span))
+            }
+            None => {
+                self.add(alloc, group, (value, value))?;
+                Ok(None)
+            }
+        }
     }
 
     /// A row group more, which takes the room. Takes no memory.

@@ -5,6 +5,7 @@ ghost use Rattle.std.specs.List.{AllByRecursion, filter_map};
 ghost use Rattle.std.specs.Ordering.{eq_by_cmp};
 ghost use Rattle.std.specs.FinMap as fin;
 ghost use Rattle.far_types.specs.declared.key.Key.{Key};
+ghost use Rattle.far_types.specs.Changes.{widened};
 ghost use Rattle.far_types.specs.Keys.{line_cmp};
 ghost use Rattle.far_extrema.specs.Spans.{extrema_of};
 ghost use Rattle.far_extrema.specs.Holders.{holders_of, span_at, room_at, line_of, IsPut, IsTopped, HaveSameRoom, HaveSameSpans, KeepsRoom, HasRoomFor, IsGroup, IsCleared};
@@ -29,25 +30,28 @@ pub fn span_in(holders: &Holders, group: u32, key: &Option<Key>) -> Option<Span>
     }
 }
 
-/// A row group more for a key, which has no span there. Refused with `NoMemory` (1) alone, and then nothing is changed.
-pub fn add_in(
+/// A value more under a key in a row group. One look-up brings it in where the key is known. Returns the span that stood
+/// there, or `None`. A clone of the key is made where it is new. Refused with `NoMemory` (1) alone, where the key is new in the
+/// row group, and then nothing is changed.
+pub fn see_in(
     holders: &mut Holders,
     alloc: Global,
     group: u32,
     key: &Option<Key>,
-    span: Span,
-) -> Result<(), Refusal>
-    requires { span_at (holders_of holders.old.entries) group key.now ≡ None }
-    ensures ok { OnOk result (IsPut (holders_of holders.old.entries) group key.now (Some span) (holders_of holders.new.entries)) }
+    value: i64,
+) -> Result<Option<Span>, Refusal>
+    ensures stood { IfOk result (λ stood. stood ≡ span_at (holders_of holders.old.entries) group key.now) }
+    ensures ok { OnOk result (IsPut (holders_of holders.old.entries) group key.now (Some (widened value (span_at (holders_of holders.old.entries) group key.now))) (holders_of holders.new.entries)) }
     ensures room { OnOk result (HaveSameRoom (holders_of holders.old.entries) (holders_of holders.new.entries)) }
     ensures err { OnErr result (holders_of holders.new.entries ≡ holders_of holders.old.entries) }
+    ensures only_new { OnErr result (span_at (holders_of holders.old.entries) group key.now ≡ None) }
     ensures memory { IfErr result (λ e. e ≡ Refusal.NoMemory) }
 {
     match holders.get_mut(key) {
-        Some(holder) => holder.add(alloc, group, span),
+        Some(holder) => holder.see(alloc, group, value),
         None => {
-            holders.insert(clone_key(key)?, Holder::new(group, span))?;
-            Ok(())
+            holders.insert(clone_key(key)?, Holder::new(group, (value, value)))?;
+            Ok(None)
         }
     }
 }

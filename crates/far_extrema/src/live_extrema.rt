@@ -1,11 +1,11 @@
 // Extrema that are kept up to date, row group by row group.
-ghost use Rattle.std.specs.Prelude.{◌≡◌, ◌≢◌, ◌-◌, ◌<◌, [], None, Err, OnOk, OnErr, IfOk, IfErr, length, slice_set};
+ghost use Rattle.std.specs.Prelude.{◌≡◌, ◌≢◌, ◌-◌, ◌<◌, [], None, Some, Err, OnOk, OnErr, IfOk, IfErr, length, slice_set};
 ghost use Rattle.far_extrema.specs.Live.{all_groups};
 ghost use Rattle.far_extrema.specs.Holders.{holders_of};
 
 use super::group_extrema::GroupExtrema;
 use super::holders::{
-    Holders, add_in, clear_in, fill_all, leave_in, lines, make_rooms, set_in, span_in,
+    Holders, clear_in, fill_all, leave_in, lines, make_rooms, see_in, set_in, span_in,
 };
 use super::spans::{Span, is_within, together};
 use far_types::{Answer, ExtremaLines, Key, Refusal};
@@ -90,45 +90,37 @@ impl LiveExtrema {
         Ok(())
     }
 
-    /// One folded row more in a row group. A clone of the key is made where it is new there. Refused with `NoMemory` (1)
-    /// alone, where the key is new, and then nothing is changed.
-    pub fn see_under(&mut self, group: u32, key: &Option<Key>, value: i64) -> Result<(), Refusal>
+    /// One folded row more in a row group. Returns what stood under its key there, or `None` where it did not occur: `put_span`
+    /// of that takes the row back. Costs one look-up, where the key occurs in some row group. A clone of the key is made where
+    /// it is new. Refused with `NoMemory` (1) alone, where the key is new in the row group, and then nothing is changed.
+    pub fn see_under(
+        &mut self,
+        group: u32,
+        key: &Option<Key>,
+        value: i64,
+    ) -> Result<Option<Span>, Refusal>
         requires { group < length self.old.groups }
+        ensures stood { IfOk result (λ stood. stood ≡ fin.get (group_at self.old.groups group) key.now) }
         ensures ok { OnOk result (self.new ≡ record self.old { groups = slice_set self.old.groups group (with_seen (group_at self.old.groups group) (key.now, value)) }) }
         ensures err { OnErr result (self.new ≡ self.old) }
         ensures only_new { OnErr result (fin.get (group_at self.old.groups group) key.now ≡ None) }
         ensures memory { IfErr result (λ e. e ≡ Refusal.NoMemory) }
     {
-        let stood = self.span(group, key);
-        self.see_over(group, key, value, stood)
+        see_in(&mut self.holders, self.alloc, group, key, value)
     }
 
-    /// What `see_under` does, for a caller that has looked up what stands under the key in the row group: a value within
-    /// that costs no look-up more. Refused as `see_under`, and then nothing is changed.
-    pub fn see_over(
-        &mut self,
-        group: u32,
-        key: &Option<Key>,
-        value: i64,
-        stood: Option<Span>,
-    ) -> Result<(), Refusal>
+    /// What `see_under` does, for a caller that knows what stands under the key in the row group: a value within that costs
+    /// no look-up. Takes no memory.
+    pub fn see_over(&mut self, group: u32, key: &Option<Key>, value: i64, stood: Span)
         requires room { group < length self.old.groups }
-        requires stood { stood ≡ fin.get (group_at self.old.groups group) key.now }
-        ensures ok { OnOk result (self.new ≡ record self.old { groups = slice_set self.old.groups group (with_seen (group_at self.old.groups group) (key.now, value)) }) }
-        ensures err { OnErr result (self.new ≡ self.old) }
-        ensures only_new { OnErr result (stood ≡ None) }
-        ensures memory { IfErr result (λ e. e ≡ Refusal.NoMemory) }
+        requires stood { fin.get (group_at self.old.groups group) key.now ≡ Some stood }
+        ensures { self.new ≡ record self.old { groups = slice_set self.old.groups group (with_seen (group_at self.old.groups group) (key.now, value)) } }
     {
-        match stood {
-            Some(span) => {
-                if !is_within(value, span) {
-                    let wide = together((value, value), span);
-                    set_in(&mut self.holders, group, key, wide);
-                }
-                Ok(())
-            }
-            None => add_in(&mut self.holders, self.alloc, group, key, (value, value)),
+        if is_within(value, stood) {
+            return;
         }
+        let wide = together((value, value), stood);
+        set_in(&mut self.holders, group, key, wide);
     }
 
     /// The least and the greatest value under a key in a row group, or `None` where it does not occur there, as in a

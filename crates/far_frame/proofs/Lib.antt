@@ -3,6 +3,7 @@ mod PinLaws
 mod PinRows
 mod PinAway
 mod PinRuns
+mod RenewedPins
 mod ViewLaws
 mod FrameLaws
 mod WaitingLaws
@@ -10,3 +11,4 @@ mod WorldLaws
 pub mod LendingLaws
 mod GivenLaws
 mod SeenLaws
+mod SpentLaws

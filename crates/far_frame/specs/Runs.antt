@@ -1,5 +1,5 @@
 -- What a list of steps makes of the rows, told without the aggregates.
-use Rattle.std.specs.Prelude.{Bool, true, false, cond, List, [], ◌∷◌}
+use Rattle.std.specs.Prelude.{ℕ, Bool, true, false, cond, List, [], ◌∷◌, Option, None, Some}
 use Rattle.far_types.specs.Edits.{places_after}
 use Rattle.far_types.specs.Table.{Place}
 use Rattle.far_frame.specs.declared.step.Step.{Step}
@@ -63,3 +63,11 @@ is_movement (step.Install n) = true
 is_movement (step.Merge n) = false
 is_movement (step.Compact kind segment) = true
 is_movement (step.Prefetch column) = true
+
+-- the number of the job that the step carries or ends
+abbrev pub job_of : Step → Option ℕ
+job_of (step.Carry n) = Some n
+job_of (step.Commit n) = Some n
+job_of (step.Install n) = Some n
+job_of (step.Merge n) = Some n
+job_of _ = None

@@ -1,5 +1,5 @@
 // The promises of a run in the subject's own words, as they follow from the relation of steps.
-ghost use Rattle.std.specs.Prelude.{◌≡◌, ◌≢◌, ◌≤◌, ℕ, List, ◌∷◌, [], ◌++◌, Some, IfSome, true, false, slice_range};
+ghost use Rattle.std.specs.Prelude.{◌≡◌, ◌≢◌, ◌≤◌, ℕ, List, ◌∷◌, [], ◌++◌, None, Some, IfSome, IsSomeAnd, true, false, slice_range};
 ghost use Rattle.std.specs.List.{flat_map};
 ghost use Rattle.far_types.specs.declared.answer.Answer.{Answer};
 ghost use Rattle.far_types.specs.declared.cell.Kind.{Kind};
@@ -30,7 +30,7 @@ ghost use Rattle.far_frame.specs.Jobs.{JobRecord};
 ghost use Rattle.far_frame.specs.Lending.{flags_of, lent_part, pieces_in};
 ghost use Rattle.far_frame.specs.Pins.{ArePinnedHere, is_here, is_pinning, pins_on};
 ghost use Rattle.far_frame.specs.Renewing.{IsMigratedTo};
-ghost use Rattle.far_frame.specs.Runs.{is_movement, is_refused, plain_rows};
+ghost use Rattle.far_frame.specs.Runs.{is_movement, is_refused, job_of, plain_rows};
 ghost use Rattle.far_frame.specs.Waiting.{job_at, without_job};
 ghost use Rattle.far_frame.specs.State.{live};
 ghost use Rattle.far_frame.specs.Steps.{IsStep, IsRun};
@@ -71,8 +71,9 @@ pub fn a_migration_keeps_the_table<S: FarTickets, N: FarTickets>()
     ensures { (name : List ℕ) → (old : World S.Ticket) → (new : World N.Ticket) → IsMigratedTo S.content N.content name old new → new.state.table ≡ old.state.table }
 {}
 
-/// The pieces of a part of a column (`lent_part`, which the contracts of the lendings of a `View` and of a frame cite) are, joined, that part
-/// of its column, with the flags of its places; dead places are in it too.
+/// The pieces of a part of a column (`lent_part`) are, joined, that part of its column, with the flags of its places; dead places are in
+/// it too. The contracts of `View::ints` and of the two `record_lending` cite `lent_part`, as does the step `Lend`. `View::texts` lends the
+/// part in one piece, so its contract says of the whole what is said here of the pieces joined.
 pub fn a_lent_part_is_that_of_its_column()
     ensures cells { (table : Table) → AreLimits table.limits → (column from to : ℕ) → from ≤ to → flat_map (λ piece. piece.cells) (lent_part table column from to) ≡ part column from to table.places }
     ensures flags { (table : Table) → AreLimits table.limits → (column from to : ℕ) → from ≤ to → flat_map (λ piece. piece.flags) (lent_part table column from to) ≡ slice_range (flags_of table.places) from to }
@@ -96,14 +97,16 @@ pub fn movement_changes_no_row<S: FarTickets>()
 {}
 
 /// No step of any kind sends an object away that has a pin: a commit of its evacuation is refused. Only `Pin` and `Unpin` change how many
-/// pins an object has. So from a table as it is opened on, every object that has a pin is local, and a lending is not refused for it.
-pub fn a_pinned_object_stays<S: FarTickets>()
+/// pins an object has. A migration sends no object away. So from a table as it is opened on, every object that has a pin is local,
+/// and a lending is not refused for it.
+pub fn a_pinned_object_stays<S: FarTickets, N: FarTickets>()
     ensures stays { (old : World S.Ticket) → (s : Step) → (given : Reply) → (new : World S.Ticket) → IsStep S.content S.number_of old s given new → (o : Object) → pins_on old.state.rows o ≢ 0 → is_here old.state.rows o ≡ true → is_here new.state.rows o ≡ true }
     ensures pins { (old : World S.Ticket) → (s : Step) → (given : Reply) → (new : World S.Ticket) → is_pinning s ≡ false → IsStep S.content S.number_of old s given new → (o : Object) → pins_on new.state.rows o ≡ pins_on old.state.rows o }
     ensures run { (old : World S.Ticket) → (steps : List Step) → (replies : List Reply) → (new : World S.Ticket) → ArePinnedHere old.state.rows → IsRun S.content S.number_of old steps replies new → ArePinnedHere new.state.rows }
     ensures opened { (schema : List Kind) → (limits : Limits) → (number : ℕ) → ArePinnedHere (empty_rows {K = S.Ticket} schema limits number) }
     ensures lent { (old : World S.Ticket) → ArePinnedHere old.state.rows → (column from to c g : ℕ) → (new : World S.Ticket) → IsStep S.content S.number_of old (step.Lend column from to) (reply.Refused (refusal.Absent c g)) new → IfSome (object_at old.state.rows c g) (λ o. pins_on old.state.rows o ≡ 0) }
     ensures committed { (old : World S.Ticket) → (n : ℕ) → (job : JobRecord S.Ticket) → (carried : ByKind (CarriedEvacuation S.Ticket) (CarriedEvacuation S.Ticket)) → job_at old.jobs n ≡ Some job → job.work ≡ work.Carried carried → pins_by old.state.rows carried ≢ 0 → (new : World S.Ticket) → ¬ (IsStep S.content S.number_of old (step.Commit n) reply.Done new) }
+    ensures migrated { (name : List ℕ) → (old : World S.Ticket) → (new : World N.Ticket) → ArePinnedHere old.state.rows → IsMigratedTo S.content N.content name old new → ArePinnedHere new.state.rows }
 {}
 
 /// A merge that is accepted does to the table exactly what a scan of its row group does, and changes no row and no object.
@@ -114,11 +117,13 @@ pub fn a_merge_is_a_scan<S: FarTickets>()
 
 /// A job that is stale changes nothing but that its number is spent: one that was accepted, is of another kind or phase, or whose
 /// object was written or away since; or a build whose row group was edited, built in otherwise, or whose aggregate is another now.
+/// One that is spent or was never begun is stale, whichever step names it.
 pub fn a_stale_job_changes_nothing<S: FarTickets>()
     ensures committed { (old : World S.Ticket) → (n : ℕ) → (new : World S.Ticket) → IsStep S.content S.number_of old (step.Commit n) (reply.Refused Refusal.StaleJob) new → new ≡ record old { jobs = without_job old.jobs n } }
     ensures installed { (old : World S.Ticket) → (n : ℕ) → (new : World S.Ticket) → IsStep S.content S.number_of old (step.Install n) (reply.Refused Refusal.StaleJob) new → new ≡ record old { jobs = without_job old.jobs n } }
     ensures merged { (old : World S.Ticket) → (n : ℕ) → (new : World S.Ticket) → IsStep S.content S.number_of old (step.Merge n) (reply.Refused Refusal.StaleJob) new → new ≡ record old { jobs = without_job old.jobs n } }
     ensures carried { (old : World S.Ticket) → (n : ℕ) → (new : World S.Ticket) → IsStep S.content S.number_of old (step.Carry n) (reply.Refused Refusal.StaleJob) new → new ≡ old }
+    ensures spent { (old : World S.Ticket) → (s : Step) → IsSomeAnd (job_of s) (λ n. job_at old.jobs n ≡ None) → (given : Reply) → (new : World S.Ticket) → IsStep S.content S.number_of old s given new → given ≡ reply.Refused refusal.StaleJob }
 {}
 
 /// Lists of steps served one after another are served as one list.

@@ -4,6 +4,7 @@ use Rattle.std.specs.Prelude.{slice_set, sum_by, Contains}
 use Rattle.far_log.specs.Room.{Part, SegmentRoom, Room, segment_of, space_in, fill_from, list_at, AreLaid, IsRegion}
 use Rattle.far_log.specs.Changes.{gathered, compacted, laid_from, list_or_none, IsOrder, IsEmptyOther, Compacts, with_segment}
 use Rattle.std.proofs.Common.{get_or-set_same, get_or-set_other, length-set, take, drop}
+use Rattle.std.proofs.lemmas.List.{set-get_or, set-set}
 use Rattle.std.proofs.lemmas.Bool.{eq-eqb, ne_eqb, cases_eq}
 use Rattle.std.proofs.lemmas.List.{take_at}
 use Rattle.std.proofs.lemmas.List.Sums.{sum_by-cons}
@@ -13,21 +14,6 @@ use Rattle.far_log.proofs.RoomLaws.{region-set, laid-segment, even-sizes}
 use Rattle.far_log.specs.declared.skip.Skip.{Skip}
 use Rattle.far_log.specs.Skipping.{IsSkip, IsSpaced}
 use Rattle.far_log.proofs.Skipped.{skip-set, skip-less}
-use Rattle.far_log.proofs.Halves.{set-low-last, set-high-last}
-
-module _ {X : Type 0} (segs low high : Room X) (from to : ℕ) (order : List ℕ) (source target s t : SegmentRoom X)
-    (source_is : source ≡ segment_of segs from) (target_is : target ≡ segment_of segs to) (moved : t ≡ record target { parts = gathered source.parts order }) (emptied : s ≡ record source { parts = [] }) (split : segs ≡ low ++ high) where
-  moved_is : t ≡ record (segment_of segs to) { parts = gathered (segment_of segs from).parts order }
-  moved_is = moved ∙ rw (source_is, target_is) refl
-
-  emptied_is : s ≡ record (segment_of segs from) { parts = [] }
-  emptied_is = emptied ∙ rw source_is refl
-
-  pub moved-up : length low ≡ to → from < to → slice_set low from s ++ slice_set high 0 t ≡ compacted segs from to order
-  moved-up count lt = rw (moved_is, emptied_is) (sym (set-low-last segs low high from to (record (segment_of segs from) { parts = [] }) (record (segment_of segs to) { parts = gathered (segment_of segs from).parts order }) split count lt))
-
-  pub moved-down : length low ≡ from → to < from → slice_set low to t ++ slice_set high 0 s ≡ compacted segs from to order
-  moved-down count lt = rw (moved_is, emptied_is) (sym (set-high-last segs low high to from (record (segment_of segs to) { parts = gathered (segment_of segs from).parts order }) (record (segment_of segs from) { parts = [] }) split count lt))
 
 -- lists that have elements, laid one behind the other
 module _ {X : Type 0} (pick : ℕ → List X) where
@@ -135,3 +121,18 @@ pub length-compacted : {X : Type 0} (old : Room X) (from to : ℕ) (order : List
 length-compacted old from to order =
     length-set (with_segment old to (record (segment_of old to) { parts = gathered (segment_of old from).parts order })) from (record (segment_of old from) { parts = [] })
     ∙ length-set old to (record (segment_of old to) { parts = gathered (segment_of old from).parts order })
+
+-- a segment without parts, once its parts are taken away
+pub emptied-back : {X : Type 0} (room : Room X) (to : ℕ) → (segment_of room to).parts ≡ [] → with_segment room to (record (segment_of room to) { parts = [] }) ≡ room
+emptied-back {X} room to none =
+    let s : SegmentRoom X = segment_of room to in
+    let same : (let r : SegmentRoom X = record { parts = []; size = s.size } in r) ≡ s = ap (λ ps. let r : SegmentRoom X = record { parts = ps; size = s.size } in r) (sym none) in
+    ap (slice_set room to) same ∙ set-get_or room to record { parts = []; size = 0 }
+
+-- and once they are, whatever came into it
+pub emptied-again : {X : Type 0} (room : Room X) (to : ℕ) (s : SegmentRoom X) → to < length room → (segment_of room to).parts ≡ [] → s.size ≡ (segment_of room to).size
+    → with_segment (with_segment room to s) to (record (segment_of (with_segment room to s) to) { parts = [] }) ≡ room
+emptied-again {X} room to s within none same =
+    let size : (segment_of (with_segment room to s) to).size ≡ (segment_of room to).size = ap (λ (r : SegmentRoom X). r.size) (get_or-set_same room to s record { parts = []; size = 0 } within) ∙ same in
+    ap (λ n. slice_set (slice_set room to s) to (let r : SegmentRoom X = record { parts = []; size = n } in r)) size
+    ∙ set-set room to s (record (segment_of room to) { parts = [] }) ∙ emptied-back room to none

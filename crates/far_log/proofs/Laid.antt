@@ -151,10 +151,10 @@ module _ {X : Type 0} (s : SegmentRoom X) where
 
 module _ {X : Type 0} where
   -- a write that does not reach a part leaves it
-  written-before : (xs ws : List X) (i : ℕ) → length xs ≤ i → written_over xs i ws ≡ xs
+  pub written-before : (xs ws : List X) (i : ℕ) → length xs ≤ i → written_over xs i ws ≡ xs
   written-before xs ws i le = ap (λ ys. take (length xs) (ys ++ (ws ++ drop (i + length ws) xs))) (take_all i xs le) ∙ take_at xs (ws ++ drop (i + length ws) xs) (length xs) refl
 
-  written-none : (xs ws : List X) (i n : ℕ) → i ≡ 0 → length ws ≤ n → written_over xs i (drop n ws) ≡ xs
+  pub written-none : (xs ws : List X) (i n : ℕ) → i ≡ 0 → length ws ≤ n → written_over xs i (drop n ws) ≡ xs
   written-none xs ws i n z le = rw (z, drop_all n ws le) (take_all (length xs) xs (omega arith))
 
   later-same : (f size o i : ℕ) (ws list : List X) (ps : List (Part X)) → AreLaid f ps size → o + i + length ws ≤ f → o < f → map (overwritten (o + i) ws) ps ≡ map (replaced o list) ps

@@ -10,7 +10,9 @@ pub mod Writes
 pub mod Laid
 pub mod RoomLaws
 pub mod Gathers
-pub mod Halves
 pub mod Fits
 pub mod Skipped
 pub mod Compactions
+pub mod Stacked
+pub mod Puts
+pub mod Segmented

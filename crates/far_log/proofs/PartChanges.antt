@@ -78,9 +78,9 @@ module _ {X : Type 0} where
       ]
 
   -- a list is placed behind the last part
-  pub stored-push : (items xs : List X) (ss : List Slot) (t : Slot) (used size capacity now : ℕ) → IsStored items ss used size capacity → 0 < length xs → length xs ≤ size - length items
-      → t ≡ record { offset = length items; len = length xs; live = true } → size ≤ now → IsStored (items ++ xs) (ss ++ t ∷ []) (used + length xs) size now
-  stored-push items xs ss t used size capacity now h some fits is reserved =
+  pub stored-push : (items xs : List X) (ss : List Slot) (t : Slot) (used size : ℕ) → IsStored items ss used size → 0 < length xs → length xs ≤ size - length items
+      → t ≡ record { offset = length items; len = length xs; live = true } → IsStored (items ++ xs) (ss ++ t ∷ []) (used + length xs) size
+  stored-push items xs ss t used size h some fits is =
       let at : t.offset ≡ length items = ap (λ (u : Slot). u.offset) is in
       let long : t.len ≡ length xs = ap (λ (u : Slot). u.len) is in
       let live : t.live ≡ true = ap (λ (u : Slot). u.live) is in
@@ -92,22 +92,21 @@ module _ {X : Type 0} where
         live = live-push ss t live;
         sum = omega (arith, h.sum, ap (sum_by (λ (p : Part X). length p.list)) parts, sum_by_push (λ (p : Part X). length p.list) (parts_in items ss) record { offset = length items; list = xs });
         room = omega (arith, h.room, more);
-        reserved = reserved;
         small = h.small;
       }
 
   -- how much is left behind the last part
-  pub space-is : (items : List X) (ss : List Slot) (used size capacity : ℕ) (s : SegmentRoom X) → IsStored items ss used size capacity → record { parts = parts_in items ss; size = size } ≡ s → space_in s ≡ size - length items
-  space-is items ss used size capacity s h e = ap space_in (sym e) ∙ ap (λ n. size - n) (stored-fill items ss used size capacity h)
+  pub space-is : (items : List X) (ss : List Slot) (used size : ℕ) (s : SegmentRoom X) → IsStored items ss used size → record { parts = parts_in items ss; size = size } ≡ s → space_in s ≡ size - length items
+  space-is items ss used size s h e = ap space_in (sym e) ∙ ap (λ n. size - n) (stored-fill items ss used size h)
 
 module _ {X : Type 0} where
   -- what a segment shows
   abbrev pub shown : List X → List Slot → ℕ → SegmentRoom X
   shown items ss size = record { parts = parts_in items ss; size = size }
 
-  pub shown-push : (items xs : List X) (ss : List Slot) (t : Slot) (used size capacity : ℕ) → IsStored items ss used size capacity → t ≡ record { offset = length items; len = length xs; live = true }
+  pub shown-push : (items xs : List X) (ss : List Slot) (t : Slot) (used size : ℕ) → IsStored items ss used size → t ≡ record { offset = length items; len = length xs; live = true }
       → shown (items ++ xs) (ss ++ t ∷ []) size ≡ with_part (shown items ss size) xs
-  shown-push items xs ss t used size capacity h is =
+  shown-push items xs ss t used size h is =
       let parts = parts-push items xs ss t h.lined h.end (ap (λ (u : Slot). u.offset) is) (ap (λ (u : Slot). u.len) is) (ap (λ (u : Slot). u.live) is) in
-      let fill = stored-fill items ss used size capacity h in
+      let fill = stored-fill items ss used size h in
       rw (parts, fill) refl

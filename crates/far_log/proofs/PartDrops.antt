@@ -83,9 +83,9 @@ pub record IsDropped {X : Type 0} (items : List X) (ss : List Slot) (offset : �
   pub sum : sum_by (λ p. length p.list) (parts_in items left) + s.len ≡ sum_by (λ p. length p.list) (parts_in items ss)
 
 module _ {X : Type 0} (items : List X) (ss : List Slot) where
-  pub dropped : (used size capacity offset i n : ℕ) (s : Slot) → IsStored items ss used size capacity → slice_get ss i ≡ Some s → s.live ≡ true → s.offset ≡ offset
+  pub dropped : (used size offset i n : ℕ) (s : Slot) → IsStored items ss used size → slice_get ss i ≡ Some s → s.live ≡ true → s.offset ≡ offset
       → filter (λ u. u.live) (take n (emptied_at ss i)) ≡ filter (λ u. u.live) (emptied_at ss i) → IsDropped items ss offset s (take n (emptied_at ss i))
-  dropped used size capacity offset i n s h e live at kept =
+  dropped used size offset i n s h e live at kept =
       let is : emptied_at ss i ≡ slice_set ss i (emptied s) = sym (emptied-is ss i s e) in
       let lined : AreLined 0 (emptied_at ss i) = rw is (lined-emptied 0 ss i s h.lined e) in
       let same : parts_in items (take n (emptied_at ss i)) ≡ parts_in items (emptied_at ss i) = ap (map (part_in items)) kept in
@@ -96,9 +96,9 @@ module _ {X : Type 0} (items : List X) (ss : List Slot) where
         sum = omega (arith, ap (sum_by (λ (p : Part X). length p.list)) (same ∙ ap (parts_in items) is), used-emptied items 0 ss i s h.lined (omega (arith, h.end)) e live);
       }
 
-  pub stored-dropped : (used size capacity offset now end : ℕ) (s : Slot) (left : List Slot) → IsStored items ss used size capacity → IsDropped items ss offset s left → EndsLive left → end ≡ slots_end 0 left → size ≤ now
-      → IsStored (take end items) left (used - s.len) size now
-  stored-dropped used size capacity offset now end s left h d live is reserved =
+  pub stored-dropped : (used size offset end : ℕ) (s : Slot) (left : List Slot) → IsStored items ss used size → IsDropped items ss offset s left → EndsLive left → end ≡ slots_end 0 left
+      → IsStored (take end items) left (used - s.len) size
+  stored-dropped used size offset end s left h d live is =
       let same = parts-take items end 0 left d.lined (omega (arith, is)) (omega (arith, is, d.within)) in
       record {
         lined = d.lined;
@@ -106,7 +106,6 @@ module _ {X : Type 0} (items : List X) (ss : List Slot) where
         live = live;
         sum = omega (arith, h.sum, d.sum, ap (sum_by (λ (p : Part X). length p.list)) same);
         room = omega (arith, h.room, length-take end items);
-        reserved = reserved;
         small = h.small;
       }
 

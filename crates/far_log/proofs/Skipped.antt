@@ -4,6 +4,7 @@ use Rattle.std.specs.Prelude.{nat_le}
 use Rattle.std.specs.List.{list_all}
 use Rattle.std.specs.Option.{option_map_or}
 use Rattle.std.proofs.lemmas.Bool.{le-leb, lt-leb, cases_eq, cases_lt}
+use Rattle.std.proofs.lemmas.List.{drop_all}
 use Rattle.far_log.specs.declared.skip.Skip.{Skip}
 use Rattle.far_log.specs.Room.{SegmentRoom, Room, space_in, segment_of, target_of}
 use Rattle.far_log.specs.Changes.{with_segment, with_part, written}
@@ -12,15 +13,41 @@ use Rattle.far_log.specs.Skipping.{IsSkip, IsSpaced}
 use Rattle.far_log.proofs.Fits.{lowest-first, lowest-later, filled-first}
 use Rattle.far_log.proofs.Laid.{space-with_part, space-written}
 
--- lists that a segment does not take all wait on
-unfilled : (f len : ℕ) (ws : List ℕ) → f < len → list_all (λ n. nat_le len n) ws ≡ true → once_filled f ws ≡ ws
-unfilled f len [] lt all = refl
-unfilled f len (w ∷ ws) lt all = elim (cases_lt w len) [
+-- lengths of lists that wait, or that were placed and are 0
+abbrev pub AreLong : ℕ → List ℕ → Type 0
+AreLong len [] = Unit {0}
+AreLong len (w ∷ ws) = ((w ≡ 0) ⊎ (len ≤ w)) × AreLong len ws
+
+pub long-all : (len : ℕ) (ws : List ℕ) → list_all (λ n. nat_le len n) ws ≡ true → AreLong len ws
+long-all len [] all = tt
+long-all len (w ∷ ws) all = elim (cases_lt w len) [
   | inl less ↦ let short : nat_le len w ≡ false = lt-leb len w less in absurd (let never = rw short at all in cc)
+  | inr long ↦ let enough : nat_le len w ≡ true = le-leb len w long in (inr long, long-all len ws (rw enough at all))
+]
+
+pub long-any : (ws : List ℕ) → AreLong 0 ws
+long-any [] = tt
+long-any (w ∷ ws) = (inr (omega arith), long-any ws)
+
+-- they stay so, whatever a segment takes
+pub long-filled : (f len : ℕ) (ws : List ℕ) → AreLong len ws → AreLong len (once_filled f ws)
+long-filled f len [] h = tt
+long-filled f len (w ∷ ws) h = elim (cases_lt f w) [
+  | inl less ↦ let refuses : nat_le w f ≡ false = lt-leb w f less in rw refuses (h.0, long-filled f len ws h.1)
+  | inr fits ↦ let takes : nat_le w f ≡ true = le-leb w f fits in rw takes (inl refl, long-filled (f - w) len ws h.1)
+]
+
+-- lists that a segment does not take all wait on
+unfilled : (f len : ℕ) (ws : List ℕ) → f < len → AreLong len ws → once_filled f ws ≡ ws
+unfilled f len [] lt h = refl
+unfilled f len (w ∷ ws) lt h = elim h.0 [
+  | inl none ↦
+      let takes : nat_le w f ≡ true = le-leb w f (omega (arith, none)) in
+      let same : f - w ≡ f = omega (arith, none) in
+      rw (takes, same) (ap (λ l. 0 ∷ l) (unfilled f len ws lt h.1) ∙ ap (λ n. n ∷ ws) (sym none))
   | inr long ↦
-      let enough : nat_le len w ≡ true = le-leb len w long in
       let refuses : nat_le w f ≡ false = lt-leb w f (omega (arith, lt, long)) in
-      rw refuses (ap (λ l. w ∷ l) (unfilled f len ws lt (rw enough at all)))
+      rw refuses (ap (λ l. w ∷ l) (unfilled f len ws lt h.1))
 ]
 
 module _ {X : Type 0} where
@@ -46,15 +73,17 @@ module _ {X : Type 0} where
       lowest-later (space_in s) (map space_in room) len (lt-leb len (space_in s) first)
       ∙ ap (λ o. option_map_or (λ i. Some (suc i)) o None) (none-takes room n len (λ k less. none (suc k) (omega (arith, less))) (omega (arith, le)))
 
-  -- several lists of which none is shorter
-  pub skipped-fit : (room : Room X) (below len : ℕ) (ws : List ℕ) → HasNoSpace room below len → list_all (λ n. nat_le len n) ws ≡ true
-      → waiting_fit (map space_in room) ws ≡ waiting_fit (map space_in (drop below room)) ws
-  skipped-fit room zero len ws none all = refl
-  skipped-fit [] (suc below) len ws none all = refl
-  skipped-fit (s ∷ room) (suc below) len ws none all =
+  -- several lists of which none is shorter, once the search goes on behind segments without the space
+  pub skipped-fit : (room : Room X) (from to len : ℕ) (ws : List ℕ) → ((k : ℕ) → from ≤ k → k < to → space_in (segment_of room k) < len) → from ≤ to → AreLong len ws
+      → waiting_fit (map space_in (drop from room)) ws ≡ waiting_fit (map space_in (drop to room)) ws
+  skipped-fit [] from to len ws none le long = ap (λ l. waiting_fit (map space_in l) ws) (drop_all from [] (omega arith) ∙ sym (drop_all to [] (omega arith)))
+  skipped-fit (s ∷ room) (suc from) zero len ws none le long = absurd (omega (arith, le))
+  skipped-fit (s ∷ room) (suc from) (suc to) len ws none le long = skipped-fit room from to len ws (λ k least less. none (suc k) (omega (arith, least)) (omega (arith, less))) (omega (arith, le)) long
+  skipped-fit (s ∷ room) zero zero len ws none le long = refl
+  skipped-fit (s ∷ room) zero (suc to) len ws none le long =
       filled-first (space_in s) (map space_in room) ws
-      ∙ ap (waiting_fit (map space_in room)) (unfilled (space_in s) len ws (none 0 (omega arith)) all)
-      ∙ skipped-fit room below len ws (λ k less. none (suc k) (omega (arith, less))) all
+      ∙ ap (waiting_fit (map space_in room)) (unfilled (space_in s) len ws (none 0 (omega arith) (omega arith)) long)
+      ∙ skipped-fit room zero to len ws (λ k least less. none (suc k) (omega arith) (omega (arith, less))) (omega arith) long
 
   -- longer lists
   pub no-space-longer : (room : Room X) (below len more : ℕ) → HasNoSpace room below len → len ≤ more → HasNoSpace room below more

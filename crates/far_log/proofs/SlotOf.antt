@@ -50,6 +50,11 @@ module _ {X : Type 0} (items : List X) where
       let found = some-slot ss offset h in
       omega (arith, only found.0 found.1.0 found.1.1.here found.1.1.begins, slice_get_within ss found.0 found.1.0 found.1.1.here)
 
+  -- there is a slot, if there is a part
+  pub slot-in-some : (ss : List Slot) (offset : ℕ) → IsSome (list_at (parts_in items ss) offset) → 0 < length ss
+  slot-in-some [] offset h = absurd (cc)
+  slot-in-some (s ∷ ss) offset h = omega arith
+
   pub slot-is-live : (ss : List Slot) (offset i : ℕ) → IsSome (list_at (parts_in items ss) offset)
       → ((k : ℕ) (t : Slot) → slice_get ss k ≡ Some t → t.offset ≡ offset → i ≡ k) → IsSomeAnd (slice_get ss i) (λ s. s.live ≡ true)
   slot-is-live ss offset i h only =

@@ -47,12 +47,12 @@ module _ {X : Type 0} (items : List X) where
       ]
 
   -- so much for a whole segment
-  pub stored-fill : (ss : List Slot) (used size capacity : ℕ) → IsStored items ss used size capacity → fill_from 0 (parts_in items ss) ≡ length items
-  stored-fill [] used size capacity h = h.end
-  stored-fill (s ∷ ss) used size capacity h = fill-parts 0 0 s ss h.lined (omega (arith, h.end)) h.live ∙ h.end
+  pub stored-fill : (ss : List Slot) (used size : ℕ) → IsStored items ss used size → fill_from 0 (parts_in items ss) ≡ length items
+  stored-fill [] used size h = h.end
+  stored-fill (s ∷ ss) used size h = fill-parts 0 0 s ss h.lined (omega (arith, h.end)) h.live ∙ h.end
 
-  pub stored-laid : (ss : List Slot) (used size capacity : ℕ) → IsStored items ss used size capacity → AreLaid 0 (parts_in items ss) size
-  stored-laid ss used size capacity h = laid-parts 0 0 size ss (omega arith) h.lined (omega (arith, h.end)) h.room
+  pub stored-laid : (ss : List Slot) (used size : ℕ) → IsStored items ss used size → AreLaid 0 (parts_in items ss) size
+  stored-laid ss used size h = laid-parts 0 0 size ss (omega arith) h.lined (omega (arith, h.end)) h.room
 
   -- a segment without parts has no slots
   pub no-slots : (ss : List Slot) → EndsLive ss → parts_in items ss ≡ [] → ss ≡ []

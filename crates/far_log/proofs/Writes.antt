@@ -2,7 +2,7 @@
 use Rattle.std.proofs.Common.{◌≡◌, ℕ, ◌+◌, ◌-◌, ◌<◌, ◌≤◌, true, false, List, [], ◌∷◌, ◌++◌, length, get_or, take, drop, map, cond, refl, sym, ap, ◌∙◌, inl, inr, arith, length-take, length-drop, length-append, get_or-take, get_or-drop}
 use Rattle.std.specs.Prelude.{filter, sum_by, slice_range, IsSome, IsSomeAnd, Option, Some, None}
 use Rattle.std.proofs.lemmas.Bool.{cases_lt}
-use Rattle.std.proofs.lemmas.List.{get_or_append_left, get_or-append_right, same_lists, drop-take, take-take, drop-drop}
+use Rattle.std.proofs.lemmas.List.{get_or_append_left, get_or-append_right, same_lists, drop-take, take-take, take-append-le, drop-drop}
 use Rattle.std.proofs.lemmas.List.Sums.{sum_by-cons}
 use Rattle.far_log.specs.declared.slots.Slot.{Slot}
 use Rattle.far_log.specs.Room.{Part, SegmentRoom, list_at}
@@ -47,7 +47,7 @@ module _ {X : Type 0} where
       get_or-take (length items) (over items from ws ++ drop (length (over items from ws)) items) k d lt
       ∙ get_or_append_left (over items from ws) (drop (length (over items from ws)) items) d k (omega (arith, over-long items from ws le))
 
-  length-written_over : (xs : List X) (i : ℕ) (ws : List X) → length (written_over xs i ws) ≡ length xs
+  pub length-written_over : (xs : List X) (i : ℕ) (ws : List X) → length (written_over xs i ws) ≡ length xs
   length-written_over xs i ws =
       omega (arith, length-take (length xs) (take i xs ++ (ws ++ drop (i + length ws) xs)), length-append (take i xs) (ws ++ drop (i + length ws) xs), length-append ws (drop (i + length ws) xs), length-take i xs, length-drop (i + length ws) xs)
 
@@ -92,7 +92,7 @@ module _ {X : Type 0} where
         ]
 
   -- a part after a write to the block
-  part-written : (items : List X) (from : ℕ) (ws : List X) (s : Slot) → from ≤ length items → s.offset + s.len ≤ length items → part_in (block_over items from ws) s ≡ overwritten from ws (part_in items s)
+  pub part-written : (items : List X) (from : ℕ) (ws : List X) (s : Slot) → from ≤ length items → s.offset + s.len ≤ length items → part_in (block_over items from ws) s ≡ overwritten from ws (part_in items s)
   part-written items from ws s le within =
       let old = length-part items s within in
       let new = length-part (block_over items from ws) s (omega (arith, length-block_over items from ws le)) in
@@ -112,8 +112,17 @@ module _ {X : Type 0} where
         | false ↦ later
       ]
 
+  -- a write over a stack is one over a block that ends with it
+  over-is : (items : List X) (at : ℕ) (ws : List X) → at ≤ length items → written_over items at ws ≡ block_over items at ws
+  over-is items at ws le =
+      ap (λ ys. take (length items) (take at items ++ (ws ++ ys))) (sym (drop-drop (length ws) at items))
+      ∙ sym (take-append-le (length items) (over items at ws) (drop (length (over items at ws)) items) (over-long items at ws le))
+
+  parts-over : (items : List X) (at : ℕ) (ws : List X) (ss : List Slot) → at ≤ length items → AreLined 0 ss → slots_end 0 ss ≤ length items → parts_in (written_over items at ws) ss ≡ map (overwritten at ws) (parts_in items ss)
+  parts-over items at ws ss le h end = ap (λ ys. parts_in ys ss) (over-is items at ws le) ∙ parts-written items at ws 0 ss le h end
+
   -- a range of a part, read from the block
-  range-at : (items : List X) (o n from to : ℕ) → from ≤ to → to ≤ length (take n (drop o items)) → take (to - from) (drop from (take n (drop o items))) ≡ take (to - from) (drop (o + from) items)
+  pub range-at : (items : List X) (o n from to : ℕ) → from ≤ to → to ≤ length (take n (drop o items)) → take (to - from) (drop from (take n (drop o items))) ≡ take (to - from) (drop (o + from) items)
   range-at items o n from to le within =
       let sum : from + (n - from) ≡ n = omega (arith, length-take n (drop o items)) in
       ap (λ m. take (to - from) (drop from (take m (drop o items)))) (sym sum)
@@ -149,21 +158,20 @@ module _ {X : Type 0} where
       let same : length (overwritten at ws p).list ≡ length p.list = length-written_over p.list (at - p.offset) (drop (p.offset - at) ws) in
       omega (arith, same, sum-overwritten at ws ps, sum_by-cons (λ (q : Part X). length q.list) (overwritten at ws p) (map (overwritten at ws) ps), sum_by-cons (λ (q : Part X). length q.list) p ps)
 
-  -- a segment of which a range was lent
-  pub stored-written : (items : List X) (ss : List Slot) (used size capacity at : ℕ) (ws : List X) → IsStored items ss used size capacity → at ≤ length items → IsStored (block_over items at ws) ss used size capacity
-  stored-written items ss used size capacity at ws h le =
-      let long = length-block_over items at ws le in
-      let parts = parts-written items at ws 0 ss le h.lined (omega (arith, h.end)) in
+  -- a stack of which a range was lent
+  pub stored-written : (items : List X) (ss : List Slot) (used size at : ℕ) (ws : List X) → IsStored items ss used size → at ≤ length items → IsStored (written_over items at ws) ss used size
+  stored-written items ss used size at ws h le =
+      let long = length-written_over items at ws in
+      let parts = parts-over items at ws ss le h.lined (omega (arith, h.end)) in
       record {
         lined = h.lined;
         end = omega (arith, long, h.end);
         live = h.live;
         sum = omega (arith, h.sum, ap (sum_by (λ (p : Part X). length p.list)) parts, sum-overwritten at ws (parts_in items ss));
         room = omega (arith, h.room, long);
-        reserved = h.reserved;
         small = h.small;
       }
 
-  pub shown-written : (items : List X) (ss : List Slot) (used size capacity at : ℕ) (ws : List X) → IsStored items ss used size capacity → at ≤ length items → shown (block_over items at ws) ss size ≡ written (shown items ss size) at ws
-  shown-written items ss used size capacity at ws h le =
-      ap (λ ps. let r : SegmentRoom X = record { parts = ps; size = size } in r) (parts-written items at ws 0 ss le h.lined (omega (arith, h.end)))
+  pub shown-written : (items : List X) (ss : List Slot) (used size at : ℕ) (ws : List X) → IsStored items ss used size → at ≤ length items → shown (written_over items at ws) ss size ≡ written (shown items ss size) at ws
+  shown-written items ss used size at ws h le =
+      ap (λ ps. let r : SegmentRoom X = record { parts = ps; size = size } in r) (parts-over items at ws ss le h.lined (omega (arith, h.end)))

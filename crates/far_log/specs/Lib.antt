@@ -5,3 +5,4 @@ pub mod Lending
 pub mod Fitting
 pub mod Chunking
 pub mod Skipping
+pub mod Stacking

@@ -1,9 +1,10 @@
--- How a segment keeps its parts: its elements in one block, and a table of slots.
+-- How segments keep their parts: the elements of each in a stack, and a table of slots.
 use Rattle.std.specs.Prelude.{◌≡◌, ℕ, zero, suc, ◌+◌, ◌≤◌, ◌<◌, ◌^◌, if◌then◌else◌, true, false, List, [], ◌∷◌, length, take, drop, map, filter, sum_by, slice_get, Some}
 use Rattle.far_log.specs.declared.slots.Slot.{Slot}
 use Rattle.far_log.specs.declared.links.Link.{Link}
 use Rattle.far_log.specs.declared.entry.Entry.{Entry}
-use Rattle.far_log.specs.Room.{Part}
+use Rattle.far_log.specs.declared.table.Table.{Table}
+use Rattle.far_log.specs.Room.{Part, Room}
 
 -- the slots of a table
 abbrev pub slots_of : List Entry → List Slot
@@ -70,17 +71,29 @@ module _ {X : Type 0} where
   abbrev pub parts_in : List X → List Slot → List (Part X)
   parts_in items slots = map (part_in items) (filter (λ s. s.live) slots)
 
-  -- the table says where each part lies, the elements end with the last part, and the block has room for all of them
-  pub record IsStored (items : List X) (slots : List Slot) (used size capacity : ℕ) : Type 0 where
+  -- the table says where each part lies, and the elements end with the last part
+  pub record IsStored (items : List X) (slots : List Slot) (used size : ℕ) : Type 0 where
     pub lined : AreLined 0 slots
     pub end : slots_end 0 slots ≡ length items
     pub live : EndsLive slots
     pub sum : used ≡ sum_by (λ p. length p.list) (parts_in items slots)
     pub room : length items ≤ size
-    pub reserved : size ≤ capacity
     pub small : size < 2 ^ 32
 
   -- so it is kept, and the slots of the parts name one another
-  pub record IsKept (items : List X) (slots : List Slot) (links : List Link) (used size capacity : ℕ) : Type 0 where
-    pub stored : IsStored items slots used size capacity
-    pub linked : AreLinked 0 0 0 slots links
+  pub record IsKept (items : List X) (table : Table) (size : ℕ) : Type 0 where
+    pub stored : IsStored items (slots_of table.entries) table.used size
+    pub linked : AreLinked 0 0 0 (slots_of table.entries) (links_of table.entries)
+
+  -- what segments of this size show
+  abbrev pub rooms_in : ℕ → List (List X) → List Table → Room X
+  rooms_in size [] ts = []
+  rooms_in size (xs ∷ xss) [] = []
+  rooms_in size (xs ∷ xss) (t ∷ ts) = record { parts = parts_in xs (slots_of t.entries); size = size } ∷ rooms_in size xss ts
+
+  -- each is kept so
+  abbrev pub AreKept : ℕ → List (List X) → List Table → Type 0
+  AreKept size [] [] = Unit {0}
+  AreKept size [] (t ∷ ts) = ⊥
+  AreKept size (xs ∷ xss) [] = ⊥
+  AreKept size (xs ∷ xss) (t ∷ ts) = IsKept xs t size × AreKept size xss ts

@@ -1,9 +1,10 @@
 // The move of a segment's parts into another segment.
 ghost use Rattle.std.specs.Prelude.{◌≡◌, ◌≢◌, ◌<◌, ◌≤◌, [], length, map, OnOk, OnErr, IfOk, IfErr};
 ghost use Rattle.far_log.specs.Room.{segment_of, IsLaid};
-ghost use Rattle.far_log.specs.Changes.{gathered, compacted, IsOrder};
+ghost use Rattle.far_log.specs.Changes.{gathered, compacted, with_segment, IsOrder};
 
-use super::segment::Segment;
+use super::segments::Segments;
+use far_pointer::At;
 use far_types::Refusal;
 use std::alloc::Global;
 
@@ -16,62 +17,70 @@ pub struct Moved {
     pub offsets: Vec<u32>,
 }
 
-/// Moves the parts of one segment into another, which has none. Refused, both are as before.
-fn move_parts<T: Copy + Drop>(
-    alloc: Global,
-    source: &mut Segment<T>,
-    target: &mut Segment<T>,
-    order: &[u32],
-) -> Result<Vec<u32>, Refusal>
-    requires empty { target.old.parts ≡ [] }
-    requires size { source.old.size ≤ target.old.size }
-    requires laid { IsLaid source.old }
-    requires order { IsOrder source.old.parts order.now }
-    ensures moved { OnOk result (target.new ≡ record target.old { parts = gathered source.old.parts order.now }) }
-    ensures emptied { OnOk result (source.new ≡ record source.old { parts = [] }) }
-    ensures offsets { IfOk result (λ offsets. offsets.items ≡ map (λ p. p.offset) (gathered source.old.parts order.now)) }
-    ensures memory { IfErr result (λ e. e ≡ Refusal.NoMemory) }
-    ensures target_kept { OnErr result (target.new ≡ target.old) }
-    ensures source_kept { OnErr result (source.new ≡ source.old) }
-{
-    match target.gather(alloc, source, order) {
-        Ok(offsets) => {
-            source.clear();
-            Ok(offsets)
+impl<T: Copy + Drop> Segments<T> {
+    // Places copies of the parts of segment `from` in segment `to`, which has none, in the given order, and answers where each
+    // begins. Copies each element once. Refused with `NoMemory` (1) alone, and then some of the parts may lie there.
+    fn gather(
+        &mut self,
+        alloc: Global,
+        from: u16,
+        to: usize,
+        order: &[u32],
+    ) -> Result<Vec<u32>, Refusal>
+        requires from { from < length self.old }
+        requires to { to < length self.old }
+        requires other { to ≢ from }
+        requires empty { (segment_of self.old to).parts ≡ [] }
+        requires size { (segment_of self.old from).size ≤ (segment_of self.old to).size }
+        requires laid { IsLaid (segment_of self.old from) }
+        requires order { IsOrder (segment_of self.old from).parts order.now }
+        ensures gathered { OnOk result (self.new ≡ with_segment self.old to (record (segment_of self.old to) { parts = gathered (segment_of self.old from).parts order.now })) }
+        ensures offsets { IfOk result (λ offsets. offsets.items ≡ map (λ p. p.offset) (gathered (segment_of self.old from).parts order.now)) }
+        ensures memory { IfErr result (λ e. e ≡ Refusal.NoMemory) }
+        ensures count { length self.new ≡ length self.old }
+        ensures rest { with_segment self.new to (record (segment_of self.new to) { parts = [] }) ≡ self.old }
+    {
+        let mut offsets = Vec::with_capacity(alloc, order.len())?;
+        for offset in order {
+            let part = At {
+                segment: from,
+                offset: *offset,
+            };
+            offsets.push(self.place_copy(part, to)?)?;
         }
-        Err(refusal) => {
-            target.clear();
-            Err(refusal)
-        }
+        Ok(offsets)
     }
-}
 
-/// Moves the parts of segment `from` into segment `to`, which has none: reads the one while it writes the other.
-/// Refused, the segments are as before.
-pub fn move_segment<T: Copy + Drop>(
-    alloc: Global,
-    segments: &mut [Segment<T>],
-    from: usize,
-    to: usize,
-    order: &[u32],
-) -> Result<Vec<u32>, Refusal>
-    requires from { from < length segments.old }
-    requires to { to < length segments.old }
-    requires other { to ≢ from }
-    requires empty { (segment_of segments.old to).parts ≡ [] }
-    requires size { (segment_of segments.old from).size ≤ (segment_of segments.old to).size }
-    requires laid { IsLaid (segment_of segments.old from) }
-    requires order { IsOrder (segment_of segments.old from).parts order.now }
-    ensures moved { OnOk result (segments.new ≡ compacted segments.old from to order.now) }
-    ensures offsets { IfOk result (λ offsets. offsets.items ≡ map (λ p. p.offset) (gathered (segment_of segments.old from).parts order.now)) }
-    ensures memory { IfErr result (λ e. e ≡ Refusal.NoMemory) }
-    ensures kept { OnErr result (segments.new ≡ segments.old) }
-{
-    if from < to {
-        let (low, high) = segments.split_at_mut(to);
-        move_parts(alloc, &mut low[from], &mut high[0], order)
-    } else {
-        let (low, high) = segments.split_at_mut(from);
-        move_parts(alloc, &mut high[0], &mut low[to], order)
+    /// Moves the parts of segment `from` into segment `to`, which has none. Refused with `NoMemory` (1) alone; then the
+    /// segments are as before.
+    pub fn compact(
+        &mut self,
+        alloc: Global,
+        from: u16,
+        to: usize,
+        order: &[u32],
+    ) -> Result<Vec<u32>, Refusal>
+        requires from { from < length self.old }
+        requires to { to < length self.old }
+        requires other { to ≢ from }
+        requires empty { (segment_of self.old to).parts ≡ [] }
+        requires size { (segment_of self.old from).size ≤ (segment_of self.old to).size }
+        requires laid { IsLaid (segment_of self.old from) }
+        requires order { IsOrder (segment_of self.old from).parts order.now }
+        ensures moved { OnOk result (self.new ≡ compacted self.old from to order.now) }
+        ensures offsets { IfOk result (λ offsets. offsets.items ≡ map (λ p. p.offset) (gathered (segment_of self.old from).parts order.now)) }
+        ensures memory { IfErr result (λ e. e ≡ Refusal.NoMemory) }
+        ensures err { OnErr result (self.new ≡ self.old) }
+    {
+        match self.gather(alloc, from, to, order) {
+            Ok(offsets) => {
+                self.clear(from as usize);
+                Ok(offsets)
+            }
+            Err(refusal) => {
+                self.clear(to);
+                Err(refusal)
+            }
+        }
     }
 }

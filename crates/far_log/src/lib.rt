@@ -8,15 +8,18 @@
 //! Contracts see a region as the list of its segments, each as its parts (where a part begins, and its elements) and its
 //! size: `specs/Room.antt`. How it changes is in `specs/Changes.antt`.
 
+mod block;
 mod chunked_vec;
 mod compaction;
 mod entry;
 mod fitting;
 mod links;
 mod region;
-mod segment;
+mod segments;
 mod skip;
 mod slots;
+mod stacks;
+mod table;
 
 pub use compaction::Moved;
 pub use region::Region;

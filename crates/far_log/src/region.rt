@@ -5,9 +5,9 @@ ghost use Rattle.far_log.specs.Room.{part_of, used_of, spaces_of, space_of, capa
 ghost use Rattle.far_log.specs.Skipping.{IsSkip};
 ghost use Rattle.far_log.specs.Changes.{ChangesOnly, WritesPart, written_at, IsPlaced, IsEmptyOther, HasNoEmptyOther, IsOrder, Compacts, with_segment, without_part};
 
-use super::compaction::{Moved, move_segment};
+use super::compaction::Moved;
 use super::fitting::{fill, none_waits};
-use super::segment::Segment;
+use super::segments::Segments;
 use super::skip::Skip;
 use far_pointer::At;
 use far_types::Refusal;
@@ -21,7 +21,7 @@ use std::marker::Model;
 /// in it the part begins, counted in elements.
 #[derive(Drop)]
 pub struct Region<T> {
-    segments: Vec<Segment<T>>,
+    segments: Segments<T>,
     skip: Skip,
 }
 
@@ -32,18 +32,9 @@ impl<T> Model for Region<T> {
 
     ghost use Rattle.far_log.specs.Skipping.{IsSearched};
 
-    ghost view = { λ r. r.segments.items };
+    ghost view = { λ r. r.segments };
 
-    ghost invariant = { λ r. IsSearched r.segments.items r.skip };
-}
-
-// Takes the memory of one segment, and gives it back. An allocator that maps each large block by itself until one of its size
-// came back, as that of the GNU C library does, then takes those of a region from one stretch, and gives them back as one.
-fn try_block<T: Copy + Drop>(alloc: Global, size: u32) -> Result<(), Refusal>
-    ensures memory { IfErr result (λ e. e ≡ Refusal.NoMemory) }
-{
-    let _block = Segment::<T>::new(alloc, size)?;
-    Ok(())
+    ghost invariant = { λ r. IsSearched r.segments r.skip };
 }
 
 impl<T: Copy + Drop> Region<T> {
@@ -57,13 +48,8 @@ impl<T: Copy + Drop> Region<T> {
         ensures sound { IfOk result IsRegion }
         ensures memory { IfErr result (λ e. e ≡ Refusal.NoMemory) }
     {
-        try_block::<T>(alloc, size)?;
-        let mut made = Vec::with_capacity(alloc, segments as usize)?;
-        for _ in 0..segments {
-            made.push(Segment::new(alloc, size)?)?;
-        }
         Ok(Region {
-            segments: made,
+            segments: Segments::new(alloc, segments, size)?,
             skip: Skip::none(),
         })
     }
@@ -79,7 +65,7 @@ impl<T: Copy + Drop> Region<T> {
         let mut number = known.first;
         let mut more = known.len;
         while number < self.segments.len() {
-            let space = self.segments[number].space();
+            let space = self.segments.space(number);
             if len <= space {
                 return Some(Skip {
                     first: number,
@@ -105,7 +91,7 @@ impl<T: Copy + Drop> Region<T> {
     /// memory and places nothing.
     ///
     /// Each list goes to the lowest segment that has the space. So the lists that go to a segment can be told from that
-    /// segment alone, and the segments are gone through once.
+    /// segment alone, and the segments are gone through once, but those that a search for each list would skip.
     pub fn fits_in_order(&self, lens: &[usize]) -> bool
         requires few { length lens.now ≤ 16 }
         requires some { All (λ len. 0 < len) lens.now }
@@ -114,12 +100,14 @@ impl<T: Copy + Drop> Region<T> {
         let mut room = [0; 16];
         let waiting = &mut room[..lens.len()];
         waiting.copy_from_slice(lens);
-        let first = self.skip.first_for(lens);
-        for number in first..self.segments.len() {
+        let skip = self.skip.for_lists(lens);
+        let mut number = skip.first;
+        while number < self.segments.len() {
             if none_waits(waiting) {
                 return true;
             }
-            fill(self.segments[number].space(), waiting);
+            fill(self.segments.space(number), waiting);
+            number = skip.next.max(number + 1);
         }
         none_waits(waiting)
     }
@@ -128,10 +116,7 @@ impl<T: Copy + Drop> Region<T> {
     pub fn used(&self) -> u64
         ensures { result ≡ used_of self.now }
     {
-        self.segments
-            .iter()
-            .map(|segment| segment.used() as u64)
-            .sum()
+        self.segments.used()
     }
 
     /// How many elements the segments take behind their fills, all together. Takes no memory.
@@ -140,7 +125,7 @@ impl<T: Copy + Drop> Region<T> {
     pub fn space(&self) -> usize
         ensures { result ≡ space_of self.now }
     {
-        self.segments.iter().map(|segment| segment.space()).sum()
+        self.capacity() - self.segments.filled()
     }
 
     /// For how many elements all segments are made together. Takes no memory.
@@ -155,18 +140,17 @@ impl<T: Copy + Drop> Region<T> {
         ensures size { result ≡ (segment_of self.now 0).size }
         ensures sound { IsRegion self.now }
     {
-        match self.segments.first() {
-            Some(segment) => segment.size(),
-            None => 0,
+        if self.segments.len() == 0 {
+            return 0;
         }
+        self.segments.size()
     }
 
     /// Whether a part begins at a location. Takes no memory.
     pub fn holds(&self, at: At) -> bool
         ensures { IsTrue result ↔ IsSome (part_of self.now at) }
     {
-        let number = at.segment as usize;
-        number < self.segments.len() && self.segments[number].holds(at.offset)
+        (at.segment as usize) < self.segments.len() && self.segments.holds(at)
     }
 
     /// The part at a location, lent in place. Takes no memory.
@@ -174,7 +158,7 @@ impl<T: Copy + Drop> Region<T> {
         requires { IsSome (part_of self.now at) }
         ensures { part_of self.now at ≡ Some result.now }
     {
-        self.segments[at.segment as usize].part(at.offset)
+        self.segments.part(at)
     }
 
     /// The part at a location, which has so many elements, lent in place. Takes no memory, and looks at nothing but the
@@ -183,7 +167,7 @@ impl<T: Copy + Drop> Region<T> {
         requires { IsSomeAnd (part_of self.now at) (λ list. length list ≡ len) }
         ensures { part_of self.now at ≡ Some result.now }
     {
-        self.segments[at.segment as usize].part_long(at.offset, len)
+        self.segments.part_long(at, len)
     }
 
     /// Takes the part at a location away, and moves no other. Takes no memory.
@@ -194,9 +178,8 @@ impl<T: Copy + Drop> Region<T> {
         ensures sound { IsRegion self.new }
     {
         let number = at.segment as usize;
-        let segment = &mut self.segments[number];
-        segment.drop_at(at.offset);
-        let space = segment.space();
+        self.segments.drop_at(at);
+        let space = self.segments.space(number);
         self.skip = self.skip.with_space(number, space);
     }
 
@@ -218,9 +201,8 @@ impl<T: Copy + Drop> Region<T> {
         let Some(found) = self.search(items.len()) else {
             return Err(Refusal::RegionFull);
         };
-        let segment = &mut self.segments[found.first];
-        let offset = segment.place(items)?;
-        let space = segment.space();
+        let offset = self.segments.place(found.first, items)?;
+        let space = self.segments.space(found.first);
         let skip = self.skip.after_search(found, items.len());
         self.skip = skip.with_space(found.first, space);
         Ok(At {
@@ -234,8 +216,8 @@ impl<T: Copy + Drop> Region<T> {
         ensures found { IfSome result (λ to. IsEmptyOther self.now from to) }
         ensures none { IfNone result (HasNoEmptyOther self.now from) }
     {
-        for (number, segment) in self.segments.iter().enumerate() {
-            if number != from && segment.is_empty() {
+        for number in 0..self.segments.len() {
+            if number != from && self.segments.is_empty(number) {
                 return Some(number);
             }
         }
@@ -284,7 +266,7 @@ impl<T: Copy + Drop> Region<T> {
             return Err(Refusal::RegionFull);
         };
         let size = self.size() as usize;
-        let offsets = move_segment(alloc, &mut self.segments, from, to, order)?;
+        let offsets = self.segments.compact(alloc, from as u16, to, order)?;
         self.skip = self.skip.with_space(from, size);
         Ok(Moved {
             segment: to as u16,
@@ -319,8 +301,7 @@ impl<T: Copy + Drop> Region<T> {
         ensures lent { part_of self.old at ≡ Some result.now }
         ensures alone { (list : List T) → length list ≡ length result.now → WritesPart self.old (written_at self.old at 0 list) at list }
     {
-        let segment = &mut self.segments[at.segment as usize];
-        segment.range_mut(at.offset, 0, len)
+        self.segments.range_mut(at, 0, len)
     }
 
     /// The elements `from` to `to` of the part at a location, lent in place to be written. Takes no memory.
@@ -331,7 +312,6 @@ impl<T: Copy + Drop> Region<T> {
         ensures lent { IsSomeAnd (part_of self.old at) (λ list. result.now ≡ slice_range list from to) }
         ensures alone { IsSomeAnd (part_of self.old at) (λ list. (range : List T) → length range ≡ to - from → WritesPart self.old (written_at self.old at from range) at (take from list ++ (range ++ drop to list))) }
     {
-        let segment = &mut self.segments[at.segment as usize];
-        segment.range_mut(at.offset, from, to)
+        self.segments.range_mut(at, from, to)
     }
 }

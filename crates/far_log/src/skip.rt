@@ -42,21 +42,21 @@ impl Skip {
         if self.len <= len { self } else { Skip::none() }
     }
 
-    /// The number of the first segment to look at for several lists.
-    pub fn first_for(self, lens: &[usize]) -> usize
-        ensures { (result ≡ 0) ⊎ ((result ≡ self.first) × (list_all (λ n. nat_le self.len n) lens.now ≡ true)) }
+    /// What a search for several lists skips.
+    pub fn for_lists(self, lens: &[usize]) -> Skip
+        ensures { (result ≡ record { first = 0; next = 0; len = 0 }) ⊎ ((result ≡ self) × (list_all (λ n. nat_le self.len n) lens.now ≡ true)) }
     {
         if none_shorter(lens, self.len) {
-            self.first
+            self
         } else {
-            0
+            Skip::none()
         }
     }
 
     /// What is skipped once a search for a list of `len` elements ended with `found`.
     ///
     /// After a search through many segments that is `found`, so that the next one need not look at them again. After a short
-    /// one it is that only where no list is the worse for it.
+    /// one it is that only where no list is the worse for it, which is so of each where nothing was skipped yet.
     pub fn after_search(self, found: Skip, len: usize) -> Skip
         ensures { (result ≡ self) ⊎ (result ≡ found) }
     {
@@ -65,7 +65,12 @@ impl Skip {
         let is_no_worse = found.len <= self.len
             && self.first <= found.first
             && self.next <= found.next;
-        if is_far || is_no_worse { found } else { self }
+        let is_first = self.next == 0;
+        if is_far || is_no_worse || is_first {
+            found
+        } else {
+            self
+        }
     }
 
     /// What is skipped once a segment has this space, more or less than before.

@@ -1,5 +1,5 @@
 // Columns whose values are at hand.
-ghost use Rattle.std.specs.Prelude.{◌≡◌, map, slice_index_or, Some, IfSome};
+ghost use Rattle.std.specs.Prelude.{◌≡◌, [], map, slice_index_or, None, Some, IfSome};
 ghost use Rattle.std.specs.Option.{option_copied};
 ghost use Rattle.far_types.specs.declared.cell.Cell.TheVariants.{Missing};
 ghost use Rattle.far_types.specs.Cells.{CellFits};
@@ -65,11 +65,12 @@ impl<'a> Column<'a> {
         }
     }
 
-    /// The column of this number with the values of a content. The bytes came from a store, so they are tested, in one
-    /// pass, before a value is read; bytes that are no far form have no values. Takes no memory.
-    pub(crate) fn of_content(number: u32, bytes: &'a [u8]) -> Column<'a>
-        requires { IsForm bytes.now }
-        ensures { result ≡ (number, cells_meant bytes.now) }
+    /// The column of this number with the values of a content, read where they lie. The bytes came from a store, so they are
+    /// tested, once and in one pass, before a value is read. Bytes that are no far form, which only a store that breaks its
+    /// contract gives, are a column without values. Takes no memory.
+    pub fn of_content(number: u32, bytes: &'a [u8]) -> Column<'a>
+        ensures form { IsForm bytes.now → result ≡ (number, cells_meant bytes.now) }
+        ensures other { (¬ IsForm bytes.now) → result ≡ (number, []) }
     {
         match tested(bytes) {
             Some(values) => Column {
@@ -154,7 +155,8 @@ fn values_in(values: LentValues<'_>) -> ColumnValues<'_>
 
 /// The values of bytes that are a far form; `None` where they are none.
 fn tested(bytes: &[u8]) -> Option<LentValues<'_>>
-    ensures { IsForm bytes.now → result ≡ Some (lent_in bytes.now) }
+    ensures form { IsForm bytes.now → result ≡ Some (lent_in bytes.now) }
+    ensures other { (¬ IsForm bytes.now) → result ≡ None }
 {
     match kind_of(bytes) {
         Some(Kind::Int) => Some(lend_values(bytes)),

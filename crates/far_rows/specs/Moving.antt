@@ -44,7 +44,7 @@ module _ {K : Type 0} where
   touched r (object.Number o) = record r { number_objects = touched_in r.number_objects o }
   touched r (object.Text o) = record r { text_objects = touched_in r.text_objects o }
 
-  -- what a call that moves objects in place leaves alone, accepted or not
+  -- what a pin, an unpin, a use and a compaction keep, accepted or not: the cells, and whose tickets the objects have
   pub record KeepsCells (content : K → List ℕ) (is_of : K → List ℕ → Type 0) (old new : Rows K) : Type 0 where
     -- each column has the cells that it had
     pub cells : cells_of content new ≡ cells_of content old

@@ -25,6 +25,7 @@ mod setting;
 
 use super::slot::Slot;
 use far_columns::{Alive, IntColumn};
+use far_reciprocal::Reciprocal;
 use far_scopes::Objects;
 use far_store::FarTickets;
 use far_texts::TextColumn;
@@ -42,6 +43,8 @@ pub struct Rows<S: FarTickets> {
     slots: Vec<Slot>,
     // How many places a row group has.
     size: u32,
+    // A hint for divisions by it.
+    reciprocal: Reciprocal,
     numbers: Vec<IntColumn>,
     texts: Vec<TextColumn>,
     number_objects: Objects<Option<i64>, S>,
@@ -74,12 +77,14 @@ impl<S: FarTickets> Rows<S> {
         ensures empty { IfOk result (λ rows. rows ≡ empty_rows schema.now limits.now number) }
         ensures memory { IfErr result (λ e. e ≡ Refusal.NoMemory) }
     {
+        let reciprocal = Reciprocal::new(limits.group as usize);
         let columns = columns_of(alloc, schema, limits)?;
         let number_objects = Objects::new(alloc, number, number_limits(limits))?;
         let text_objects = Objects::new(alloc, number, text_limits(limits))?;
         Ok(Rows {
             slots: columns.slots,
             size: limits.group,
+            reciprocal,
             numbers: columns.numbers,
             texts: columns.texts,
             number_objects,

@@ -11,11 +11,13 @@ use Rattle.std.proofs.lemmas.List.Folds.{list_any-append}
 use Rattle.far_scopes.specs.Recency.{has}
 use Rattle.far_scopes.specs.Memory.{place_of}
 use Rattle.far_scopes.specs.Movement.{Movement, hot, pins_of, is_local, AreTracked}
+use Rattle.far_scopes.specs.Cool.{cool_in}
 use Rattle.far_scopes.specs.Coldest.{is_unpinned, is_cold, coldest}
 use Rattle.far_scopes.proofs.Places.{cases_option}
 use Rattle.far_scopes.proofs.RecencyLaws.{has-cons_same}
 use Rattle.far_scopes.proofs.WordPlaces.{place-within, some-true}
 use Rattle.far_scopes.proofs.Found.{has-reverse, found-is, found-none}
+use Rattle.far_scopes.proofs.CoolLaws.{all-hot}
 
 module _ {X K : Type 0} (m : Movement X K) where
   -- what is found in the part of the order that is left, where this object is the first without pins in the part that was
@@ -68,6 +70,21 @@ module _ {X K : Type 0} (m : Movement X K) where
           | inl none ↦ none
           | inr (o, is) ↦ absurd (pinned o (coldest-is o is).0 (coldest-is o is).1)
         ]
+
+    not-hot : (a b : Bool) → a && not b ≡ true → b ≡ true → ⊥
+    not-hot true true both is = cc
+    not-hot true false both is = cc
+    not-hot false b both is = cc
+
+    -- where each local object is hot it is the last of all without pins
+    pub coldest-hot : cool_in m.memory.words ≡ 0 → coldest m ≡ find (is_unpinned m) (reverse m.order)
+    coldest-hot none = elim (cases_option (find (is_cold m) (reverse m.order))) [
+      | inl nothing ↦ rw nothing refl
+      | inr (p, some) ↦ absurd (
+          let found = found-is (is_cold m) (reverse m.order) p some in
+          not-hot (is_unpinned m p) (hot m p) found.0 (all-hot m.memory.words p none (sym (local-has p) ∙ found.1))
+          )
+    ]
 
     pub coldest-local : (found : Option ℕ) → coldest m ≡ found → IfSome found (λ o. is_local m o ≡ true)
     coldest-local None is = tt

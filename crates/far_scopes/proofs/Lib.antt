@@ -7,6 +7,7 @@ pub mod HotFirst
 pub mod Compacted
 pub mod WordPlaces
 pub mod MemoryLaws
+pub mod CoolLaws
 pub mod KeyLaws
 pub mod RecencyLaws
 pub mod Found

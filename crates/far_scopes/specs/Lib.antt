@@ -1,5 +1,6 @@
 pub mod Recency
 pub mod Memory
+pub mod Cool
 pub mod Compaction
 pub mod SegmentObjects
 pub mod Placing

@@ -4,6 +4,7 @@ ghost use Rattle.std.specs.Borrow.{sem};
 ghost use Rattle.far_pointer.specs.Layout.{HasWord};
 ghost use Rattle.far_log.specs.Room.{fits_in, fit_in_order, spaces_of, space_of, capacity_of};
 ghost use Rattle.far_scopes.specs.Memory.{at_of as word_at, place_of, list_in, ChangesList, IsMemory};
+ghost use Rattle.far_scopes.specs.Cool.{cool_of, cool_in};
 ghost use Rattle.far_pointer.specs.declared.pointer.Pointer.{Pointer};
 ghost use Rattle.std.specs.Prelude.{not};
 ghost use Rattle.far_scopes.specs.Placing.{added, removed, marked, heated, sent_away, brought, replaced};
@@ -25,16 +26,20 @@ use std::marker::Model;
 pub(crate) struct LocalMemory<T> {
     words: Vec<Word>,
     region: Region<T>,
+    /// How many objects are local and not hot.
+    cool: usize,
 }
 
 impl<T> Model for LocalMemory<T> {
-    ghost use Rattle.far_scopes.specs.Memory.{Memory, IsMemory};
+    ghost use Rattle.far_scopes.specs.Memory.{Memory};
 
     ghost Value = { Memory T };
 
+    ghost use Rattle.far_scopes.specs.Cool.{IsCounted};
+
     ghost view = { λ m. record { words = m.words.items; room = m.region } };
 
-    ghost invariant = { λ m. IsMemory m.words.items m.region };
+    ghost invariant = { λ m. IsCounted m.words.items m.region m.cool };
 }
 
 impl<T: Elem> LocalMemory<T> {
@@ -47,6 +52,7 @@ impl<T: Elem> LocalMemory<T> {
         Ok(LocalMemory {
             words: Vec::new(alloc),
             region: Region::new(alloc, segments, size)?,
+            cool: 0,
         })
     }
 
@@ -67,6 +73,13 @@ impl<T: Elem> LocalMemory<T> {
         ensures { IsMemory self.now.words self.now.room }
     {
         let _region = &self.region;
+    }
+
+    /// How many objects are local and not hot.
+    pub fn cool(&self) -> usize
+        ensures { result ≡ cool_in self.now.words }
+    {
+        self.cool
     }
 
     /// The list of an object that is local, which has so many elements.
@@ -103,8 +116,10 @@ impl<T: Elem> LocalMemory<T> {
         ensures away { self.new ≡ sent_away self.old o }
         ensures list { ChangesList (list_in self.old) (list_in self.new) o None }
     {
-        let at = at_of(self.words[o]);
+        let word = self.words[o];
+        let at = at_of(word);
         self.words[o] = Word::remote();
+        self.cool -= cool_of(word);
         self.region.drop_at(at);
     }
 
@@ -117,6 +132,7 @@ impl<T: Elem> LocalMemory<T> {
         let Some(word) = self.words.pop() else {
             unreachable!()
         };
+        self.cool -= cool_of(word);
         self.region.drop_at(at_of(word));
     }
 
@@ -191,6 +207,7 @@ impl<T: Elem> LocalMemory<T> {
     {
         let word = self.words[o];
         self.words[o] = word.with_hot(true);
+        self.cool -= cool_of(word);
     }
 
     /// Object `o` is written: it is dirty and hot where it is local.
@@ -201,6 +218,7 @@ impl<T: Elem> LocalMemory<T> {
     {
         let word = self.words[o];
         self.words[o] = word.with_dirty().with_hot(true);
+        self.cool -= cool_of(word);
     }
 }
 
@@ -213,6 +231,16 @@ fn at_of(word: Word) -> At
         unreachable!()
     };
     at
+}
+
+// 1 for the word of a local object that is not hot, else 0.
+fn cool_of(word: Word) -> usize
+    ensures { result ≡ cool_of word }
+{
+    match word.read() {
+        Pointer::Local { hot, .. } if !hot => 1,
+        _ => 0,
+    }
 }
 
 // The word of a local object that is hot: dirty and without a far copy, or clean and with one.

@@ -1,5 +1,5 @@
 -- What came of a script up to a fault.
-use Rattle.std.proofs.Common.{◌≡◌, ◌+◌, ℕ, List, [], ◌++◌, length, Option, Some, None, Result, Ok, Err, IfErr, IsErrAnd, append_assoc, length-append, ◌∙◌, refl, sym, ap, subst, arith}
+use Rattle.std.proofs.Common.{◌≡◌, ◌+◌, ℕ, List, [], ◌++◌, length, Option, Some, None, Result, Ok, Err, IfErr, IsErrAnd, IsOk, OnOk, append_assoc, length-append, ◌∙◌, refl, sym, ap, subst, arith}
 use Rattle.std.specs.Prelude.{IfNone, IfSome, unwrap_or}
 use Rattle.std.specs.Io.KnownBytes.{Consumes}
 use Rattle.std.specs.declared.io.traits.Read.{Ghosts}
@@ -14,6 +14,11 @@ use Rattle.far_script.proofs.FlowLaws.{few-bytes, spent-nothing, spent-stays}
 pub handed-on : {T : Type 0} (r : Result T ShellFault) (why : ShellFault) (Q : ShellFault → Type 0) → IsErrAnd r (λ given. given ≡ why) → Q why → IfErr r Q
 handed-on (Ok x) why Q h q = tt
 handed-on (Err given) why Q h q = subst Q (sym h) q
+
+-- what a call tells that came to its end
+pub on-printed : {T E : Type 0} (r : Result T E) (P : Type 0) → IsOk r → OnOk r P → P
+on-printed (Ok x) P is h = h
+on-printed (Err e) P is h = cc is
 
 pub each-fault : {T : Type 0} (r : Result T ShellFault) (P Q : ShellFault → Type 0) → ((why : ShellFault) → P why → Q why) → IfErr r P → IfErr r Q
 each-fault (Ok x) P Q f h = tt

@@ -45,19 +45,20 @@ impl<T: Drop> From<AllocFailed<T>> for ShellFault {
     }
 }
 
-/// A growth of the shell's own that was refused.
-impl From<Refusal> for ShellFault {
-    ghost use Rattle.far_script.specs.declared.fault.ShellFault.TheVariants.{Memory};
-
-    ghost from_gives = { λ _ fault. fault ≡ Memory };
-
-    fn from(_e: Refusal) -> ShellFault {
-        ShellFault::Memory
-    }
-}
-
 impl ShellFault {
     ghost use Rattle.far_script.specs.Faults.{status_of};
+
+    /// The fault that ends a script if the shell itself is out of memory. Any other refusal is a reply and ends nothing, so it is
+    /// not to be passed here.
+    pub fn of_memory(refusal: Refusal) -> ShellFault
+        requires { refusal ≡ Refusal.NoMemory }
+        ensures { result ≡ ShellFault.Memory }
+    {
+        match refusal {
+            Refusal::NoMemory => ShellFault::Memory,
+            _ => unreachable!(),
+        }
+    }
 
     /// The exit status of a program that ends by the fault.
     pub fn status(self) -> u8

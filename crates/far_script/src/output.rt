@@ -1,10 +1,12 @@
 // Replies on their way out.
-ghost use Rattle.std.specs.Prelude.{◌≡◌, ◌≤◌, [], ◌++◌, length, take, true, OnOk, OnErr, IfErr};
+ghost use Rattle.std.specs.Prelude.{◌≡◌, ◌≤◌, [], ◌++◌, length, take, true, OnOk, OnErr, IfErr, IsOk};
 ghost use Rattle.std.specs.Io.KnownBytes.{Appends, Keeps};
 ghost use Rattle.far_script.specs.Flow.{Prints};
+ghost use Rattle.far_script.specs.Printing.{refusal_text};
 
 use super::fault::ShellFault;
 use super::page::Page;
+use super::print::refused;
 use far_types::Refusal;
 use std::alloc::Global;
 use std::io::{ErrorKind, Write};
@@ -58,13 +60,64 @@ impl Output {
         }
     }
 
-    /// Adds the reply at hand. Refused with `NoMemory` (1) alone, and then nothing is added.
-    pub fn add(&mut self) -> Result<(), Refusal>
+    /// Adds the reply at hand. If memory is refused, the fault is `Memory`, and nothing is added.
+    pub fn add(&mut self) -> Result<(), ShellFault>
         ensures ok { OnOk result (self.new.page ≡ self.old.page ++ self.old.reply) }
         ensures err { OnErr result (self.new.page ≡ self.old.page) }
         ensures failed { self.new.failed ≡ self.old.failed }
+        ensures memory { IfErr result (λ fault. fault ≡ ShellFault.Memory) }
     {
-        self.page.bytes(self.reply.as_slice())
+        match self.page.bytes(self.reply.as_slice()) {
+            Ok(()) => Ok(()),
+            Err(refusal) => Err(ShellFault::of_memory(refusal)),
+        }
+    }
+
+    /// Adds the reply at hand, if it was printed. If it was not, memory was refused: the fault is `Memory`, and nothing is added. It
+    /// is built into its callers, since each step ends with it.
+    #[inline(always)]
+    pub fn add_printed(&mut self, printed: Result<(), Refusal>) -> Result<(), ShellFault>
+        requires { IfErr printed (λ e. e ≡ Refusal.NoMemory) }
+        ensures printed { OnOk result (IsOk printed) }
+        ensures ok { OnOk result (self.new.page ≡ self.old.page ++ self.old.reply) }
+        ensures err { OnErr result (self.new.page ≡ self.old.page) }
+        ensures memory { IfErr result (λ fault. fault ≡ ShellFault.Memory) }
+    {
+        match printed {
+            Ok(()) => {
+                self.add()?;
+                Ok(())
+            }
+            Err(refusal) => Err(ShellFault::of_memory(refusal)),
+        }
+    }
+
+    /// Adds a text as a reply of its own. If memory is refused, the fault is `Memory`, and nothing is added.
+    pub fn add_text(&mut self, text: &str) -> Result<(), ShellFault>
+        ensures ok { OnOk result (self.new.page ≡ self.old.page ++ text.now) }
+        ensures err { OnErr result (self.new.page ≡ self.old.page) }
+        ensures memory { IfErr result (λ fault. fault ≡ ShellFault.Memory) }
+    {
+        match self.page.text(text) {
+            Ok(()) => Ok(()),
+            Err(refusal) => Err(ShellFault::of_memory(refusal)),
+        }
+    }
+
+    /// Adds the line of a refusal. If memory is refused, the fault is `Memory`, and nothing is added.
+    pub fn add_refusal(&mut self, refusal: &Refusal) -> Result<(), ShellFault>
+        ensures ok { OnOk result (self.new.page ≡ self.old.page ++ refusal_text refusal.now) }
+        ensures err { OnErr result (self.new.page ≡ self.old.page) }
+        ensures memory { IfErr result (λ fault. fault ≡ ShellFault.Memory) }
+    {
+        self.reply.truncate(0);
+        match refused(&mut self.reply, refusal) {
+            Ok(()) => {
+                self.add()?;
+                Ok(())
+            }
+            Err(unprinted) => Err(ShellFault::of_memory(unprinted)),
+        }
     }
 
     /// Writes what was gathered, and flushes the writer. Where that fails the fault is `Output`; what the writer took is

@@ -11,7 +11,6 @@ use super::threads::print_sessions;
 use far_commands::{Agents, Progress, Resources, answer_line, open_table};
 use far_script::bounded::MAX_BYTES;
 use far_script::opening::first_line;
-use far_script::print::refused;
 use far_script::{FirstLine, Input, Line, Opening, Output, Page, ShellFault};
 use far_store::{AgentStore, FarStore, FarTickets};
 use far_types::Refusal;
@@ -59,14 +58,13 @@ fn read_first(alloc: Global, line: &str, output: &mut Output) -> Result<FirstLin
     ensures quiet { OnOk result (output.new.page ≡ output.old.page) }
     ensures err { IfErr result (λ fault. (text : List ℕ) × (output.new.page ≡ output.old.page ++ text) × Rejection fault (IsUnknown line.now) text) }
 {
-    match first_line(alloc, line)? {
-        Some(first) => Ok(first),
-        None => {
-            output.reply.truncate(0);
-            output.reply.text("syntax command 1\n")?;
-            output.add()?;
+    match first_line(alloc, line) {
+        Ok(Some(first)) => Ok(first),
+        Ok(None) => {
+            output.add_text("syntax command 1\n")?;
             Err(ShellFault::BadStart)
         }
+        Err(refusal) => Err(ShellFault::of_memory(refusal)),
     }
 }
 
@@ -117,14 +115,12 @@ fn open<S: FarStore>(
 {
     match open_table(alloc, store, opening) {
         Ok(world) => {
-            output.page.text("ok\n")?;
+            output.add_text("ok\n")?;
             Ok(Progress::new(world))
         }
         Err(Refusal::NoMemory) => Err(ShellFault::Memory),
         Err(refusal) => {
-            output.reply.truncate(0);
-            refused(&mut output.reply, &refusal)?;
-            output.add()?;
+            output.add_refusal(&refusal)?;
             Err(ShellFault::BadStart)
         }
     }
@@ -154,7 +150,10 @@ fn serve<
     let first = first_command(rt.alloc(), input, output, writer)?;
     match first {
         FirstLine::Schema(opening) => {
-            let store = resources.store(STORE_CAPACITY)?;
+            let store = match resources.store(STORE_CAPACITY) {
+                Ok(store) => store,
+                Err(refusal) => return Err(ShellFault::of_memory(refusal)),
+            };
             let mut progress = open(rt.alloc(), store, opening, output)?;
             serve_lines(resources, &mut progress, input, output, writer)?;
             Ok(())

@@ -67,8 +67,8 @@ pub fn print_sessions<T: AllocGlobal + Sync + Threads + Wait>(
     match run_sessions(rt, rt.alloc(), sessions, edits) {
         Ok(told) => {
             output.reply.truncate(0);
-            outcome(&mut output.reply, &told)?;
-            output.add()?;
+            let printed = outcome(&mut output.reply, &told);
+            output.add_printed(printed)?;
             Ok(())
         }
         Err(stop) => Err(fault_of(stop)),

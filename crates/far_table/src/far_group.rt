@@ -1,16 +1,13 @@
 // A row group whose columns were read from the far store, lent to aggregates.
-ghost use Rattle.std.specs.Prelude.{◌≡◌, []};
-ghost use Rattle.far_codec.specs.Lent.{IsForm};
-ghost use Rattle.far_offload.specs.Columns.{cells_meant};
+ghost use Rattle.std.specs.Prelude.{◌≡◌};
 
 use crate::contents::{Content, content_for};
 use crate::offload_build::{OffloadBuild, OffloadCarried};
 use far_aggregates::LendGroup;
-use far_codec::kind_of;
 use far_offload::Column;
 use far_rows::Rows;
 use far_store::FarTickets;
-use far_types::{Kind, Spec};
+use far_types::Spec;
 use std::marker::Model;
 
 /// The row group of a carried build. The contents that were read are those of the rows as they are now. Contracts see the rows and
@@ -66,24 +63,12 @@ impl<'a, S: FarTickets> LendGroup for FarGroup<'a, S> {
             return None;
         }
         match content_for(self.contents, number) {
-            Some(bytes) => Some(column_of(number, bytes)),
+            Some(bytes) => Some(Column::of_content(number, bytes)),
             None => None,
         }
     }
 
     fn alive(&self) -> &[bool] {
         self.alive
-    }
-}
-
-/// The column of a content. Its bytes came from a store, so they are tested before a value is read. Bytes that are no far form, which only
-/// a store that breaks its contract gives, are a column without values. Allocates nothing.
-pub(crate) fn column_of(number: u32, bytes: &[u8]) -> Column<'_>
-    ensures form { IsForm bytes.now → result ≡ (number, cells_meant bytes.now) }
-    ensures other { (¬ IsForm bytes.now) → result ≡ (number, []) }
-{
-    match kind_of(bytes) {
-        Some(Kind::Int) | Some(Kind::Text) => Column::of_form(number, bytes),
-        None => Column::of_numbers(number, &[]),
     }
 }

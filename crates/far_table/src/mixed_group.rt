@@ -3,7 +3,6 @@ ghost use Rattle.std.specs.Prelude.{◌≡◌};
 ghost use Rattle.far_table.specs.MixedGroups.{AreRead};
 
 use crate::contents::{Content, content_for};
-use crate::far_group::column_of;
 use crate::row_group::RowGroup;
 use far_aggregates::LendGroup;
 use far_offload::Column;
@@ -62,7 +61,7 @@ impl<'a, S: FarTickets> LendGroup for MixedGroup<'a, S> {
             return Some(column);
         }
         match content_for(self.contents, number) {
-            Some(bytes) => Some(column_of(number, bytes)),
+            Some(bytes) => Some(Column::of_content(number, bytes)),
             None => None,
         }
     }

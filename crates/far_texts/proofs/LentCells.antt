@@ -1,18 +1,22 @@
 -- Texts of a part of a column that are lent.
-use Rattle.std.proofs.Common.{◌≡◌, ℕ, zero, suc, ◌+◌, ◌-◌, ◌/◌, ◌^◌, ◌<◌, ◌≤◌, Bool, true, false, not, cond, ltb, List, [], ◌∷◌, length, get_or, take, drop, Option, None, Some, refl, sym, ap, subst, ◌∙◌, arith, mul-le-mul_right}
+use Rattle.std.proofs.Common.{◌≡◌, ℕ, zero, suc, ◌+◌, ◌-◌, ◌*◌, ◌/◌, ◌%◌, ◌^◌, ◌<◌, ◌≤◌, Bool, true, false, not, cond, ltb, List, [], ◌∷◌, length, get_or, take, drop, Option, None, Some, refl, sym, ap, subst, ◌∙◌, arith, mul-le-mul_right}
 use Rattle.std.specs.Prelude.{slice_get, slice_range}
 use Rattle.std.specs.List.{zip}
-use Rattle.std.proofs.lemmas.Bool.{lt-ltb}
+use Rattle.std.specs.Option.{option_and_then}
+use Rattle.std.proofs.lemmas.Bool.{lt-ltb, ltb-true}
 use Rattle.std.proofs.lemmas.List.{drop_more, length-take, length-drop, get_or-take, get_or-drop}
 use Rattle.std.proofs.Math.Nat.{div-mul-le_self}
-use Rattle.std.proofs.lemmas.Nat.{le-div, div_below}
+use Rattle.std.proofs.lemmas.Nat.{div-add-mod', le-div, div_below}
 use Rattle.std.proofs.lemmas.Option.{slice_get_within, get_or_from_slice_get}
 use Rattle.far_types.specs.declared.refusal.Refusal.{Refusal}
 use Rattle.far_types.specs.declared.refusal.Refusal.TheVariants.{NoRow}
 use Rattle.far_scopes.specs.Movement.{Movement, is_local}
 use Rattle.far_scopes.specs.Refusing.{absent, lend_refusal, first_absent}
-use Rattle.far_texts.specs.Texts.{Texts, HasGroups, object_at}
+use Rattle.far_codec.specs.TextForm.{texts_meaning}
+use Rattle.far_texts.specs.Texts.{Texts, Lists, HasGroups, IsTextColumn, object_at, texts_in}
 use Rattle.far_texts.specs.Refusing.{text_refusal}
+use Rattle.far_texts.specs.Lending.{IsCursor}
+use Rattle.far_texts.proofs.Groups.{text-lent}
 
 module _ {K X : Type 0} where
   -- a list beside none
@@ -97,3 +101,41 @@ few-texts c has = omega (arith, has.held, mul-le-mul_right {m = length c.objects
 -- a part of a list beside as long a part of another
 pub zip-part : {K X : Type 0} (xs : List X) (ys : List K) (from to : ℕ) → zip (drop from xs) (slice_range ys from to) ≡ zip (slice_range xs from to) (slice_range ys from to)
 zip-part xs ys from to = zip-front (to - from) (drop from xs) (slice_range ys from to) (omega (arith, length-take (to - from) (drop from ys)))
+
+-- where a place lies that stands so far from the beginning of a row group
+pub split-place : (place group index size : ℕ) → index < size → place ≡ group * size + index → (group ≡ place / size) × (index ≡ place % size)
+split-place place group index size inside at =
+    let some : 0 < size = omega (arith, inside) in
+    let high : place / size < group + 1 = div_below place size (group + 1) some (omega (arith, at, inside)) in
+    let low : group ≤ place / size = le-div group place size some (omega (arith, at)) in
+    let same : group ≡ place / size = omega (arith, high, low) in
+    let whole : place / size * size + place % size ≡ place = div-add-mod' place size in
+    (same, omega (arith, whole, at, ap (λ n. n * size) same))
+
+-- by whether a place is there and its object is local
+of-free : (below local : Bool) (first name : Refusal) → cond (not below) (Some first) (cond (not local) (Some name) None) ≡ None → (below ≡ true) × (cond (not local) (Some name) None ≡ None)
+of-free true local first name free = (refl, free)
+of-free false local first name free = absurd cc
+
+module _ {K : Type 0} (content : K → List ℕ) (m : Movement ℕ K) (c : Texts) where
+  -- a place whose text can be lent is there, and its object is local
+  pub lent-here : (place : ℕ) → text_refusal content m c place ≡ None → (place < c.len) × (lend_refusal m (get_or c.objects (place / c.size) 0) ≡ None)
+  lent-here place free =
+      let both = of-free (ltb place c.len) (is_local m (object_at c place)) NoRow (absent m (object_at c place)).1 free in
+      (ltb-true place c.len both.0, both.1)
+
+  -- so is the object of the row group in which it stands
+  pub group-here : (place group index : ℕ) → HasGroups c → index < c.size → place ≡ group * c.size + index → text_refusal content m c place ≡ None → (group < length c.objects) × (lend_refusal m (get_or c.objects group 0) ≡ None)
+  group-here place group index has inside at free =
+      let here = lent-here place free in
+      let same = (split-place place group index c.size inside at).0 in
+      let begun : place / c.size < length c.objects = div_below place c.size (length c.objects) has.some (omega (arith, here.0, has.held)) in
+      (omega (arith, begun, same), subst (λ g. lend_refusal m (get_or c.objects g 0) ≡ None) (sym same) here.1)
+
+-- the text at a cursor is that of its place
+pub text-of-cursor : (lists : Lists) (c : Texts) (is : IsTextColumn lists c) (has : HasGroups c) (place group index : ℕ) (form : List ℕ) (text : Option (List ℕ)) → place < c.len → IsCursor lists c place group index form → index < c.size → text ≡ option_and_then (λ t. t) (slice_get (texts_meaning form) index) → slice_get (texts_in lists c) place ≡ Some text
+text-of-cursor lists c is has place group index form text below cursor inside told =
+    let parts = split-place place group index c.size inside cursor.at in
+    text-lent lists c is has place form text below
+    (subst (λ g. lists (get_or c.objects g 0) ≡ Some form) parts.0 cursor.lent)
+    (subst (λ i. text ≡ option_and_then (λ t. t) (slice_get (texts_meaning form) i)) parts.1 told)

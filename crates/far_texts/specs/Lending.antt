@@ -1,12 +1,12 @@
 -- Texts of a part of a column that are lent.
-use Rattle.std.specs.Prelude.{◌≡◌, ℕ, ◌+◌, ◌-◌, ◌/◌, ◌≤◌, ◌<◌, nat_lt, ◌||◌, if◌then◌else◌, List, [], ◌∷◌, Option, None, slice_range}
+use Rattle.std.specs.Prelude.{◌≡◌, ℕ, ◌+◌, ◌-◌, ◌*◌, ◌/◌, ◌≤◌, ◌<◌, nat_lt, ◌||◌, if◌then◌else◌, List, [], ◌∷◌, length, Option, None, Some, slice_index, slice_range}
 use Rattle.std.specs.Option.{option_or}
 use Rattle.far_types.specs.declared.refusal.Refusal.{Refusal}
 use Rattle.far_types.specs.declared.refusal.Refusal.TheVariants as refusal
 use Rattle.far_types.specs.FirstOf.{first_of}
 use Rattle.far_scopes.specs.Movement.{Movement}
 use Rattle.far_scopes.specs.Refusing.{first_absent}
-use Rattle.far_texts.specs.Texts.{Texts, HasGroups, lists_of, IsTextColumn}
+use Rattle.far_texts.specs.Texts.{Texts, Lists, HasGroups, lists_of, IsTextColumn, IsGroupForm}
 use Rattle.far_texts.specs.Refusing.{text_refusal}
 
 -- the objects of the row groups that a part touches; an empty part touches none
@@ -23,3 +23,17 @@ pub record AreLent {K : Type 0} (content : K → List ℕ) (m : Movement ℕ K) 
   pub groups : HasGroups c
   pub within : place + count ≤ c.len
   pub here : (p : ℕ) → place ≤ p → p < place + count → text_refusal content m c p ≡ None
+
+-- internal: a place that is gone to, the row group that it lies in or that ends before it, where it stands from that one's
+-- beginning, and the form of that row group
+pub record IsCursor (lists : Lists) (c : Texts) (place group index : ℕ) (form : List ℕ) : Type 0 where
+  pub begun : group < length c.objects
+  pub at : place ≡ group * c.size + index
+  pub within : index ≤ c.size
+  pub lent : lists (slice_index c.objects group) ≡ Some form
+  pub is : IsGroupForm c group form
+
+-- internal: the texts are lent, and a cursor stands at the first of them, if there is one
+pub record AreRead {K : Type 0} (content : K → List ℕ) (m : Movement ℕ K) (c : Texts) (place count group index : ℕ) (form : List ℕ) : Type 0 where
+  pub lent : AreLent content m c place count
+  pub cursor : 0 < count → IsCursor (lists_of content m) c place group index form

@@ -1,8 +1,9 @@
 // A column of texts.
-ghost use Rattle.std.specs.Prelude.{◌≡◌, ◌<◌, ◌≤◌, ◌^◌, ℕ, [], length, slice_get, slice_index};
+ghost use Rattle.std.specs.Prelude.{◌≡◌, ◌<◌, ◌≤◌, ◌^◌, ◌/◌, ◌%◌, ℕ, [], length, slice_get, slice_index};
 ghost use Rattle.far_texts.specs.Texts.{Lists, HasGroups, IsTextColumn};
 
 mod cells;
+mod cursor;
 mod lengths;
 mod pushing;
 mod reading;
@@ -10,6 +11,7 @@ mod setting;
 mod together;
 
 pub use cells::{TextCell, TextCells};
+use far_reciprocal::Reciprocal;
 use std::alloc::Global;
 use std::marker::Model;
 pub use together::{fill_texts, may_push_texts, push_texts};
@@ -24,6 +26,8 @@ pub struct TextColumn {
     column: u32,
     // How many places a row group has.
     size: usize,
+    // A hint for divisions by it.
+    reciprocal: Reciprocal,
     // How many bytes the form of a row group may have.
     limit: usize,
     // The object of each row group.
@@ -52,9 +56,11 @@ impl TextColumn {
         ensures empty { result ≡ record { column = column; size = size; limit = limit; objects = []; len = 0 } }
         ensures is { (lists : Lists) → IsTextColumn lists result }
     {
+        let reciprocal = Reciprocal::new(size);
         TextColumn {
             column,
             size,
+            reciprocal,
             limit,
             objects: Vec::new(alloc),
             len: 0,
@@ -74,5 +80,22 @@ impl TextColumn {
         ensures { result ≡ slice_get self.now.objects group }
     {
         self.objects.get(group).copied()
+    }
+
+    // The row group of a place.
+    #[inline(always)]
+    fn group_of(&self, place: usize) -> usize
+        ensures { result ≡ place / self.now.size }
+    {
+        self.reciprocal.quotient(place, self.size)
+    }
+
+    // Where a place stands in its row group.
+    #[inline(always)]
+    fn index_in(&self, group: usize, place: usize) -> usize
+        requires { group ≡ place / self.now.size }
+        ensures { result ≡ place % self.now.size }
+    {
+        place - group * self.size
     }
 }

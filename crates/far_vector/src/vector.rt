@@ -9,6 +9,7 @@ mod reading;
 mod writing;
 
 use far_codec::Elem;
+use far_reciprocal::Reciprocal;
 use far_scopes::Objects;
 use far_store::FarTickets;
 use far_types::Refusal;
@@ -31,6 +32,7 @@ struct Position {
 pub struct FarVector<T: Elem> {
     column: u32,
     size: usize,
+    reciprocal: Reciprocal,
     objects: Vec<u32>,
     len: usize,
     blank: T,
@@ -61,9 +63,11 @@ impl<T: Elem> FarVector<T> {
         ensures memory { IfErr result (λ e. e ≡ Refusal.NoMemory) }
     {
         let size = size as usize;
+        let reciprocal = Reciprocal::new(size);
         Ok(FarVector {
             column,
             size,
+            reciprocal,
             objects: Vec::new(alloc),
             len: 0,
             blank,
@@ -93,7 +97,7 @@ impl<T: Elem> FarVector<T> {
         self.objects.get(group as usize).copied()
     }
 
-    // A place that some row group has. A division finds the row group.
+    // A place that some row group has.
     #[inline(always)]
     fn position<S: FarTickets>(&self, objects: &Objects<T, S>, i: usize) -> Position
         requires is { IsVector (list_of T.meaning S.content objects.now) self.now }
@@ -106,10 +110,11 @@ impl<T: Elem> FarVector<T> {
         ensures list { IsSomeAnd (list_of T.meaning S.content objects.now result.object) (λ list. length list ≡ self.now.size) }
         ensures shaped { IsShaped self.now }
     {
-        self.position_in(objects, i / self.size, i)
+        let group = self.reciprocal.quotient(i, self.size);
+        self.position_in(objects, group, i)
     }
 
-    // The place of the next element, whose row group is begun. That is the last one, so that no division is made.
+    // The place of the next element, whose row group is begun: that is the last one.
     #[inline(always)]
     fn next_position<S: FarTickets>(&self, objects: &Objects<T, S>) -> Position
         requires is { IsVector (list_of T.meaning S.content objects.now) self.now }

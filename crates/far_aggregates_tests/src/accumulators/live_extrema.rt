@@ -170,8 +170,10 @@ fn follows_rows(live: &mut LiveExtrema, key: &Option<Key>) -> Result<bool, Refus
     live.make_room(1);
     let before = live.span(1, key);
     live.see_under(1, key, 4)?;
-    let stood = live.span(1, key);
-    live.see_over(1, key, 9, stood)?;
+    let Some(span) = live.span(1, key) else {
+        return Ok(false);
+    };
+    live.see_over(1, key, 9, span);
     if live.span(1, key) != Some((4, 9)) {
         return Ok(false);
     }
@@ -194,4 +196,24 @@ fn a_span_follows_rows_alone(alloc: Global) -> Result<bool, Refusal> {
 #[test]
 fn a_span_follows_a_row_and_is_put_back(rt: HostRuntime) {
     assert!(rt; a_span_follows_rows_alone(rt.alloc()) == Ok(true));
+}
+
+/// Whether rows under a key that a row group has are seen without memory, and each call returns what stood there. The first row
+/// alone may be refused for want of memory.
+fn knows_a_key(live: &mut LiveExtrema, key: &Option<Key>) -> Result<bool, Refusal> {
+    live.make_room(1);
+    let first = live.see_under(1, key, 4)?;
+    let beyond = live.see_under(1, key, 9);
+    let within = live.see_under(1, key, 5);
+    Ok(first.is_none() && beyond == Ok(Some((4, 4))) && within == Ok(Some((4, 9))))
+}
+
+fn knows_a_text(alloc: Global) -> Result<bool, Refusal> {
+    let key = key_of(alloc, Name::Word("a"))?;
+    knows_a_key(&mut LiveExtrema::new(alloc, 0), &key)
+}
+
+#[test]
+fn a_row_under_a_known_key_takes_no_memory(rt: HostRuntime) {
+    assert!(rt; knows_a_text(rt.alloc()) == Ok(true));
 }

@@ -1,14 +1,14 @@
 // Parts that are placed, found, written, dropped and moved.
 use crate::log::script::Case;
 use crate::log::script::Line::{
-    Capacity, Compact, Drop, DropEach, Fits, Has, HasEach, IsFull, Place, PlaceEach, Uses,
-    WriteFirst, WriteRange,
+    Capacity, Compact, Drop, DropEach, Fits, Has, HasEach, IsFull, Place, PlaceEach, PlaceInEach,
+    Uses, WriteFirst, WriteRange,
 };
 use far_log::Region;
 use far_types::Refusal;
 use std::test::Fail;
 
-static CASES: [Case; 11] = [
+static CASES: [Case; 14] = [
     Case {
         name: "a place is full where no segment has the space",
         segments: 2,
@@ -94,6 +94,70 @@ static CASES: [Case; 11] = [
             WriteFirst((0, 2), 9),
             Has((0, 2), &[9, 0, 0]),
             Has((0, 0), &[1, 2]),
+        ],
+    },
+    Case {
+        name: "lists of two lengths in turn go to the lowest segments of a hundred that take them",
+        segments: 100,
+        size: 4,
+        lines: &[
+            PlaceInEach(&[1, 2, 3], 0, 80, 0),
+            PlaceInEach(&[4], 0, 40, 3),
+            Place(&[1, 2, 3], (80, 0)),
+            Place(&[4], (40, 3)),
+            Place(&[1, 2, 3], (81, 0)),
+            Drop((7, 0)),
+            Fits(3, true),
+            Place(&[5, 6, 7], (82, 0)),
+            Drop((7, 3)),
+            Place(&[5, 6, 7, 8], (7, 0)),
+            Place(&[1, 2, 3], (83, 0)),
+            Place(&[4], (41, 3)),
+            Has((7, 0), &[5, 6, 7, 8]),
+            Has((40, 0), &[1, 2, 3]),
+            Has((40, 3), &[4]),
+        ],
+    },
+    Case {
+        name: "and to those of few",
+        segments: 4,
+        size: 4,
+        lines: &[
+            Place(&[1, 2, 3], (0, 0)),
+            Place(&[4, 5, 6], (1, 0)),
+            Place(&[7], (0, 3)),
+            Place(&[1, 2, 3], (2, 0)),
+            Place(&[8], (1, 3)),
+            Drop((0, 3)),
+            Drop((0, 0)),
+            Place(&[9, 9], (0, 0)),
+            Place(&[4, 5, 6], (3, 0)),
+            IsFull(&[1, 2, 3]),
+            Place(&[8, 8], (0, 2)),
+            Place(&[7], (2, 3)),
+            Has((1, 0), &[4, 5, 6]),
+            Has((1, 3), &[8]),
+            Uses(15, 1),
+        ],
+    },
+    Case {
+        name: "a part stays while others come into the segments around it",
+        segments: 3,
+        size: 3,
+        lines: &[
+            Place(&[1, 2, 3], (0, 0)),
+            Place(&[4], (1, 0)),
+            Place(&[5, 6, 7], (2, 0)),
+            Drop((2, 0)),
+            Drop((0, 0)),
+            Place(&[8, 9], (0, 0)),
+            Place(&[1, 2], (1, 1)),
+            Place(&[3, 4, 5], (2, 0)),
+            Compact(1, &[1, 0], Err(Refusal::RegionFull)),
+            Has((0, 0), &[8, 9]),
+            Has((1, 0), &[4]),
+            Has((1, 1), &[1, 2]),
+            Has((2, 0), &[3, 4, 5]),
         ],
     },
     Case {

@@ -27,6 +27,8 @@ pub enum Line {
     HasEach(u32, u32, u32),
     /// The part at each offset of a range of the first segment is dropped.
     DropEach(u32, u32),
+    /// A list is placed again and again, at one offset of each segment of a range.
+    PlaceInEach(&'static [i64], u16, u16, u32),
     /// A list of so many elements fits, or does not.
     Fits(usize, bool),
     /// So many elements lie in parts, and so many more are free behind the last ones.
@@ -100,6 +102,15 @@ fn drop_each(region: &mut Region<i64>, from: u32, to: u32) -> bool {
     true
 }
 
+fn place_in_each(region: &mut Region<i64>, list: &[i64], from: u16, to: u16, offset: u32) -> bool {
+    for segment in from..to {
+        if !goes_to(region, list, Ok(place_of((segment, offset)))) {
+            return false;
+        }
+    }
+    true
+}
+
 /// Whether a segment whose parts begin at these offsets is compacted so.
 fn compacts(
     alloc: Global,
@@ -128,6 +139,9 @@ impl Line {
             Line::PlaceEach(from, to, by) => place_each(region, from, to, by),
             Line::HasEach(from, to, by) => has_each(region, from, to, by),
             Line::DropEach(from, to) => drop_each(region, from, to),
+            Line::PlaceInEach(list, from, to, offset) => {
+                place_in_each(region, list, from, to, offset)
+            }
             Line::Fits(len, fits) => region.fits(len) == fits,
             Line::Uses(used, space) => region.used() == used && region.space() == space,
             Line::Capacity(all, each) => region.capacity() == all && region.size() == each,

@@ -1,6 +1,6 @@
 // What rows give to an aggregate, in hand and lent.
 use crate::types::samples::{row_of, spec, text};
-use far_types::{Key, LentRow, Op, PairRef, Refusal, Row, Spec, Test, number_key};
+use far_types::{CellRef, Key, LentRow, Op, PairRef, Refusal, Row, Spec, Test, number_key};
 use std::alloc::Global;
 
 /// Whether a row gives this pair, in hand and lent.
@@ -101,15 +101,48 @@ fn a_row_gives_its_value_under_its_key_where_all_tests_pass(rt: HostRuntime) {
     }
 }
 
-/// The pair of the row of a number and a text, by the totals of its number under the number.
-fn number_pair(alloc: Global, number: i64) -> Result<Option<(Option<Key>, i64)>, Refusal> {
-    let row = row_of(alloc, Some(number), "ab")?;
-    let spec = Spec::totals(alloc, 0).by(0);
-    spec.lend_pair(&row).pair(alloc, None)
+/// The pair of a row by the totals of its number, 7, under its second cell, where this key is at hand.
+fn pair_under(
+    alloc: Global,
+    cell: CellRef<'_>,
+    earlier: Option<Key>,
+) -> Result<Option<(Option<Key>, i64)>, Refusal> {
+    let mut row = LentRow::new();
+    row.push(CellRef::Int(7));
+    row.push(cell);
+    let spec = Spec::totals(alloc, 0).by(1);
+    spec.lend_pair(&row).pair(alloc, earlier)
 }
 
 #[test]
 fn a_row_gives_its_value_under_its_number(rt: HostRuntime) {
-    assert!(rt; number_pair(rt.alloc(), 5) == Ok(Some((number_key(Some(5)), 5))));
+    let pair = pair_under(rt.alloc(), CellRef::Int(5), None);
+    assert!(rt; pair == Ok(Some((Some(Key::Int(5)), 7))));
     assert!(rt; number_key(Some(5)) == Some(Key::Int(5)) && number_key(None).is_none());
+}
+
+/// Whether a row gives its value under a text where this key is at hand.
+fn is_under_text(alloc: Global, earlier: Option<Key>, bytes: &str) -> Result<bool, Refusal> {
+    let key = Key::Text(text(alloc, bytes)?);
+    let pair = pair_under(alloc, CellRef::Text(bytes), earlier)?;
+    Ok(pair == Some((Some(key), 7)))
+}
+
+/// The same where a text is at hand.
+fn is_over_text(alloc: Global, earlier: &str, bytes: &str) -> Result<bool, Refusal> {
+    let earlier = Some(Key::Text(text(alloc, earlier)?));
+    is_under_text(alloc, earlier, bytes)
+}
+
+#[test]
+fn a_pair_is_made_over_an_earlier_key(rt: HostRuntime) {
+    for (earlier, bytes) in [("", "ab"), ("abc", "ab"), ("abc", "")] {
+        assert!(rt;
+            is_over_text(rt.alloc(), earlier, bytes) == Ok(true),
+            "{earlier} {bytes}"
+        );
+    }
+    assert!(rt; is_under_text(rt.alloc(), Some(Key::Int(3)), "ab") == Ok(true));
+    let number = pair_under(rt.alloc(), CellRef::Int(5), Some(Key::Int(3)));
+    assert!(rt; number == Ok(Some((Some(Key::Int(5)), 7))));
 }

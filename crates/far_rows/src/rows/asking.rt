@@ -64,7 +64,8 @@ impl<S: FarTickets> Rows<S> {
     {
         // It tells that a table has at most 16 columns.
         let len = self.len();
-        self.here((len / self.size as usize) as u32)?;
+        let group = self.reciprocal.quotient(len, self.size as usize);
+        self.here(group as u32)?;
         may_push_all_texts(&self.text_objects, &self.texts, row.texts())?;
         may_push_numbers(&self.number_objects, &self.numbers)
     }

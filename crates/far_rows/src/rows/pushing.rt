@@ -174,7 +174,10 @@ impl<S: FarTickets> Rows<S> {
     {
         let _number = self.number_objects.number();
         let _number = self.text_objects.number();
-        let begins = self.alive.len() % self.size as usize == 0;
+        let index = self
+            .reciprocal
+            .remainder(self.alive.len(), self.size as usize);
+        let begins = index == 0;
         self.alive.push()?;
         let pushed = push_values(
             alloc,

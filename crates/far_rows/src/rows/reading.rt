@@ -118,7 +118,7 @@ impl<S: FarTickets> Rows<S> {
     {
         // It tells that there are fewer places than numbers of 32 bits.
         let _len = self.len();
-        self.here((place / self.size as usize) as u32)?;
+        self.here(self.group_of(place))?;
         Ok(RowRef::new(self, place))
     }
 

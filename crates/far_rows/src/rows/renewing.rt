@@ -52,6 +52,7 @@ impl<S: FarTickets> Rows<S> {
         Rows {
             slots: self.slots,
             size: self.size,
+            reciprocal: self.reciprocal,
             numbers: self.numbers,
             texts: self.texts,
             number_objects: self.number_objects.renew(numbers),

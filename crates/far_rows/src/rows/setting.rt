@@ -64,13 +64,13 @@ impl<S: FarTickets> Rows<S> {
     }
 
     // The row group of a place.
-    fn group_of(&self, place: usize) -> u32
+    pub(super) fn group_of(&self, place: usize) -> u32
         requires { place < length self.now.alive }
         ensures { result ≡ place / self.now.size }
     {
         // It tells that there are fewer places than numbers of 32 bits.
         let _len = self.len();
-        (place / self.size as usize) as u32
+        self.reciprocal.quotient(place, self.size as usize) as u32
     }
 
     // Whether a number may be put at a place of a column of numbers, which is of this row group: a division that is not made

@@ -1,7 +1,9 @@
 // The compaction of a segment.
-ghost use Rattle.std.specs.Prelude.{◌≡◌, ◌≢◌, ℕ, ◌<◌, ◌≤◌, ◌↔◌, ◌⊎◌, length, map, All, AllPairs, OnOk, OnErr, IfOk, IfErr, IsErrOf};
+ghost use Rattle.std.specs.Prelude.{◌≡◌, ◌≢◌, ℕ, ◌+◌, ◌<◌, ◌≤◌, ◌↔◌, ◌⊎◌, if◌then◌else◌, length, map, All, AllPairs, OnOk, OnErr, IfOk, IfErr, IsErrOf};
 ghost use Rattle.far_log.specs.Changes.{HasNoEmptyOther};
+ghost use Rattle.far_pointer.specs.Layout.{is_hot};
 ghost use Rattle.far_scopes.specs.Memory.{list_in};
+ghost use Rattle.far_scopes.specs.Cool.{cool_in};
 ghost use Rattle.far_scopes.specs.Compaction.{IsCompacted};
 ghost use Rattle.far_scopes.specs.SegmentObjects.{offset_if, AreObjects, AreRising, AreHotFirst, Settles};
 
@@ -36,7 +38,7 @@ impl<T: Elem> LocalMemory<T> {
         let moving = hot_first(alloc, &self.words, segment)?;
         let order = offsets_of(alloc, &moving)?;
         let moved = self.region.compact(alloc, segment, &order)?;
-        settle(&mut self.words, &moving, &moved);
+        self.cool += settle(&mut self.words, &moving, &moved);
         Ok(())
     }
 }
@@ -109,18 +111,30 @@ fn offsets_of(alloc: Global, objects: &[SegmentObject]) -> Result<Vec<u32>, Refu
     Ok(offsets)
 }
 
-// The words of objects say where their parts lie now, and that they are not hot.
-fn settle(words: &mut [Word], objects: &[SegmentObject], moved: &Moved)
+// The words of objects say where their parts lie now, and that they are not hot. Answers how many were hot.
+fn settle(words: &mut [Word], objects: &[SegmentObject], moved: &Moved) -> usize
     requires within { All (λ found. found.object < length words.old) objects.now }
     requires once { AllPairs (λ o p. o ≢ p) (map (λ found. found.object) objects.now) }
     requires long { length moved.now.offsets.items ≡ length objects.now }
-    ensures { Settles words.old words.new objects.now moved.now.segment moved.now.offsets.items (length objects.now) }
+    ensures settled { Settles words.old words.new objects.now moved.now.segment moved.now.offsets.items (length objects.now) }
+    ensures cooled { cool_in words.new ≡ cool_in words.old + result }
 {
+    let mut cooled = 0;
     for (k, found) in objects.iter().enumerate() {
         let at = At {
             segment: moved.segment,
             offset: moved.offsets[k],
         };
-        words[found.object] = words[found.object].with_at(at).with_hot(false);
+        let word = words[found.object];
+        words[found.object] = word.with_at(at).with_hot(false);
+        cooled += hot_of(word);
     }
+    cooled
+}
+
+// 1 for the word of an object that is hot, else 0.
+fn hot_of(word: Word) -> usize
+    ensures { result ≡ (if is_hot word then 1 else 0) }
+{
+    if word.hot() { 1 } else { 0 }
 }

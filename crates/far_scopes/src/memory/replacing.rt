@@ -6,7 +6,7 @@ ghost use Rattle.far_scopes.specs.Memory.{place_of, list_in};
 ghost use Rattle.far_scopes.specs.Refusing.{refusal_in};
 ghost use Rattle.far_scopes.specs.Replacing.{AreListedOnce, ChangesLists, no_room_for_all, first_fits, replaced_all, taken_over};
 
-use super::{LocalMemory, at_of};
+use super::{LocalMemory, at_of, cool_of};
 use crate::replacement::Replacement;
 use far_codec::Elem;
 use far_types::Refusal;
@@ -55,6 +55,7 @@ impl<T: Elem> LocalMemory<T> {
         let Some(last) = self.words.pop() else {
             unreachable!()
         };
+        self.cool -= cool_of(last);
         let word = self.words[o];
         self.words[o] = word.with_at(at_of(last));
         self.region.drop_at(at_of(word));

@@ -77,8 +77,10 @@ impl<R: Read + Drop> Input<R> {
         }
         let count = self.source.read(self.chunk.as_mut_slice())?;
         self.is_ascii = stay_ascii(self.is_ascii, &self.held, &self.chunk[..count]);
-        self.held.bytes(&self.chunk[..count])?;
-        Ok(count > 0)
+        match self.held.bytes(&self.chunk[..count]) {
+            Ok(()) => Ok(count > 0),
+            Err(refusal) => Err(ShellFault::of_memory(refusal)),
+        }
     }
 
     /// Where the first line ends that is whole in the buffer.

@@ -7,6 +7,8 @@ ghost use Rattle.far_texts.specs.Texts.{lists_of, texts_in, IsTextColumn};
 ghost use Rattle.far_texts.specs.Lending.{texts_refusal, AreLent};
 
 use super::TextColumn;
+use super::cursor::Cursor;
+use far_codec::text_of;
 use far_scopes::Objects;
 use far_store::FarTickets;
 use far_types::Refusal;
@@ -23,26 +25,27 @@ pub struct TextCell<'a> {
 
 /// The texts of a part of a column, in order, each with the flag of its place. Contracts see the list of what is left.
 ///
-/// It lends each text in place, and looks at the head of one form, one bit of its mask and two ends for it.
+/// It lends each text in place, and looks at the head of one form, one bit of its mask and two ends for it, and at an object
+/// once a row group.
 #[derive(Drop)]
 pub struct TextCells<'a, S: FarTickets> {
     column: &'a TextColumn,
     objects: &'a Objects<u8, S>,
     flags: &'a [bool],
-    place: usize,
+    cursor: Cursor<'a>,
 }
 
 impl<'a, S: FarTickets> Model for TextCells<'a, S> {
     ghost use Rattle.std.specs.Prelude.{ℕ, Bool, List, Option, drop, length};
     ghost use Rattle.std.specs.List.{zip};
     ghost use Rattle.far_texts.specs.Texts.{lists_of, texts_in};
-    ghost use Rattle.far_texts.specs.Lending.{AreLent};
+    ghost use Rattle.far_texts.specs.Lending.{AreRead};
 
     ghost Value = { List (Option (List ℕ) × Bool) };
 
-    ghost view = { λ t. zip (drop t.place (texts_in (lists_of S.content t.objects.now) t.column.now)) t.flags.now };
+    ghost view = { λ t. zip (drop t.cursor.place (texts_in (lists_of S.content t.objects.now) t.column.now)) t.flags.now };
 
-    ghost invariant = { λ t. AreLent S.content t.objects.now t.column.now t.place (length t.flags.now) };
+    ghost invariant = { λ t. AreRead S.content t.objects.now t.column.now t.cursor.place (length t.flags.now) t.cursor.group t.cursor.index t.cursor.form.now };
 }
 
 impl<'a, S: FarTickets> TextCells<'a, S> {
@@ -56,11 +59,16 @@ impl<'a, S: FarTickets> TextCells<'a, S> {
         requires { AreLent S.content objects.now column.now place (length flags.now) }
         ensures { result ≡ zip (drop place (texts_in (lists_of S.content objects.now) column.now)) flags.now }
     {
+        let cursor = if flags.is_empty() {
+            Cursor::none(place)
+        } else {
+            Cursor::new(column, objects, place)
+        };
         TextCells {
             column,
             objects,
             flags,
-            place,
+            cursor,
         }
     }
 
@@ -73,12 +81,14 @@ impl<'a, S: FarTickets> TextCells<'a, S> {
         ensures none { IfNone result ((self.old ≡ []) × (self.new ≡ [])) }
     {
         let (alive, flags) = self.flags.split_first()?;
-        let column = self.column;
-        let Ok(text) = column.text(self.objects, self.place) else {
-            unreachable!()
-        };
+        let cursor = self.cursor.entered(self.column, self.objects);
+        let text = text_of(cursor.form, cursor.index);
         self.flags = flags;
-        self.place += 1;
+        self.cursor = Cursor {
+            place: cursor.place + 1,
+            index: cursor.index + 1,
+            ..cursor
+        };
         Some(TextCell {
             text,
             alive: *alive,

@@ -58,8 +58,9 @@ impl TextColumn {
         if place >= self.len {
             return Err(Refusal::OutOfRange);
         }
-        let form = self.form(objects, place / self.size)?;
-        Ok(length_with(form, place % self.size, text))
+        let group = self.group_of(place);
+        let form = self.form(objects, group)?;
+        Ok(length_with(form, self.index_in(group, place), text))
     }
 
     /// How many bytes the form of the next place's row group has once the place has this text. Takes no memory.

@@ -70,7 +70,8 @@ impl TextColumn {
         if place >= self.len {
             return Err(Refusal::NoRow);
         }
-        let form = self.form(objects, place / self.size)?;
-        Ok(text_of(form, place % self.size))
+        let group = self.group_of(place);
+        let form = self.form(objects, group)?;
+        Ok(text_of(form, self.index_in(group, place)))
     }
 }

@@ -1,4 +1,5 @@
-use Rattle.std.proofs.Common.{◌≡◌, ◌/◌, map, take}
+use Rattle.std.proofs.Common.{◌≡◌, ◌≤◌, ◌/◌, length, map, take}
+use Rattle.std.specs.Prelude.{vec_capacity}
 use Rattle.far_aggregates.specs.Changes.{row_gives}
 use Rattle.far_aggregates.specs.Coming.{come_of, added}
 use Rattle.far_aggregates.specs.Until.{zip_until}
@@ -7,5 +8,6 @@ use Rattle.far_aggregates.proofs.coming.come_in.Given as goal
 abbrev pub invariant-loop-i : goal.invariant-loop-i
 invariant-loop-i g l = record {
   slots : l.slots ≡ zip_until (added (l.place / l.size)) l.i l.initial.slots (map (come_of l.size l.place (row_gives (g.R.LendCells.cells l.row))) l.initial.slots);
+  capacity : length l.initial.slots ≤ vec_capacity l.comes;
   comes : l.comes.items ≡ map (come_of l.size l.place (row_gives (g.R.LendCells.cells l.row))) (take l.i l.initial.slots);
 }

@@ -7,9 +7,9 @@ use Rattle.far_aggregates.specs.Rooms.{HasRoom}
 use Rattle.far_aggregates.proofs.ComingLaws.{kept-may_add, pair-fits}
 use Rattle.far_aggregates.proofs.coming.come_under.Goals as goal
 
-pub add_to-requires-clause-may : goal.add_to-requires-clause-may
-add_to-requires-clause-may c =
+pub add_to-requires : goal.add_to-requires
+add_to-requires c =
     let kept = c.in-Some.aggregate.kept in
-    let pair : Pair = (c.number_key-key.result, to_z w64 (of_z w64 c.args.value)) in
+    let pair : Pair = (c.number_key.result, to_z w64 (of_z w64 c.args.value)) in
     kept-may_add c.args.group kept (coming_of c.args.group kept pair)
     (pair-fits c.args.group kept pair (subst Folds c.in-Some.is c.requires.folds) (subst (HasRoom c.args.group) c.in-Some.is c.requires.room))

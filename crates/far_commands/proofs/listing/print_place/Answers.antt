@@ -5,7 +5,5 @@ use Rattle.far_commands.proofs.ResultLaws.{on-ok}
 use Rattle.far_commands.proofs.RowLaws.{cells-there}
 use Rattle.far_commands.proofs.listing.print_place.Goals as goal
 
-pub returns : goal.returns
-returns g c = record {
-  ok = on-ok c.print_row.result _ _ (λ printed. printed ∙ ap (λ (cells : List Cell). c.args.page.now ++ row_line cells) (sym (cells-there c.args.view.now.table.places c.args.place c.in_ok-cells.cells c.in_ok-cells.ensures.row))) c.print_row.ensures.ok;
-}
+pub returns-clause-ok : goal.returns-clause-ok
+returns-clause-ok g c = on-ok c.print_row.result _ _ (λ printed. printed ∙ ap (λ (cells : List Cell). c.args.page.now ++ row_line cells) (sym (cells-there c.args.view.now.table.places c.args.place c.in_ok-cells.cells c.in_ok-cells.ensures.row))) c.print_row.ensures.ok

@@ -25,10 +25,10 @@ returns-then-is_empty-clause-ok g c = (
   answers-empty g.S.FarTickets c.args.progress.now (spanned g.R.Read c.args.input.now c.args.line) (range-empty c.args.input.now.held c.args.line.from c.args.line.to (grind (arith, c.if-is_empty.ensures))),
 )
 
-pub returns-in-Some-clause-ok : goal.returns-in-Some-clause-ok
-returns-in-Some-clause-ok g c =
+pub returns-in-Ok-Some-clause-ok : goal.returns-in-Ok-Some-clause-ok
+returns-in-Ok-Some-clause-ok g c =
     let kinds = c.as_slice.ensures ∙ c.schema.ensures ∙ ap (λ (s : State g.row.S-Ticket.Denot). s.table.schema) c.frame.ensures in
-    let some = rw (c.in_ok-text.ensures.ok.0, kinds) at (sym c.in_ok-command.ensures.command ∙ c.in-Some.is) in
+    let some = rw (c.in_ok-text.ensures.ok.0, kinds) at (sym c.in-Ok-Some.ensures.command ∙ c.in-Ok-Some.field-0-is) in
     let line = spanned g.R.Read c.args.input.now c.args.line in
     let old : At g.row.S-Ticket.Denot = record { world = c.progress.inside.world; number = c.progress.inside.number } in
     let new : At g.row.S-Ticket.Denot = record { world = c.serve_command.new.world; number = c.progress.inside.number + 1 } in
@@ -43,10 +43,10 @@ returns-in-Some-clause-ok g c =
           (rw c.in_ok-text.ensures.ok.0 at c.in_ok-text.ensures.ok.1) refl (rw some a.4)),
     )) c.serve_command.ensures.ok
 
-pub returns-in-None-clause-ok : goal.returns-in-None-clause-ok
-returns-in-None-clause-ok g c =
+pub returns-in-Ok-None-clause-ok : goal.returns-in-Ok-None-clause-ok
+returns-in-Ok-None-clause-ok g c =
     let kinds = c.as_slice.ensures ∙ c.schema.ensures ∙ ap (λ (s : State g.row.S-Ticket.Denot). s.table.schema) c.frame.ensures in
-    let none = rw (c.in_ok-text.ensures.ok.0, kinds) at (sym c.in_ok-command.ensures.command ∙ c.in-None.is) in
+    let none = rw (c.in_ok-text.ensures.ok.0, kinds) at (sym c.in-Ok-None.ensures.command ∙ c.in-Ok-None.field-0-is) in
     let line = spanned g.R.Read c.args.input.now c.args.line in
     let old : At g.row.S-Ticket.Denot = record { world = c.progress.inside.world; number = c.progress.inside.number } in
     let new : At g.row.S-Ticket.Denot = record { world = c.progress.inside.world; number = c.progress.inside.number + 1 } in
@@ -67,27 +67,25 @@ returns-in_err-text-clause-err g c =
     handed-on c.from_residual.result fault.Input _ (rw c.in_err-text.ensures.fault.0 at c.from_residual.ensures.1)
     ([], prints-none (g.W.Write.contents c.args.writer.now) c.args.output.now.page, refl)
 
-pub returns-in_err-command-clause-err : goal.returns-in_err-command-clause-err
-returns-in_err-command-clause-err g c =
-    handed-on c.from_residual-in_err-command.result fault.Memory _ c.from_residual-in_err-command.ensures.1
-    ([], prints-none (g.W.Write.contents c.args.writer.now) c.args.output.now.page, inl refl)
+pub returns-in-Err-clause-err : goal.returns-in-Err-clause-err
+returns-in-Err-clause-err g c = rw c.of_memory.ensures ([], prints-none (g.W.Write.contents c.args.writer.now) c.args.output.now.page, inl refl)
 
-pub returns-in-None-clause-err : goal.returns-in-None-clause-err
-returns-in-None-clause-err g c = printed-err c.print_syntax.result _ (g.W.Write.contents c.args.writer.now) c.args.output.now.page c.print_syntax.new.output.page c.print_syntax.ensures.memory c.print_syntax.ensures.err
+pub returns-in-Ok-None-clause-err : goal.returns-in-Ok-None-clause-err
+returns-in-Ok-None-clause-err g c = printed-err c.print_syntax.result _ (g.W.Write.contents c.args.writer.now) c.args.output.now.page c.print_syntax.new.output.page c.print_syntax.ensures.memory c.print_syntax.ensures.err
 
-pub returns-in-None-clause-stopped : goal.returns-in-None-clause-stopped
-returns-in-None-clause-stopped g c = no-input c.print_syntax.result _ c.print_syntax.ensures.memory
+pub returns-in-Ok-None-clause-stopped : goal.returns-in-Ok-None-clause-stopped
+returns-in-Ok-None-clause-stopped g c = no-input c.print_syntax.result _ c.print_syntax.ensures.memory
 
-pub returns-in-Some-clause-err : goal.returns-in-Some-clause-err
-returns-in-Some-clause-err g c =
+pub returns-in-Ok-Some-clause-err : goal.returns-in-Ok-Some-clause-err
+returns-in-Ok-Some-clause-err g c =
     let kinds = c.as_slice.ensures ∙ c.schema.ensures ∙ ap (λ (s : State g.row.S-Ticket.Denot). s.table.schema) c.frame.ensures in
-    let some = rw (c.in_ok-text.ensures.ok.0, kinds) at (sym c.in_ok-command.ensures.command ∙ c.in-Some.is) in
+    let some = rw (c.in_ok-text.ensures.ok.0, kinds) at (sym c.in-Ok-Some.ensures.command ∙ c.in-Ok-Some.field-0-is) in
     let line = spanned g.R.Read c.args.input.now c.args.line in
     let world = c.progress.inside.world in
     each-fault c.serve_command.result _ _ (λ why p. (
       p.0,
       p.1,
-      cut-more why (λ said. (c.in-Some.command ≡ command.Dump) × (said ≡ listing_of (live world.state))) (λ said. Lists c.args.progress.now line said) p.0
+      cut-more why (λ said. (c.in-Ok-Some.command ≡ command.Dump) × (said ≡ listing_of (live world.state))) (λ said. Lists c.args.progress.now line said) p.0
           (λ said s. subst (λ (at : At g.row.S-Ticket.Denot). Lists at line said) c.progress.view_is (some ∙ ap (λ (asked : Command). Some asked) s.0, s.1)) p.2,
     )) c.serve_command.ensures.err
 
@@ -98,11 +96,11 @@ returns-in_err-text-clause-stopped g c =
     handed-on c.from_residual.result fault.Input _ (rw f.0 at c.from_residual.ensures.1)
     (stops-here g.R.Read c.args.input.now c.args.input.now (λ behind. Fails c.args.progress.now.world.state.table.schema line behind) refl (inl f.1))
 
-pub returns-in-Some-clause-stopped : goal.returns-in-Some-clause-stopped
-returns-in-Some-clause-stopped g c =
+pub returns-in-Ok-Some-clause-stopped : goal.returns-in-Ok-Some-clause-stopped
+returns-in-Ok-Some-clause-stopped g c =
     let kinds = c.as_slice.ensures ∙ c.schema.ensures ∙ ap (λ (s : State g.row.S-Ticket.Denot). s.table.schema) c.frame.ensures in
-    let some = rw (c.in_ok-text.ensures.ok.0, kinds) at (sym c.in_ok-command.ensures.command ∙ c.in-Some.is) in
+    let some = rw (c.in_ok-text.ensures.ok.0, kinds) at (sym c.in-Ok-Some.ensures.command ∙ c.in-Ok-Some.field-0-is) in
     let line = spanned g.R.Read c.args.input.now c.args.line in
-    each-fault c.serve_command.result _ _ (λ why stopped. if-input why _ _ (λ s. stops-more g.R.Read c.args.input.now c.serve_command.new.input (λ behind. FailsBy (Some c.in-Some.command) behind) (λ behind. Fails c.args.progress.now.world.state.table.schema line behind)
+    each-fault c.serve_command.result _ _ (λ why stopped. if-input why _ _ (λ s. stops-more g.R.Read c.args.input.now c.serve_command.new.input (λ behind. FailsBy (Some c.in-Ok-Some.command) behind) (λ behind. Fails c.args.progress.now.world.state.table.schema line behind)
     (λ bytes f. subst (λ (at : At g.row.S-Ticket.Denot). Fails at.world.state.table.schema line bytes) c.progress.view_is (inr (subst (λ (asked : Option Command). FailsBy asked bytes) (sym some) f))) s) stopped)
     c.serve_command.ensures.stopped

@@ -11,10 +11,10 @@ use Rattle.far_commands.proofs.serve.serve_command.Goals as goal
 pub returns-in-Step-clause-ok : goal.returns-in-Step-clause-ok
 returns-in-Step-clause-ok g c =
     printed-ok c.add_printed.result c.take_step-printed.result _ _ _ c.add_printed.ensures.printed c.add_printed.ensures.ok c.take_step-printed.ensures.ok (λ added said.
-    ([], c.take_step-printed.new.reply, reads-none g.R.Read _ _ refl, prints (g.W.Write.contents c.args.writer.now) c.args.output.now.page c.take_step-printed.new.reply c.add_printed.new.output.page added, rw c.in-Step.is (refl, said)))
+    ([], c.take_step-printed.new.reply, reads-none g.R.Read _ _ refl, prints (g.W.Write.contents c.args.writer.now) c.args.output.now.page c.take_step-printed.new.reply c.add_printed.new.self.page added, rw c.in-Step.is (refl, said)))
 
 pub returns-in-Step-clause-err : goal.returns-in-Step-clause-err
-returns-in-Step-clause-err g c = printed-err c.add_printed.result _ (g.W.Write.contents c.args.writer.now) c.args.output.now.page c.add_printed.new.output.page c.add_printed.ensures.memory c.add_printed.ensures.err
+returns-in-Step-clause-err g c = printed-err c.add_printed.result _ (g.W.Write.contents c.args.writer.now) c.args.output.now.page c.add_printed.new.self.page c.add_printed.ensures.memory c.add_printed.ensures.err
 
 pub returns-in-Step-clause-stopped : goal.returns-in-Step-clause-stopped
 returns-in-Step-clause-stopped g c = no-input c.add_printed.result _ c.add_printed.ensures.memory
@@ -44,10 +44,10 @@ returns-in-Dump-clause-stopped g c = each-fault c.dump.result _ _ (λ why other.
 pub returns-in-Renew-clause-ok : goal.returns-in-Renew-clause-ok
 returns-in-Renew-clause-ok g c =
     printed-ok c.add_printed-in-Renew.result c.renew-printed.result _ _ _ c.add_printed-in-Renew.ensures.printed c.add_printed-in-Renew.ensures.ok c.renew-printed.ensures.ok (λ added said.
-    ([], c.renew-printed.new.reply, reads-none g.R.Read _ _ refl, prints (g.W.Write.contents c.args.writer.now) c.args.output.now.page c.renew-printed.new.reply c.add_printed-in-Renew.new.output.page added, rw c.in-Renew.is (refl, said)))
+    ([], c.renew-printed.new.reply, reads-none g.R.Read _ _ refl, prints (g.W.Write.contents c.args.writer.now) c.args.output.now.page c.renew-printed.new.reply c.add_printed-in-Renew.new.self.page added, rw c.in-Renew.is (refl, said)))
 
 pub returns-in-Renew-clause-err : goal.returns-in-Renew-clause-err
-returns-in-Renew-clause-err g c = printed-err c.add_printed-in-Renew.result _ (g.W.Write.contents c.args.writer.now) c.args.output.now.page c.add_printed-in-Renew.new.output.page c.add_printed-in-Renew.ensures.memory c.add_printed-in-Renew.ensures.err
+returns-in-Renew-clause-err g c = printed-err c.add_printed-in-Renew.result _ (g.W.Write.contents c.args.writer.now) c.args.output.now.page c.add_printed-in-Renew.new.self.page c.add_printed-in-Renew.ensures.memory c.add_printed-in-Renew.ensures.err
 
 pub returns-in-Renew-clause-stopped : goal.returns-in-Renew-clause-stopped
 returns-in-Renew-clause-stopped g c = no-input c.add_printed-in-Renew.result _ c.add_printed-in-Renew.ensures.memory
@@ -55,10 +55,10 @@ returns-in-Renew-clause-stopped g c = no-input c.add_printed-in-Renew.result _ c
 pub returns-in-Recount-clause-ok : goal.returns-in-Recount-clause-ok
 returns-in-Recount-clause-ok g c =
     printed-ok c.add_printed-in-Recount.result c.recount-printed.result _ _ _ c.add_printed-in-Recount.ensures.printed c.add_printed-in-Recount.ensures.ok c.recount-printed.ensures.ok (λ added said.
-    ([], c.recount-printed.new.reply, reads-none g.R.Read _ _ refl, prints (g.W.Write.contents c.args.writer.now) c.args.output.now.page c.recount-printed.new.reply c.add_printed-in-Recount.new.output.page added, rw c.in-Recount.is (refl, said, refl)))
+    ([], c.recount-printed.new.reply, reads-none g.R.Read _ _ refl, prints (g.W.Write.contents c.args.writer.now) c.args.output.now.page c.recount-printed.new.reply c.add_printed-in-Recount.new.self.page added, rw c.in-Recount.is (refl, said, refl)))
 
 pub returns-in-Recount-clause-err : goal.returns-in-Recount-clause-err
-returns-in-Recount-clause-err g c = printed-err c.add_printed-in-Recount.result _ (g.W.Write.contents c.args.writer.now) c.args.output.now.page c.add_printed-in-Recount.new.output.page c.add_printed-in-Recount.ensures.memory c.add_printed-in-Recount.ensures.err
+returns-in-Recount-clause-err g c = printed-err c.add_printed-in-Recount.result _ (g.W.Write.contents c.args.writer.now) c.args.output.now.page c.add_printed-in-Recount.new.self.page c.add_printed-in-Recount.ensures.memory c.add_printed-in-Recount.ensures.err
 
 pub returns-in-Recount-clause-stopped : goal.returns-in-Recount-clause-stopped
 returns-in-Recount-clause-stopped g c = no-input c.add_printed-in-Recount.result _ c.add_printed-in-Recount.ensures.memory

@@ -18,7 +18,7 @@ returns-clause-ok g c =
       spanned g.R.Read c.bytes.new.self c.in_ok-rows.rows,
       c.load-printed.new.reply,
       s.2,
-      prints-nothing-then _ _ _ c.args.output.now.page c.bytes.new.output.page c.load-printed.new.reply _ c.bytes.ensures.printed (prints (g.W.Write.contents c.bytes.new.writer) c.bytes.new.output.page c.load-printed.new.reply c.add_printed.new.output.page added),
+      prints-nothing-then _ _ _ c.args.output.now.page c.bytes.new.output.page c.load-printed.new.reply _ c.bytes.ensures.printed (prints (g.W.Write.contents c.bytes.new.writer) c.bytes.new.output.page c.load-printed.new.reply c.add_printed.new.self.page added),
       (s.1, rw t.0 at t.1, rw t.0 at loaded),
     ))
 
@@ -26,8 +26,8 @@ pub returns-clause-err : goal.returns-clause-err
 returns-clause-err g c =
     let u = g.W.Write.contents c.args.writer.now in
     let v = g.W.Write.contents c.bytes.new.writer in
-    each-fault c.add_printed.result _ _ (λ why cut. prints-cut-more why (λ said. ⊥) (λ said. ⊥) u v v c.args.output.now.page c.bytes.new.output.page c.add_printed.new.output.page (λ said none. none) c.bytes.ensures.printed cut)
-    (printed-err c.add_printed.result (λ said. ⊥) v c.bytes.new.output.page c.add_printed.new.output.page c.add_printed.ensures.memory c.add_printed.ensures.err)
+    each-fault c.add_printed.result _ _ (λ why cut. prints-cut-more why (λ said. ⊥) (λ said. ⊥) u v v c.args.output.now.page c.bytes.new.output.page c.add_printed.new.self.page (λ said none. none) c.bytes.ensures.printed cut)
+    (printed-err c.add_printed.result (λ said. ⊥) v c.bytes.new.output.page c.add_printed.new.self.page c.add_printed.ensures.memory c.add_printed.ensures.err)
 
 pub returns-clause-stopped : goal.returns-clause-stopped
 returns-clause-stopped g c = no-input c.add_printed.result _ c.add_printed.ensures.memory

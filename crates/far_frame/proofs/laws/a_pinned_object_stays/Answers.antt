@@ -1,4 +1,5 @@
 use Rattle.far_frame.proofs.PinRuns.{step-stays, step-pins, run-holds, opened-holds, lent-free}
+use Rattle.far_frame.proofs.RenewedPins.{migrated-holds}
 use Rattle.far_frame.proofs.RunLaws.{pinned-stays}
 use Rattle.far_frame.proofs.laws.a_pinned_object_stays.Goals as goal
 
@@ -13,4 +14,5 @@ returns g c =
       opened = opened-holds g.row.S-Ticket.Denot;
       lent = lent-free content number_of;
       committed = pinned-stays content number_of;
+      migrated = migrated-holds content g.N.FarTickets.content;
     }

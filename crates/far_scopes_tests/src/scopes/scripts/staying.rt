@@ -1,6 +1,8 @@
 // Objects that are pinned, alone and together, those that go away first, and segments that are compacted.
-use crate::scopes::script::Call::{Coldest, Compact, Create, Find, On, PinAndUnpin, PinTogether};
-use crate::scopes::script::Change::{Leave, Pin, Touch};
+use crate::scopes::script::Call::{
+    Coldest, Compact, Create, Find, On, PinAndUnpin, PinTogether, Uncreate,
+};
+use crate::scopes::script::Change::{Arrive, Leave, Pin, Touch, Write};
 use crate::scopes::script::Fact::{Cold, List, Pins};
 use crate::scopes::script::{SCRIPT, Script, TWO_OF_FOUR};
 use far_pointer::At;
@@ -120,6 +122,58 @@ pub static SCRIPTS: &[Script] = &[
             (On(0, Pin(1)), Ok(())),
             (On(1, Pin(1)), Ok(())),
             (Coldest(None), Ok(())),
+        ],
+        ..SCRIPT
+    },
+    Script {
+        name: "cold objects go first until each is used or written again",
+        limits: THREE_OF_TWO,
+        lines: &[
+            (Create(0, &[1, 2]), Ok(())),
+            (Create(1, &[3]), Ok(())),
+            (Create(2, &[4]), Ok(())),
+            (Coldest(Some(0)), Ok(())),
+            (Compact(1), Ok(())),
+            (Coldest(Some(1)), Ok(())),
+            (On(1, Touch), Ok(())),
+            (Coldest(Some(2)), Ok(())),
+            (On(2, Write(&[5])), Ok(())),
+            (Coldest(Some(0)), Ok(())),
+        ],
+        ..SCRIPT
+    },
+    Script {
+        name: "cold objects go first until each is away, and come back hot",
+        limits: THREE_OF_TWO,
+        lines: &[
+            (Create(0, &[1, 2]), Ok(())),
+            (Create(1, &[3]), Ok(())),
+            (Create(2, &[4]), Ok(())),
+            (Compact(1), Ok(())),
+            (On(1, Leave), Ok(())),
+            (Coldest(Some(2)), Ok(())),
+            (On(2, Leave), Ok(())),
+            (Coldest(Some(0)), Ok(())),
+            (On(1, Arrive), Ok(())),
+            (Coldest(Some(0)), Ok(())),
+        ],
+        ..SCRIPT
+    },
+    Script {
+        name: "cold objects go first until the last of them is unmade",
+        limits: THREE_OF_TWO,
+        lines: &[
+            (Create(0, &[1, 2]), Ok(())),
+            (Create(1, &[3]), Ok(())),
+            (On(0, Touch), Ok(())),
+            (Compact(0), Ok(())),
+            (Compact(1), Ok(())),
+            (Coldest(Some(1)), Ok(())),
+            (Uncreate, Ok(())),
+            (Coldest(Some(0)), Ok(())),
+            (Create(2, &[4]), Ok(())),
+            (On(0, Touch), Ok(())),
+            (Coldest(Some(1)), Ok(())),
         ],
         ..SCRIPT
     },

@@ -1,6 +1,5 @@
 use Rattle.std.proofs.Common.{arith}
 use Rattle.std.specs.Prelude.{codes}
-use Rattle.far_script.specs.declared.fault.ShellFault.TheVariants as fault
 use Rattle.far_script.proofs.FlowLaws.{prints, prints-nothing-then}
 use Rattle.far_script.proofs.StopLaws.{handed-on}
 use Rattle.far_shell.proofs.BreakLaws.{breaks-later, breaks-start, breaks-store, rejects-table}
@@ -46,11 +45,10 @@ returns-in_err-first-clause-err g c =
     handed-on c.from_residual.result why _ c.from_residual.ensures.1
     (breaks-start g.R.Read _ c.args.input.now c.first_command.new.input (g.W.Write.contents c.args.writer.now) (g.W.Write.contents c.first_command.new.writer) c.args.output.now.page c.first_command.new.output.page why c.requires c.in_err-first.ensures.err)
 
-pub returns-in_err-store-in-Schema-clause-err : goal.returns-in_err-store-in-Schema-clause-err
-returns-in_err-store-in-Schema-clause-err g c =
+pub returns-in-Err-clause-err : goal.returns-in-Err-clause-err
+returns-in-Err-clause-err g c =
     let f = c.in_ok-first.ensures in
-    handed-on c.from_residual-in_err-store-in-Schema.result fault.Memory _ c.from_residual-in_err-store-in-Schema.ensures.1
-    (breaks-store g.R.Read _ c.args.input.now c.first_command.new.input (g.W.Write.contents c.args.writer.now) (g.W.Write.contents c.first_command.new.writer) c.args.output.now.page c.first_command.new.output.page f.ok.0 c.requires f.ok.2 f.printed)
+    rw c.of_memory.ensures (breaks-store g.R.Read _ c.args.input.now c.first_command.new.input (g.W.Write.contents c.args.writer.now) (g.W.Write.contents c.first_command.new.writer) c.args.output.now.page c.first_command.new.output.page f.ok.0 c.requires f.ok.2 f.printed)
 
 pub returns-in_err-progress-in-Schema-clause-err : goal.returns-in_err-progress-in-Schema-clause-err
 returns-in_err-progress-in-Schema-clause-err g c =

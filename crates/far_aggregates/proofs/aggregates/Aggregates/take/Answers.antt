@@ -1,8 +1,19 @@
-use Rattle.std.proofs.Common.{◌≡◌, ap, ◌∙◌, arith, length, map}
-use Rattle.far_aggregates.specs.Kept.{registered_in, registered_of}
+use Rattle.std.proofs.Common.{◌≡◌, ◌-◌, List, None, sym, ap, ◌∙◌, subst, arith, length, map}
+use Rattle.std.specs.Prelude.{replicate}
+use Rattle.std.specs.List.{AllByRecursion}
+use Rattle.far_aggregates.specs.Kept.{Slot, registered_in, registered_of}
+use Rattle.far_aggregates.specs.Lending.{SlotIsServed}
+use Rattle.far_aggregates.proofs.ListLaws.{all-front}
 use Rattle.far_aggregates.proofs.EditLaws.{all-taken_registered}
 use Rattle.far_aggregates.proofs.PendingLaws.{written, shown-alike}
 use Rattle.far_aggregates.proofs.aggregates.Aggregates.take.Goals as goal
+
+pub take_all-requires-clause-served : goal.take_all-requires-clause-served
+take_all-requires-clause-served g c =
+    let has = g.G.LendGroup.has c.args.group.now in
+    let same : c.as_mut_slice.result.now ≡ c.args.self.now = c.as_mut_slice.ensures.value ∙ c.self.view_is in
+    subst (λ (slots : List Slot). AllByRecursion (SlotIsServed has) (map registered_in slots)) (sym same)
+    (all-front (SlotIsServed has) (map registered_in c.args.self.now) (replicate (32 - length c.args.self.now) None) c.requires.served)
 
 pub returns-clause-registered : goal.returns-clause-registered
 returns-clause-registered g c =

@@ -1,3 +1,4 @@
+use Rattle.std.proofs.Common.{sym, subst}
 use Rattle.far_extrema.proofs.RoomLaws.{either}
 use Rattle.far_aggregates.specs.Known.{AreKnown}
 use Rattle.far_aggregates.proofs.KnownLaws.{known-roomy, known-same}
@@ -5,9 +6,10 @@ use Rattle.far_aggregates.proofs.known.KnownExtrema.make_room_for.Goals as goal
 
 pub invariant_of-self : goal.invariant_of-self
 invariant_of-self c =
-    let plain = c.self.inside.plain.items in
+    let plain = c.make_place.new.plain.items in
     let groups = c.self.inside.live.groups in
     let new = c.make_room_for.new.self.groups in
+    let known = subst (λ plain. AreKnown plain groups) (sym c.make_place.ensures) c.self.invariant in
     either c.make_room_for.result {Q = AreKnown plain new}
-    (λ is. known-roomy plain groups new c.args.group is c.self.invariant)
-    (λ is. known-same plain groups new is c.self.invariant) c.make_room_for.ensures.groups c.make_room_for.ensures.err
+    (λ is. known-roomy plain groups new c.args.group is known)
+    (λ is. known-same plain groups new is known) c.make_room_for.ensures.groups c.make_room_for.ensures.err

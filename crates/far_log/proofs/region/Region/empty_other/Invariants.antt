@@ -3,4 +3,4 @@ use Rattle.far_log.specs.Room.{segment_of}
 use Rattle.far_log.proofs.region.Region.empty_other.Given as goal
 
 abbrev pub invariant-loop-number : goal.invariant-loop-number
-invariant-loop-number g l = (k : ℕ) → k < l.number → k ≢ l.from → (segment_of l.segment-items k).parts ≢ []
+invariant-loop-number g l = (k : ℕ) → k < l.number → k ≢ l.from → (segment_of l.self k).parts ≢ []

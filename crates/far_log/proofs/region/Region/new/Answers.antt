@@ -5,6 +5,6 @@ use Rattle.far_log.proofs.region.Region.new.Goals as goal
 
 pub invariant_of-result : goal.invariant_of-result
 invariant_of-result g c = record {
-  region = rw c.loop.invariant (region-new c.loop.counter c.args.size (omega (arith, c.requires, c.loop.auto.counter-end)));
-  skipped = rw c.none.ensures (skip-nothing c.loop.made.items);
+  region = rw c.in_ok-new.ensures.empty (region-new c.args.segments c.args.size c.requires);
+  skipped = rw c.none.ensures (skip-nothing _);
 }

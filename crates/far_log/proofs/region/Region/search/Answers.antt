@@ -1,24 +1,21 @@
 use Rattle.std.proofs.Common.{◌≡◌, ◌⊎◌, ◌+◌, ◌<◌, ◌≤◌, inl, inr, length, sym, ap, ◌∙◌, arith}
 use Rattle.std.proofs.lemmas.Bool.{cases_lt}
 use Rattle.far_log.specs.Room.{Room, space_in, segment_of}
-use Rattle.far_log.proofs.RoomLaws.{segment-read}
 use Rattle.far_log.proofs.Skipped.{no-space-longer, lowest-is, none-takes, skip-known, before-first, passed-more, skip-found}
 use Rattle.far_log.proofs.region.Region.search.Goals as goal
 
 pub loop-number-init : goal.loop-number-init
 loop-number-init g c =
-    let known = skip-known c.self.inside.segments.items c.args.self.now c.self.view_is c.self.inside.skip c.for_list-known.result c.self.invariant.skipped c.for_list-known.ensures.known in
+    let known = skip-known c.self.inside.segments c.args.self.now c.self.view_is c.self.inside.skip c.for_list-known.result c.self.invariant.skipped c.for_list-known.ensures.known in
     record { first = omega arith; least = omega arith; most = c.for_list-known.ensures.long; passed = before-first c.args.self.now c.for_list-known.result known }
 
 pub loop-number-preserved : goal.loop-number-preserved
 loop-number-preserved g c =
     let room : Room g.row.T.Denot = c.args.self.now in
-    let known = skip-known c.self.inside.segments.items c.args.self.now c.self.view_is c.self.inside.skip c.for_list-known.result c.self.invariant.skipped c.for_list-known.ensures.known in
+    let known = skip-known c.self.inside.segments c.args.self.now c.self.view_is c.self.inside.skip c.for_list-known.result c.self.invariant.skipped c.for_list-known.ensures.known in
     let n = c.loop-number.number in
     let next = c.for_list-known.result.next in
-    let there : n < length room = omega (arith, c.loop-number-test.true, c.len.ensures, ap length c.self.view_is, c.self.inside.segments.ok.0) in
-    let read = segment-read room n c.index.result.now there (rw (← c.self.view_is) c.index.ensures) in
-    let space : c.space-space.result ≡ space_in (segment_of room n) = c.space-space.ensures.space ∙ ap space_in read in
+    let space : c.space-space.result ≡ space_in (segment_of room n) = c.space-space.ensures.space ∙ ap (λ r. space_in (segment_of r n)) c.self.view_is in
     let reach : (c.max-number.result ≤ n + 1) ⊎ (c.max-number.result ≤ next) = elim (cases_lt n next) [
       | inl lt ↦ inr (omega (arith, lt, c.max-number.ensures))
       | inr le ↦ inl (omega (arith, le, c.max-number.ensures))
@@ -33,12 +30,12 @@ loop-number-preserved g c =
 pub returns-then-len-space : goal.returns-then-len-space
 returns-then-len-space g c =
     let room : Room g.row.T.Denot = c.args.self.now in
-    let known = skip-known c.self.inside.segments.items c.args.self.now c.self.view_is c.self.inside.skip c.for_list-known.result c.self.invariant.skipped c.for_list-known.ensures.known in
+    let known = skip-known c.self.inside.segments c.args.self.now c.self.view_is c.self.inside.skip c.for_list-known.result c.self.invariant.skipped c.for_list-known.ensures.known in
     let n = c.loop-number.number in
     let next = c.for_list-known.result.next in
-    let there : n < length room = omega (arith, c.loop-number-test.true, c.len.ensures, ap length c.self.view_is, c.self.inside.segments.ok.0) in
-    let read = segment-read room n c.index.result.now there (rw (← c.self.view_is) c.index.ensures) in
-    let takes : c.args.len ≤ space_in (segment_of room n) = omega (arith, c.if-len-space.true, c.space-space.ensures.space, ap space_in read) in
+    let there : n < length room = omega (arith, c.loop-number-test.true, c.len.ensures, ap length c.self.view_is) in
+    let space : c.space-space.result ≡ space_in (segment_of room n) = c.space-space.ensures.space ∙ ap (λ r. space_in (segment_of r n)) c.self.view_is in
+    let takes : c.args.len ≤ space_in (segment_of room n) = omega (arith, c.if-len-space.true, space) in
     let reach : (c.max.result ≤ n) ⊎ (c.max.result ≤ next) = elim (cases_lt n next) [
       | inl lt ↦ inr (omega (arith, lt, c.max.ensures))
       | inr le ↦ inl (omega (arith, le, c.max.ensures))
@@ -53,7 +50,7 @@ pub returns : goal.returns
 returns g c =
     let room : Room g.row.T.Denot = c.args.self.now in
     let n = c.loop-number.number in
-    let past : length room ≤ n = omega (arith, c.loop-number-test.false, c.len.ensures, ap length c.self.view_is, c.self.inside.segments.ok.0) in
+    let past : length room ≤ n = omega (arith, c.loop-number-test.false, c.len.ensures, ap length c.self.view_is) in
     record {
       lowest = sym (none-takes room n c.args.len (no-space-longer room n c.loop-number.more c.args.len c.loop-number.invariant.passed c.loop-number.invariant.most) past);
       passed = tt;

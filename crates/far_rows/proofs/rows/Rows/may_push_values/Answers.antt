@@ -13,7 +13,7 @@ returns-in_err-here g c =
     let values = c.args.row.now in
     let p = err_from_is_err_and c.from_residual.result c.from_residual.ensures.1 in
     let later = option_or (push_texts_refusal g.S.FarTickets.content r.text_objects r.texts values.texts) (push_numbers_refusal r.number_objects r.numbers) in
-    let due : Some c.in_err-here.field-0.0 ≡ first_of (absents r (length r.alive / r.size)) = c.in_err-here.ensures ∙ (λ k. first_of (absents r (c.len-len.ensures.len k / (c.self.view_is k).size))) in
+    let due : Some c.in_err-here.field-0.0 ≡ first_of (absents r (length r.alive / r.size)) = c.in_err-here.ensures ∙ ap (λ n. first_of (absents r n)) c.quotient-group.ensures ∙ (λ k. first_of (absents r (c.len-len.ensures.len k / (c.self.view_is k).size))) in
     rw (p.1, p.2) (ap (λ o. option_or o later) due)
 
 pub returns-in_err-may_push_all_texts : goal.returns-in_err-may_push_all_texts
@@ -24,7 +24,7 @@ returns-in_err-may_push_all_texts g c =
     let p = err_from_is_err_and c.from_residual-in_err-may_push_all_texts.result c.from_residual-in_err-may_push_all_texts.ensures.1 in
     let texts = push_texts_refusal content r.text_objects r.texts values.texts in
     let numbers = push_numbers_refusal r.number_objects r.numbers in
-    let here : first_of (absents r (length r.alive / r.size)) ≡ None = sym (c.in_ok-here.ensures ∙ (λ k. first_of (absents r (c.len-len.ensures.len k / (c.self.view_is k).size)))) in
+    let here : first_of (absents r (length r.alive / r.size)) ≡ None = sym (c.in_ok-here.ensures ∙ ap (λ n. first_of (absents r n)) c.quotient-group.ensures ∙ (λ k. first_of (absents r (c.len-len.ensures.len k / (c.self.view_is k).size)))) in
     let due : Some c.in_err-may_push_all_texts.field-0.0 ≡ texts =
     c.in_err-may_push_all_texts.ensures
     ∙ (λ k. push_texts_refusal content c.self.inside.text_objects (c.deref.ensures.value k) (c.texts.ensures.texts k))
@@ -38,7 +38,7 @@ returns g c =
     let values = c.args.row.now in
     let texts = push_texts_refusal content r.text_objects r.texts values.texts in
     let numbers = push_numbers_refusal r.number_objects r.numbers in
-    let here : first_of (absents r (length r.alive / r.size)) ≡ None = sym (c.in_ok-here.ensures ∙ (λ k. first_of (absents r (c.len-len.ensures.len k / (c.self.view_is k).size)))) in
+    let here : first_of (absents r (length r.alive / r.size)) ≡ None = sym (c.in_ok-here.ensures ∙ ap (λ n. first_of (absents r n)) c.quotient-group.ensures ∙ (λ k. first_of (absents r (c.len-len.ensures.len k / (c.self.view_is k).size)))) in
     let free : texts ≡ None = sym (
     c.in_ok-may_push_all_texts.ensures
     ∙ (λ k. push_texts_refusal content c.self.inside.text_objects (c.deref.ensures.value k) (c.texts.ensures.texts k))

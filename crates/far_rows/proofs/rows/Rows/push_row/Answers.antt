@@ -35,7 +35,7 @@ push_values-pushed-requires-clause-begin g c κs within begins =
     let size = c.self.inside.size in
     let len = length c.self.inside.alive in
     let are = are-numbers size len columns c.self.invariant.shaped c.self.invariant.even_numbers in
-    let divides : len % size ≡ 0 = ap (λ n. n % size) (sym c.len.ensures) ∙ eqb-true (c.len.result % size) 0 begins in
+    let divides : len % size ≡ 0 = ap (λ n. n % size) (sym c.len.ensures) ∙ sym c.remainder-index.ensures ∙ eqb-true c.remainder-index.result 0 begins in
     ap all_begin c.deref_mut.ensures.value ∙ numbers-begin size len columns c.self.invariant.some divides are
 
 pub push_values-pushed-requires-clause-begun : goal.push_values-pushed-requires-clause-begun
@@ -44,7 +44,7 @@ push_values-pushed-requires-clause-begun g c κs within begun more =
     let size = c.self.inside.size in
     let len = length c.self.inside.alive in
     let are = are-numbers size len columns c.self.invariant.shaped c.self.invariant.even_numbers in
-    let not_divides : len % size ≢ 0 = λ divides. eqb-false (c.len.result % size) 0 begun (ap (λ n. n % size) c.len.ensures ∙ divides) in
+    let not_divides : len % size ≢ 0 = λ divides. eqb-false c.remainder-index.result 0 begun (c.remainder-index.ensures ∙ ap (λ n. n % size) c.len.ensures ∙ divides) in
     ap all_begin c.deref_mut.ensures.value ∙ numbers-begun size len columns c.self.invariant.some not_divides (subst (λ cs. 0 < length cs) c.deref_mut.ensures.value more) are
 
 pub push_values-pushed-requires-clause-numbers_few : goal.push_values-pushed-requires-clause-numbers_few

@@ -4,6 +4,7 @@ use Rattle.std.specs.Vec.{with_items}
 use Rattle.std.proofs.lemmas.List.{with_items_is}
 use Rattle.far_scopes.specs.Memory.{list_in}
 use Rattle.far_scopes.specs.Renewal.{renewed_word}
+use Rattle.far_scopes.proofs.CoolLaws.{cool-renewed}
 use Rattle.far_scopes.proofs.RenewedWords.{renewed_before, renewed-more, renewed-read, renewed-all, memory-renewed, list-renewed, list-placed}
 use Rattle.far_scopes.proofs.memory.LocalMemory.forget_copies.Given as given
 use Rattle.far_scopes.proofs.memory.LocalMemory.forget_copies.Goals as goal
@@ -17,7 +18,10 @@ now g c =
     with_items_is words c.loop-word.word-items (omega (arith, c.loop-word.auto.word-items, ap (λ ws. length ws) c.deref_mut-word-items.ensures.value, words.ok.0)) ∙ is ∙ renewed-all words.items c.loop-word.word-index all
 
 pub invariant_of-self : goal.invariant_of-self
-invariant_of-self g c = rw (now g c) (memory-renewed c.self.inside.words.items c.self.inside.region c.self.invariant)
+invariant_of-self g c = rw (now g c) record {
+  memory = memory-renewed c.self.inside.words.items c.self.inside.region c.self.invariant.memory;
+  count = c.self.invariant.count ∙ sym (cool-renewed c.self.inside.words.items);
+}
 
 pub loop-word-preserved : goal.loop-word-preserved
 loop-word-preserved g c =
@@ -38,4 +42,4 @@ pub returns-clause-lists : goal.returns-clause-lists
 returns-clause-lists g c = λ p. ap (λ memory. list_in memory p) (returns-clause-renewed g c) ∙ list-renewed c.args.self.now p
 
 pub returns-clause-placed : goal.returns-clause-placed
-returns-clause-placed g c = rw (← c.self.view_is) (list-placed c.self.inside.words.items c.self.inside.region c.self.invariant)
+returns-clause-placed g c = rw (← c.self.view_is) (list-placed c.self.inside.words.items c.self.inside.region c.self.invariant.memory)

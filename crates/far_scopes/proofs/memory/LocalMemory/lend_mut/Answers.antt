@@ -7,17 +7,17 @@ pub invariant_of-self-lent : goal.invariant_of-self-lent
 invariant_of-self-lent g c w =
     let within = subst (λ m. c.args.o < length m.words) (sym c.self.view_is) (place-within c.args.self.now.words c.args.o c.requires.local) in
     let was = place-read c.self.inside.words.items c.args.o c.index.result.now c.at_of-at.result within c.index.ensures c.at_of-at.ensures in
-    memory-written c.self.inside.words.items c.self.inside.region c.self.invariant c.args.o c.at_of-at.result was 0 w
+    record { memory = memory-written c.self.inside.words.items c.self.inside.region c.self.invariant.memory c.args.o c.at_of-at.result was 0 w; count = c.self.invariant.count }
 
 pub returns : goal.returns
 returns g c =
     let within = subst (λ m. c.args.o < length m.words) (sym c.self.view_is) (place-within c.args.self.now.words c.args.o c.requires.local) in
     let was = place-read c.self.inside.words.items c.args.o c.index.result.now c.at_of-at.result within c.index.ensures c.at_of-at.ensures in
-    let is = overwritten-is c.self.inside.words.items c.self.inside.region c.self.invariant c.args.o c.at_of-at.result was in (
+    let is = overwritten-is c.self.inside.words.items c.self.inside.region c.self.invariant.memory c.args.o c.at_of-at.result was in (
       (refl, λ w. rw (← c.self.view_is) (sym (is 0 w))),
       record {
         writes_back = tt;
-        lent = rw (← c.self.view_is) (list-is c.self.inside.words.items c.self.inside.region c.self.invariant c.args.o c.at_of-at.result was ∙ c.part_long_mut.ensures.lent);
-        alone = λ list long. rw (← c.self.view_is) (list-written c.self.inside.words.items c.self.inside.region c.self.invariant c.args.o c.at_of-at.result was 0 list list (c.part_long_mut.ensures.alone list long));
+        lent = rw (← c.self.view_is) (list-is c.self.inside.words.items c.self.inside.region c.self.invariant.memory c.args.o c.at_of-at.result was ∙ c.part_long_mut.ensures.lent);
+        alone = λ list long. rw (← c.self.view_is) (list-written c.self.inside.words.items c.self.inside.region c.self.invariant.memory c.args.o c.at_of-at.result was 0 list list (c.part_long_mut.ensures.alone list long));
       },
     )

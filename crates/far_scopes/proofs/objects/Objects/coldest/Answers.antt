@@ -1,34 +1,30 @@
-use Rattle.std.proofs.Common.{◌∙◌, ap, subst}
-use Rattle.std.specs.Map.{keys_of}
+use Rattle.std.proofs.Common.{◌≡◌, sym, ap, subst, ◌∙◌}
 use Rattle.far_codec.specs.Spelling.{IsSpelled}
 use Rattle.far_scopes.specs.Movement.{AreTracked}
-use Rattle.far_scopes.proofs.ColdestLaws.{coldest_in, coldest-none, coldest-local, coldest-unpinned, coldest-exactly, last-within}
+use Rattle.far_scopes.specs.Coldest.{coldest}
+use Rattle.far_scopes.specs.Cool.{cool_in}
+use Rattle.far_scopes.proofs.ColdestLaws.{coldest-hot, coldest-local, coldest-unpinned, coldest-exactly}
 use Rattle.far_scopes.proofs.objects.Objects.coldest.Goals as goal
 
-pub pins-requires-after_bounds : goal.pins-requires-after_bounds
-pins-requires-after_bounds g c κs within =
+pub returns-then-cool-eq0 : goal.returns-then-cool-eq0
+returns-then-cool-eq0 g c =
     let tracked = subst (AreTracked g.T.Elem.meaning g.S.FarTickets.content (IsSpelled g.T.Elem.in_range g.T.Elem.has_spelling g.T.Elem.spelling)) c.self.view_is c.self.invariant in
-    last-within c.args.self.now c.loop-o.rest c.next_back.new.self c.loop-o.invariant.1.0 _ c.in-Some.ensures.steps tracked c.loop-o.invariant.1.1
+    let none : cool_in c.args.self.now.memory.words ≡ 0 = ap (λ m. cool_in m.memory.words) (sym c.self.view_is) ∙ sym c.cool.ensures ∙ c.if-cool-eq0.true in
+    let is : coldest c.args.self.now ≡ c.last_unpinned.result = coldest-hot c.args.self.now tracked.ordered none ∙ sym c.last_unpinned.ensures in
+    record {
+      coldest = sym is;
+      local = coldest-local c.args.self.now tracked.ordered c.last_unpinned.result is;
+      unpinned = coldest-unpinned c.args.self.now tracked.ordered c.last_unpinned.result is;
+      none = coldest-exactly c.args.self.now tracked.ordered c.last_unpinned.result is;
+    }
 
-pub word-requires-after_bounds : goal.word-requires-after_bounds
-word-requires-after_bounds g c κs within =
+pub returns : goal.returns
+returns g c =
     let tracked = subst (AreTracked g.T.Elem.meaning g.S.FarTickets.content (IsSpelled g.T.Elem.in_range g.T.Elem.has_spelling g.T.Elem.spelling)) c.self.view_is c.self.invariant in
-    last-within c.args.self.now c.loop-o.rest c.next_back.new.self c.loop-o.invariant.1.0 _ c.in-Some.ensures.steps tracked c.loop-o.invariant.1.1
-
-pub returns-clause-local : goal.returns-clause-local
-returns-clause-local g c =
-    let tracked = subst (AreTracked g.T.Elem.meaning g.S.FarTickets.content (IsSpelled g.T.Elem.in_range g.T.Elem.has_spelling g.T.Elem.spelling)) c.self.view_is c.self.invariant in
-    let is = c.loop-o.invariant.0 ∙ ap (λ l. coldest_in c.args.self.now c.loop-o.hot (keys_of l)) c.in_default.ensures.steps.0 ∙ coldest-none c.args.self.now c.loop-o.hot in
-    coldest-local c.args.self.now tracked.ordered c.loop-o.hot is
-
-pub returns-clause-unpinned : goal.returns-clause-unpinned
-returns-clause-unpinned g c =
-    let tracked = subst (AreTracked g.T.Elem.meaning g.S.FarTickets.content (IsSpelled g.T.Elem.in_range g.T.Elem.has_spelling g.T.Elem.spelling)) c.self.view_is c.self.invariant in
-    let is = c.loop-o.invariant.0 ∙ ap (λ l. coldest_in c.args.self.now c.loop-o.hot (keys_of l)) c.in_default.ensures.steps.0 ∙ coldest-none c.args.self.now c.loop-o.hot in
-    coldest-unpinned c.args.self.now tracked.ordered c.loop-o.hot is
-
-pub returns-clause-none : goal.returns-clause-none
-returns-clause-none g c =
-    let tracked = subst (AreTracked g.T.Elem.meaning g.S.FarTickets.content (IsSpelled g.T.Elem.in_range g.T.Elem.has_spelling g.T.Elem.spelling)) c.self.view_is c.self.invariant in
-    let is = c.loop-o.invariant.0 ∙ ap (λ l. coldest_in c.args.self.now c.loop-o.hot (keys_of l)) c.in_default.ensures.steps.0 ∙ coldest-none c.args.self.now c.loop-o.hot in
-    coldest-exactly c.args.self.now tracked.ordered c.loop-o.hot is
+    let is : coldest c.args.self.now ≡ c.first_cold.result = sym c.first_cold.ensures in
+    record {
+      coldest = sym is;
+      local = coldest-local c.args.self.now tracked.ordered c.first_cold.result is;
+      unpinned = coldest-unpinned c.args.self.now tracked.ordered c.first_cold.result is;
+      none = coldest-exactly c.args.self.now tracked.ordered c.first_cold.result is;
+    }

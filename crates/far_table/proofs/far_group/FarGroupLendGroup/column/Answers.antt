@@ -14,7 +14,7 @@ returns-in-Some-clause-cells g c =
     let v = c.self.invariant in
     let wanted : needs i.build.now.job.spec c.args.number ≡ true = ap (λ (s : Spec). needs s c.args.number) (sym v.same_spec) ∙ sym c.needs.ensures ∙ c.if-not-needs.false in
     let read = read-copy content i.rows.now i.build.now.group c.args.number i.build.now.job.tickets i.contents.now v.same_contents (v.copies.tickets c.args.number wanted) c.in-Some.bytes.now c.in-Some.ensures in
-    subst (IsOfPlaces (places_there content c.args.self.now)) (sym (c.column_of.ensures.form read.is_form))
+    subst (IsOfPlaces (places_there content c.args.self.now)) (sym (c.of_content.ensures.form read.is_form))
     (subst (λ (lent : FarRows g.row.S-Ticket.Denot). IsOfPlaces (places_there content lent) (c.args.number, cells_meant c.in-Some.bytes.now)) c.self.view_is read.cells)
 
 pub returns-in-None-clause-there : goal.returns-in-None-clause-there

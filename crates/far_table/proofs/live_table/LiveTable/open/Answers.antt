@@ -1,4 +1,5 @@
 use Rattle.std.proofs.Common.{arith, sym, subst}
+use Rattle.far_rows.specs.Jobs.{AreAt}
 use Rattle.far_table.specs.State.{AreChecked}
 use Rattle.far_table.proofs.LiveEdits.{none-checked}
 use Rattle.far_table.proofs.live_table.LiveTable.open.Goals as goal
@@ -11,3 +12,7 @@ invariant_of-result g c =
       kept = c.new-2.ensures.kept rows.limits.group rows.places;
       checked = subst (AreChecked rows.schema) (sym c.new-2.ensures.registered) (none-checked rows.schema 32);
     }
+
+-- there is no object yet, so no ticket
+pub returns-clause-here : goal.returns-clause-here
+returns-clause-here g c = λ name. subst (AreAt g.S.FarTickets.is_of name) (sym c.in_ok-rows.ensures.opened.held) record { numbers = λ o. tt; texts = λ o. tt }

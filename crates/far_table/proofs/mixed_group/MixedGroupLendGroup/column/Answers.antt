@@ -15,5 +15,5 @@ returns-in-Some-content_for-clause-cells g c =
     let content = g.S.FarTickets.content in
     let i = c.self.inside in
     let read = found-read (IsRead content i.local) c.args.number i.contents.now c.self.invariant.each c.in-Some-content_for.bytes.now c.in-Some-content_for.ensures in
-    subst (λ (m : MixedRows g.row.S-Ticket.Denot). IsOfPlaces (places_mixed content m) c.column_of.result) c.self.view_is
-    (subst (λ (column : ℕ × List Cell). IsOfPlaces (places_mixed content record { group = i.local; spec = i.spec.now }) column) (sym (c.column_of.ensures.form read.form)) read.cells)
+    subst (λ (m : MixedRows g.row.S-Ticket.Denot). IsOfPlaces (places_mixed content m) c.of_content.result) c.self.view_is
+    (subst (λ (column : ℕ × List Cell). IsOfPlaces (places_mixed content record { group = i.local; spec = i.spec.now }) column) (sym (c.of_content.ensures.form read.form)) read.cells)

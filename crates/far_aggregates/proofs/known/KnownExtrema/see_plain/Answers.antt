@@ -1,0 +1,33 @@
+use Rattle.std.proofs.Common.{◌≡◌, ◌<◌, length, refl, Some, None, sym, ap, ◌∙◌, subst}
+use Rattle.std.proofs.lemmas.Int.{to_z-of_z}
+use Rattle.far_types.specs.Changes.{with_seen, widened}
+use Rattle.far_extrema.specs.Live.{Live, group_at}
+use Rattle.far_aggregates.specs.Known.{AreKnown}
+use Rattle.far_aggregates.proofs.KnownLaws.{known-at, known-noted, known-same, seen-plain}
+use Rattle.far_aggregates.proofs.known.KnownExtrema.see_plain.Goals as goal
+
+pub see_noted-requires-clause-noted : goal.see_noted-requires-clause-noted
+see_noted-requires-clause-noted c =
+    let same = c.as_slice.ensures.value ∙ c.make_place.ensures in
+    known-at c.as_slice.result.now c.self.inside.live.groups c.args.group c.noted_in-noted.result (subst (λ plain. AreKnown plain c.self.inside.live.groups) (sym same) c.self.invariant) c.noted_in-noted.ensures
+
+pub invariant_of-self : goal.invariant_of-self
+invariant_of-self c =
+    let groups = c.self.inside.live.groups in
+    let known = subst (λ plain. AreKnown plain groups) (sym c.make_place.ensures) c.self.invariant in
+    known-same c.make_place.new.plain.items groups c.see_noted.new.live.groups (ap (λ (live : Live). live.groups) c.in_err-stood.ensures.err) known
+
+pub invariant_of-self-2 : goal.invariant_of-self-2
+invariant_of-self-2 c =
+    let fits = c.ranges.value in
+    let plain = c.make_place.new.plain.items in
+    let groups = c.self.inside.live.groups in
+    let m = group_at groups c.args.group in
+    let value = c.args.value in
+    let room : c.args.group < length groups = subst (λ (live : Live). c.args.group < length live.groups) (sym c.self.view_is) c.requires in
+    let new = simp to_z-of_z at c.in_ok-stood.ensures.ok in
+    let is = ap (λ (live : Live). live.groups) new in
+    let wide : c.wider.result ≡ widened value c.in_ok-stood.stood = simp to_z-of_z at c.wider.ensures in
+    let known = subst (λ plain. AreKnown plain groups) (sym c.make_place.ensures) c.self.invariant in
+    let noted = ap Some wide ∙ seen-plain m None value c.in_ok-stood.stood refl c.in_ok-stood.ensures.stood in
+    subst (AreKnown c.note.new.plain.items) (sym is) (known-noted plain c.note.new.plain.items groups c.args.group (with_seen m (None, value)) (Some c.wider.result) room noted known c.note.ensures)

@@ -1,0 +1,74 @@
+// The memory of text keys, from one edit to the next.
+ghost use Rattle.std.specs.Prelude.{◌≡◌, [], Some, IfOk, IfErr};
+ghost use Rattle.far_types.specs.declared.key.Key.TheVariants as keys;
+
+use super::changes::Pair;
+use super::coming::Coming;
+use far_types::{CellRef, Key, Refusal};
+use std::alloc::Global;
+
+/// How many keys an edit has at most: one that comes and one that goes for each of 32 aggregates.
+const MOST: usize = 64;
+
+/// Text keys of edits that have ended. The next edit writes its texts into their strings, so a key mostly allocates only
+/// where it is new to an aggregate. No answer depends on which keys are here.
+#[derive(Drop)]
+pub struct SpareKeys {
+    alloc: Global,
+    spare: Vec<Key>,
+}
+
+impl SpareKeys {
+    /// No key. Takes no memory.
+    pub fn new(alloc: Global) -> SpareKeys {
+        SpareKeys {
+            alloc,
+            spare: Vec::new(alloc),
+        }
+    }
+
+    /// The key of a text, in the string of a spare key if there is one. Refused with `NoMemory` (1) alone.
+    pub fn key_of(&mut self, text: &str) -> Result<Option<Key>, Refusal>
+        ensures key { IfOk result (λ key. key ≡ Some (keys.Text text.now)) }
+        ensures memory { IfErr result (λ e. e ≡ Refusal.NoMemory) }
+    {
+        let earlier = self.spare.pop();
+        if earlier.is_none() {
+            self.spare.reserve(MOST)?;
+        }
+        CellRef::Text(text).key(self.alloc, earlier)
+    }
+
+    /// Keeps the key of a pair that is needed no more, if it is a text and the list has capacity for it. Takes no memory.
+    pub fn keep(&mut self, pair: Pair) {
+        if let (Some(Key::Text(text)), _) = pair {
+            if self.spare.len() < self.spare.capacity() {
+                self.spare.push_reserved(Key::Text(text));
+            }
+        }
+    }
+
+    /// Empties the list of what came in an edit that has ended, and keeps its text keys. Takes no memory.
+    pub fn keep_came(&mut self, came: &mut Vec<Option<Coming>>)
+        ensures { came.new.items ≡ [] }
+    {
+        for come in came.iter_mut() {
+            if let Some(Coming { pair, .. }) = come.take() {
+                self.keep(pair);
+            }
+        }
+        came.clear();
+    }
+
+    /// Empties the list of what went in an edit that has ended, and keeps its text keys. Takes no memory.
+    pub fn keep_gone(&mut self, gone: &mut Vec<Option<Pair>>)
+        ensures { gone.new.items ≡ [] }
+    {
+        for pair in gone.iter_mut() {
+            if let Some(pair) = pair.take() {
+                self.keep(pair);
+            }
+        }
+        gone.clear();
+    }
+}

@@ -1,0 +1,82 @@
+// Tests of far_aggregates: edits that take no memory.
+ghost use Rattle.std.specs.Prelude.{◌≡◌, ◌+◌, ◌<◌, ◌^◌, [], List, length, IfOk, OnOk};
+ghost use Rattle.far_types.specs.Table.{Place};
+ghost use Rattle.far_aggregates.specs.Kept.{Keeps};
+ghost use Rattle.far_aggregates.specs.Pending.{AreKept};
+
+use far_aggregates::Aggregates;
+use far_types::{CellRef, LendCells, Refusal, Spec};
+use std::alloc::Global;
+
+/// A row of a name, and of the price 5.
+struct Sale {
+    name: &'static str,
+}
+
+impl LendCells for Sale {
+    ghost use Rattle.std.specs.Prelude.{pos, [], ◌∷◌};
+    ghost use Rattle.far_types.specs.declared.cell.Cell.TheVariants as cell;
+    ghost use Rattle.far_types.specs.Cells.{cells_of};
+
+    ghost cells = { λ sale. cells_of (cell.Text sale.name.now ∷ cell.Int (pos 5) ∷ []) };
+
+    fn cell(&self, column: u32) -> Option<CellRef<'_>> {
+        match column {
+            0 => Some(CellRef::Text(self.name)),
+            1 => Some(CellRef::Int(5)),
+            _ => None,
+        }
+    }
+}
+
+/// One aggregate over no rows, in row groups of 4.
+fn with_one(alloc: Global, spec: Spec) -> Result<Aggregates, Refusal>
+    ensures { IfOk result (λ aggregates. Keeps 4 [] aggregates) }
+{
+    let mut aggregates = Aggregates::new(alloc);
+    let Some(a) = aggregates.free_number() else {
+        return Err(Refusal::NoAggregate);
+    };
+    aggregates.register(alloc, a, spec, 0, 4, 0)?;
+    Ok(aggregates)
+}
+
+/// Brings in a row that is appended at a place, and ends the edit.
+fn append(
+    alloc: Global,
+    aggregates: &mut Aggregates,
+    sale: &Sale,
+    place: usize,
+) -> Result<(), Refusal>
+    requires few { place < 2 ^ 24 }
+    requires kept { (places : List Place) × (length places ≡ place) × AreKept 4 places aggregates.old }
+    ensures { OnOk result ((places : List Place) × (length places ≡ place + 1) × AreKept 4 places aggregates.new) }
+{
+    let pending = aggregates.come_in(alloc, sale, 4, place)?;
+    aggregates.end(pending);
+    Ok(())
+}
+
+static ANN: Sale = Sale { name: "ann" };
+
+/// Whether a second row under a name takes no memory. The first one alone may be refused for want of memory.
+fn knows_a_name(alloc: Global, aggregates: &mut Aggregates) -> Result<bool, Refusal>
+    requires { Keeps 4 [] aggregates.old }
+{
+    append(alloc, aggregates, &ANN, 0)?;
+    Ok(append(alloc, aggregates, &ANN, 1).is_ok())
+}
+
+fn totals_know_a_name(alloc: Global) -> Result<bool, Refusal> {
+    knows_a_name(alloc, &mut with_one(alloc, Spec::totals(alloc, 1).by(0))?)
+}
+
+fn extrema_know_a_name(alloc: Global) -> Result<bool, Refusal> {
+    knows_a_name(alloc, &mut with_one(alloc, Spec::extrema(alloc, 1).by(0))?)
+}
+
+#[test]
+fn a_row_under_a_known_text_takes_no_memory(rt: HostRuntime) {
+    assert!(rt; totals_know_a_name(rt.alloc()) == Ok(true));
+    assert!(rt; extrema_know_a_name(rt.alloc()) == Ok(true));
+}

@@ -1,0 +1,6 @@
+use Rattle.std.proofs.Common.{◌≡◌, replicate}
+use Rattle.far_log.proofs.Segmented.{blank}
+use Rattle.far_log.proofs.segments.Segments.new.Given as goal
+
+abbrev pub invariant-loop : goal.invariant-loop
+invariant-loop g l = l.tables.items ≡ replicate l.counter blank

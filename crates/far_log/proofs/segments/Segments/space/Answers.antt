@@ -1,0 +1,11 @@
+use Rattle.std.proofs.Common.{◌<◌, ap, ◌∙◌, sym, arith, length}
+use Rattle.far_log.proofs.Segmented.{segment-is, count-rooms, count-tables}
+use Rattle.far_log.proofs.segments.Segments.space.Goals as goal
+
+pub len-requires : goal.len-requires
+len-requires g c = omega (arith, c.requires, ap length c.self.view_is, count-rooms _ _ _ c.self.invariant, count-tables _ _ _ c.self.invariant)
+
+pub returns-clause-space : goal.returns-clause-space
+returns-clause-space g c =
+    let h = segment-is c.self.inside.stacks.size c.self.inside.stacks.stacks c.self.inside.tables.items c.args.self.now c.args.number c.self.invariant c.self.view_is c.requires in
+    omega (arith, h.fill, ap (λ s. s.size) h.shows, c.len.ensures.len, c.size.ensures)

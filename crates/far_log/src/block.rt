@@ -1,0 +1,97 @@
+// One block of memory for elements.
+ghost use Rattle.std.specs.Prelude.{◌≡◌, ◌+◌, ◌-◌, ◌<◌, ◌≤◌, ◌++◌, length, take, drop, replicate, slice_range, vec_len, vec_capacity};
+ghost use Rattle.std.specs.Borrow.{sem};
+ghost use Rattle.far_log.specs.Stacking.{IsPut};
+
+/// A block that is reserved once. What was written of it, up to the highest place, is its list.
+#[derive(Drop)]
+pub struct Block<T> {
+    pub items: Vec<T>,
+}
+
+impl<T: Copy + Drop> Block<T> {
+    /// Writes a list at a place. A gap between the list's end and the place is filled with the first element. Takes no memory.
+    pub fn write_at(&mut self, at: usize, list: &[T])
+        requires some { 0 < length list.now }
+        requires room { at + length list.now ≤ vec_capacity self.old.items }
+        ensures put { IsPut self.old.items.items self.new.items.items at list.now }
+        ensures capacity { vec_capacity self.old.items ≤ vec_capacity self.new.items }
+    {
+        let block = &mut self.items;
+        let end = at + list.len();
+        if end <= block.len() {
+            block.slice_mut(at..end).copy_from_slice(list);
+            return;
+        }
+        let Ok(()) = block.resize(at, list[0]) else {
+            unreachable!();
+        };
+        let Ok(()) = block.extend_from_slice(list) else {
+            unreachable!();
+        };
+    }
+
+    // Makes the list so long, if it is shorter, by copies of an element.
+    fn lengthen(&mut self, len: usize, filler: T)
+        requires { len ≤ vec_capacity self.old.items }
+        ensures grown { self.new.items.items ≡ self.old.items.items ++ replicate (len - vec_len self.old.items) filler }
+        ensures capacity { vec_capacity self.old.items ≤ vec_capacity self.new.items }
+    {
+        if len <= self.items.len() {
+            return;
+        }
+        let Ok(()) = self.items.resize(len, filler) else {
+            unreachable!();
+        };
+    }
+
+    /// Copies a list of the block to a place. Takes no memory.
+    pub fn copy_to(&mut self, from: usize, len: usize, to: usize)
+        requires some { 0 < len }
+        requires within { from + len ≤ length self.old.items.items }
+        requires room { to + len ≤ vec_capacity self.old.items }
+        ensures put { IsPut self.old.items.items self.new.items.items to (take len (drop from self.old.items.items)) }
+        ensures capacity { vec_capacity self.old.items ≤ vec_capacity self.new.items }
+    {
+        let filler = self.items[from];
+        self.lengthen(to + len, filler);
+        self.items.copy_within(from..from + len, to);
+    }
+
+    /// A list of the block, in place.
+    pub fn slice(&self, begin: usize, end: usize) -> &[T]
+        requires ordered { begin ≤ end }
+        requires within { end ≤ length self.now.items.items }
+        ensures { result.now ≡ slice_range self.now.items.items begin end }
+    {
+        &self.items[begin..end]
+    }
+}
+
+impl<T> Block<T> {
+    ghost use Rattle.far_log.specs.Lending.{lends_block, lends_bounded};
+
+    // A list of the block, to be written.
+    fn slice_mut(&mut self, begin: usize, end: usize) -> &mut [T]
+        requires ordered { begin ≤ end }
+        requires within { end ≤ vec_len self.old.items }
+        ensures* writes_back { sem 𝓛 (lends_block T.row self.entry begin result) }
+        ensures value { result.now ≡ slice_range self.old.items.items begin end }
+    {
+        self.items.slice_mut(begin..end)
+    }
+
+    /// A list of the block, to be written. What is left in it counts as no more than `most` elements, the room that it has.
+    ///
+    /// A slice keeps its length, so this is no more than `slice_mut`. But a contract on a borrow speaks of longer lists too,
+    /// and by that of `slice_mut` they would lie over what comes behind the room.
+    pub fn lend(&mut self, begin: usize, end: usize, most: usize) -> &mut [T]
+        requires ordered { begin ≤ end }
+        requires within { end ≤ vec_len self.old.items }
+        requires room { end - begin ≤ most }
+        ensures* writes_back { sem 𝓛 (lends_bounded T.row self.entry begin most result) }
+        ensures value { result.now ≡ slice_range self.old.items.items begin end }
+    {
+        self.slice_mut(begin, end)
+    }
+}

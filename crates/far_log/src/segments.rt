@@ -1,0 +1,213 @@
+// The segments of the region.
+ghost use Rattle.std.specs.Prelude.{◌≡◌, ℕ, ◌+◌, ◌-◌, ◌<◌, ◌≤◌, ◌^◌, ◌↔◌, List, [], length, take, drop, replicate, slice_range, sum_by, Some, IsSome, IsSomeAnd, IsTrue, IfOk, IfErr, OnOk, OnErr};
+ghost use Rattle.std.specs.Borrow.{sem};
+ghost use Rattle.far_log.specs.Room.{list_at, part_of, segment_of, fill_of, space_in, used_of};
+ghost use Rattle.far_log.specs.Changes.{with_segment, with_part, without_part, list_or_none};
+
+use super::links::unlink;
+use super::slots::{end_of, number_at, slot_at};
+use super::stacks::Stacks;
+use super::table::{Table, used_by};
+use far_pointer::At;
+use far_types::Refusal;
+use std::alloc::Global;
+use std::marker::Model;
+
+/// Segments of one size: a stack of elements for each, in one block, and a table of the parts in each.
+#[derive(Drop)]
+pub struct Segments<T> {
+    stacks: Stacks<T>,
+    tables: Vec<Table>,
+}
+
+impl<T> Model for Segments<T> {
+    ghost use Rattle.far_log.specs.Room.{Room};
+
+    ghost Value = { Room T };
+
+    ghost use Rattle.far_log.specs.Storage.{rooms_in, AreKept};
+
+    ghost view = { λ s. rooms_in s.stacks.size s.stacks.stacks s.tables.items };
+
+    ghost invariant = { λ s. AreKept s.stacks.size s.stacks.stacks s.tables.items };
+}
+
+impl<T: Copy + Drop> Segments<T> {
+    /// So many segments, each for `size` elements, without parts. Their memory is reserved and not written. Refused with
+    /// `NoMemory` (1) alone.
+    pub fn new(alloc: Global, count: u32, size: u32) -> Result<Segments<T>, Refusal>
+        requires { count ≤ 65536 }
+        ensures empty { IfOk result (λ room. room ≡ replicate count record { parts = []; size = size }) }
+        ensures memory { IfErr result (λ e. e ≡ Refusal.NoMemory) }
+    {
+        let stacks = Stacks::new(alloc, count, size)?;
+        let mut tables = Vec::with_capacity(alloc, count as usize)?;
+        for _ in 0..count {
+            tables.push(Table::new(alloc))?;
+        }
+        Ok(Segments { stacks, tables })
+    }
+
+    /// How many segments there are.
+    pub fn len(&self) -> usize
+        ensures { result ≡ length self.now }
+    {
+        self.tables.len()
+    }
+
+    /// For how many elements each segment is made.
+    pub fn size(&self) -> u32
+        ensures { (number : ℕ) → number < length self.now → (segment_of self.now number).size ≡ result }
+    {
+        self.stacks.size()
+    }
+
+    /// How many elements a segment takes behind its last part.
+    pub fn space(&self, number: usize) -> usize
+        requires { number < length self.now }
+        ensures space { result ≡ space_in (segment_of self.now number) }
+        ensures small { result < 2 ^ 32 }
+    {
+        self.stacks.size() as usize - self.stacks.len(number)
+    }
+
+    /// Whether a segment has no part.
+    pub fn is_empty(&self, number: usize) -> bool
+        requires { number < length self.now }
+        ensures { IsTrue result ↔ ((segment_of self.now number).parts ≡ []) }
+    {
+        self.stacks.len(number) == 0
+    }
+
+    /// The fills of all segments together.
+    pub fn filled(&self) -> usize
+        ensures { result ≡ sum_by fill_of self.now }
+    {
+        self.stacks.filled()
+    }
+
+    /// The lengths of all parts together.
+    pub fn used(&self) -> u64
+        requires { length self.now ≤ 65536 }
+        ensures { result ≡ used_of self.now }
+    {
+        used_by(&self.tables)
+    }
+
+    /// Whether a part begins at a location.
+    pub fn holds(&self, at: At) -> bool
+        requires { at.segment < length self.now }
+        ensures { IsTrue result ↔ IsSome (part_of self.now at) }
+    {
+        let table = &self.tables[at.segment as usize];
+        match slot_at(&table.entries, at.offset) {
+            Some(slot) => slot.live && slot.offset == at.offset,
+            None => false,
+        }
+    }
+
+    /// The part at a location.
+    pub fn part(&self, at: At) -> &[T]
+        requires { IsSome (part_of self.now at) }
+        ensures { part_of self.now at ≡ Some result.now }
+    {
+        let number = at.segment as usize;
+        let table = &self.tables[number];
+        let Some(slot) = slot_at(&table.entries, at.offset) else {
+            unreachable!();
+        };
+        self.stacks
+            .slice(number, slot.offset as usize, slot.len as usize)
+    }
+
+    /// The part at a location, which has so many elements.
+    pub fn part_long(&self, at: At, len: usize) -> &[T]
+        requires { IsSomeAnd (part_of self.now at) (λ list. length list ≡ len) }
+        ensures { part_of self.now at ≡ Some result.now }
+    {
+        self.stacks
+            .slice(at.segment as usize, at.offset as usize, len)
+    }
+
+    /// Places a list behind the last part of a segment, and answers where it begins. Refused with `NoMemory` (1) alone, where
+    /// the table of parts cannot grow; it takes no memory for elements.
+    pub fn place(&mut self, number: usize, items: &[T]) -> Result<u32, Refusal>
+        requires there { number < length self.old }
+        requires some { 0 < length items.now }
+        requires fits { length items.now ≤ space_in (segment_of self.old number) }
+        ensures placed { OnOk result (self.new ≡ with_segment self.old number (with_part (segment_of self.old number) items.now)) }
+        ensures offset { IfOk result (λ offset. offset ≡ fill_of (segment_of self.old number)) }
+        ensures memory { IfErr result (λ e. e ≡ Refusal.NoMemory) }
+        ensures err { OnErr result (self.new ≡ self.old) }
+    {
+        let fill = self.stacks.len(number);
+        let table = &mut self.tables[number];
+        let offset = table.push(fill, items.len())?;
+        self.stacks.push_slice(number, items);
+        Ok(offset)
+    }
+
+    /// Places a copy of the part at a location behind the last part of a segment, and answers where it begins. Refused with
+    /// `NoMemory` (1) alone, where the table of parts cannot grow; it takes no memory for elements.
+    pub fn place_copy(&mut self, from: At, number: usize) -> Result<u32, Refusal>
+        requires there { number < length self.old }
+        requires part { IsSome (part_of self.old from) }
+        requires fits { length (list_or_none (segment_of self.old from.segment).parts from.offset) ≤ space_in (segment_of self.old number) }
+        ensures placed { OnOk result (self.new ≡ with_segment self.old number (with_part (segment_of self.old number) (list_or_none (segment_of self.old from.segment).parts from.offset))) }
+        ensures offset { IfOk result (λ offset. offset ≡ fill_of (segment_of self.old number)) }
+        ensures memory { IfErr result (λ e. e ≡ Refusal.NoMemory) }
+        ensures err { OnErr result (self.new ≡ self.old) }
+    {
+        let len = self.part(from).len();
+        let fill = self.stacks.len(number);
+        let table = &mut self.tables[number];
+        let offset = table.push(fill, len)?;
+        self.stacks
+            .push_from(from.segment as usize, from.offset as usize, len, number);
+        Ok(offset)
+    }
+
+    /// Takes the part at a location away. Moves no elements.
+    pub fn drop_at(&mut self, at: At)
+        requires { IsSome (part_of self.old at) }
+        ensures { self.new ≡ with_segment self.old at.segment (without_part (segment_of self.old at.segment) at.offset) }
+    {
+        let segment = at.segment as usize;
+        let table = &mut self.tables[segment];
+        let number = number_at(&table.entries, at.offset);
+        let left = unlink(&mut table.entries, number);
+        let mut entry = table.entries.get(number);
+        entry.slot.live = false;
+        table.entries.set(number, entry);
+        table.used -= entry.slot.len;
+        table.entries.truncate(left);
+        let end = end_of(&table.entries);
+        self.stacks.truncate(segment, end);
+    }
+
+    /// Takes all parts of a segment away.
+    pub fn clear(&mut self, number: usize)
+        requires { number < length self.old }
+        ensures { self.new ≡ with_segment self.old number (record (segment_of self.old number) { parts = [] }) }
+    {
+        let table = &mut self.tables[number];
+        table.clear();
+        self.stacks.truncate(number, 0);
+    }
+}
+
+impl<T> Segments<T> {
+    ghost use Rattle.far_log.specs.Lending.{lends_range};
+
+    /// A range of the part at a location, to be written.
+    pub fn range_mut(&mut self, at: At, from: usize, to: usize) -> &mut [T]
+        requires ordered { from ≤ to }
+        requires within { IsSomeAnd (part_of self.old at) (λ list. to ≤ length list) }
+        ensures* writes_back { sem 𝓛 (lends_range T.row self.entry at from result) }
+        ensures value { IsSomeAnd (part_of self.old at) (λ list. result.now ≡ slice_range list from to) }
+    {
+        let stacks = &mut self.stacks;
+        let begin = at.offset as usize + from;
+        stacks.slice_mut(at.segment as usize, begin, to - from)
+    }
+}

@@ -1,0 +1,70 @@
+// The table of a segment's parts.
+ghost use Rattle.std.specs.Prelude.{◌≡◌, ◌+◌, ◌<◌, ◌≤◌, ◌^◌, [], ◌∷◌, ◌++◌, true, length, sum_by, OnOk, OnErr, IfOk, IfErr};
+ghost use Rattle.far_log.specs.Storage.{AreLinked, EndsLive, slots_of, links_of};
+
+use super::chunked_vec::ChunkedVec;
+use super::entry::Entry;
+use super::links::push_linked;
+use super::slots::Slot;
+use far_types::Refusal;
+use std::alloc::Global;
+
+/// The lengths of the parts in some tables together.
+pub fn used_by(tables: &[Table]) -> u64
+    requires { length tables.now ≤ 65536 }
+    ensures { result ≡ sum_by (λ t. t.used) tables.now }
+{
+    tables.iter().map(|table| table.used as u64).sum()
+}
+
+/// Where the parts of a segment lie, and how long they are together.
+#[derive(Drop)]
+pub struct Table {
+    pub entries: ChunkedVec<Entry>,
+    pub used: u32,
+}
+
+impl Table {
+    /// No part. Takes no memory.
+    pub fn new(alloc: Global) -> Table
+        ensures { result ≡ record { entries = []; used = 0 } }
+    {
+        Table {
+            entries: ChunkedVec::new(alloc),
+            used: 0,
+        }
+    }
+
+    /// Notes a part of so many elements behind the last, and answers where it begins. Refused with `NoMemory` (1) alone,
+    /// where the table cannot grow; then it is as before.
+    pub fn push(&mut self, offset: usize, len: usize) -> Result<u32, Refusal>
+        requires linked { AreLinked 0 0 0 (slots_of self.old.entries) (links_of self.old.entries) }
+        requires ends { EndsLive (slots_of self.old.entries) }
+        requires few { length self.old.entries < 2 ^ 32 }
+        requires small { offset < 2 ^ 32 }
+        requires sum { self.old.used + len < 2 ^ 32 }
+        ensures slots { OnOk result (slots_of self.new.entries ≡ slots_of self.old.entries ++ record { offset = offset; len = len; live = true } ∷ []) }
+        ensures linked { OnOk result (AreLinked 0 0 0 (slots_of self.new.entries) (links_of self.new.entries)) }
+        ensures used { OnOk result (self.new.used ≡ self.old.used + len) }
+        ensures offset { IfOk result (λ begin. begin ≡ offset) }
+        ensures memory { IfErr result (λ e. e ≡ Refusal.NoMemory) }
+        ensures err { OnErr result (self.new ≡ self.old) }
+    {
+        let slot = Slot {
+            offset: offset as u32,
+            len: len as u32,
+            live: true,
+        };
+        push_linked(&mut self.entries, slot)?;
+        self.used += slot.len;
+        Ok(slot.offset)
+    }
+
+    /// Forgets all parts.
+    pub fn clear(&mut self)
+        ensures { self.new ≡ record { entries = []; used = 0 } }
+    {
+        self.entries.truncate(0);
+        self.used = 0;
+    }
+}

@@ -1,0 +1,50 @@
+#![tactic(auto)]
+//! Quotients by a product, for divisors that do not change.
+
+ghost use Rattle.std.specs.Prelude.{◌≡◌, ◌<◌, ◌/◌, ◌%◌, ◌+◌, ◌^◌};
+
+/// A hint for divisions by a number that does not change, as that of the places of a row group: 2^40 over it, and a little
+/// more. A division takes a processor as long as some thirty other instructions; with the hint a product finds the quotient.
+///
+/// What the product finds is tested, and where the test fails a division is made. So a hint for another number costs time and
+/// nothing else. The test holds for numbers below 2^24 over at most 2^16, which places and row groups are. After Granlund and
+/// Montgomery, "Division by Invariant Integers using Multiplication" (PLDI 1994).
+#[derive(Clone, Copy, Debug)]
+pub struct Reciprocal {
+    factor: u64,
+}
+
+impl Reciprocal {
+    /// The hint for divisions by a number. Takes no memory.
+    pub fn new(divisor: usize) -> Reciprocal
+        requires { 0 < divisor }
+        ensures { result.factor ≡ 2 ^ 40 / divisor + 1 }
+    {
+        Reciprocal {
+            factor: 1_099_511_627_776 / divisor as u64 + 1,
+        }
+    }
+
+    /// How often a divisor goes into a number, rounded down. Takes no memory.
+    #[inline(always)]
+    pub fn quotient(self, number: usize, divisor: usize) -> usize
+        requires { 0 < divisor }
+        ensures { result ≡ number / divisor }
+    {
+        let guess = ((number as u64).wrapping_mul(self.factor) >> 40) as usize;
+        if let Some(product) = guess.checked_mul(divisor) {
+            if product <= number && number - product < divisor {
+                return guess;
+            }
+        }
+        number / divisor
+    }
+    /// What is left of a number once a divisor is taken from it as often as it goes. Takes no memory.
+    #[inline(always)]
+    pub fn remainder(self, number: usize, divisor: usize) -> usize
+        requires { 0 < divisor }
+        ensures { result ≡ number % divisor }
+    {
+        number - self.quotient(number, divisor) * divisor
+    }
+}

@@ -1,0 +1,112 @@
+// A cursor over the texts of a column.
+ghost use Rattle.std.specs.Prelude.{◌≡◌, ◌<◌, None, Some, length, slice_index};
+ghost use Rattle.far_scopes.specs.Refusing.{lend_refusal};
+ghost use Rattle.far_texts.specs.Texts.{lists_of, IsTextColumn, IsGroupForm, HasGroups};
+ghost use Rattle.far_texts.specs.Refusing.{text_refusal};
+ghost use Rattle.far_texts.specs.Lending.{IsCursor};
+
+use super::TextColumn;
+use far_scopes::Objects;
+use far_store::FarTickets;
+
+/// A place of a column whose places are gone through in order, and the far form of its row group. So the objects are
+/// looked at once a row group, and no place is divided.
+#[derive(Clone, Copy)]
+pub(super) struct Cursor<'a> {
+    /// The place.
+    pub place: usize,
+    /// The row group that it lies in, or that ends before it.
+    pub group: usize,
+    /// Where it stands from that row group's beginning.
+    pub index: usize,
+    /// The far form of the row group.
+    pub form: &'a [u8],
+}
+
+impl<'a> Cursor<'a> {
+    // A cursor where no place is left.
+    pub(super) fn none(place: usize) -> Cursor<'a>
+        ensures { result.place ≡ place }
+    {
+        Cursor {
+            place,
+            group: 0,
+            index: 0,
+            form: &[],
+        }
+    }
+
+    // The cursor at a place.
+    pub(super) fn new<S: FarTickets>(
+        column: &TextColumn,
+        objects: &'a Objects<u8, S>,
+        place: usize,
+    ) -> Cursor<'a>
+        requires is { IsTextColumn (lists_of S.content objects.now) column.now }
+        requires here { text_refusal S.content objects.now column.now place ≡ None }
+        ensures place { result.place ≡ place }
+        ensures cursor { IsCursor (lists_of S.content objects.now) column.now place result.group result.index result.form.now }
+    {
+        let _size = column.size();
+        let group = column.group_of(place);
+        let form = column.form_here(objects, group);
+        Cursor {
+            place,
+            group,
+            index: column.index_in(group, place),
+            form,
+        }
+    }
+
+    // The same place, as one of the row group that it lies in.
+    #[inline(always)]
+    pub(super) fn entered<S: FarTickets>(
+        self,
+        column: &TextColumn,
+        objects: &'a Objects<u8, S>,
+    ) -> Cursor<'a>
+        requires is { IsTextColumn (lists_of S.content objects.now) column.now }
+        requires cursor { IsCursor (lists_of S.content objects.now) column.now self.place self.group self.index self.form.now }
+        requires here { text_refusal S.content objects.now column.now self.place ≡ None }
+        ensures place { result.place ≡ self.entry.place }
+        ensures cursor { IsCursor (lists_of S.content objects.now) column.now result.place result.group result.index result.form.now }
+        ensures inside { result.index < column.now.size }
+    {
+        if self.index < column.size() {
+            return self;
+        }
+        let group = self.group + 1;
+        let form = column.form_here(objects, group);
+        Cursor {
+            place: self.place,
+            group,
+            index: 0,
+            form,
+        }
+    }
+}
+
+impl TextColumn {
+    // How many places a row group has.
+    #[inline(always)]
+    fn size(&self) -> usize
+        ensures size { result ≡ self.now.size }
+        ensures groups { HasGroups self.now }
+    {
+        self.size
+    }
+
+    // The far form of a row group whose object is local, lent in place.
+    fn form_here<'a, S: FarTickets>(&self, objects: &'a Objects<u8, S>, group: usize) -> &'a [u8]
+        requires begun { group < length self.now.objects }
+        requires is { IsTextColumn (lists_of S.content objects.now) self.now }
+        requires here { lend_refusal objects.now (slice_index self.now.objects group) ≡ None }
+        ensures lent { lists_of S.content objects.now (slice_index self.now.objects group) ≡ Some result.now }
+        ensures form { IsGroupForm self.now group result.now }
+    {
+        let Ok(form) = self.form(objects, group) else {
+            unreachable!()
+        };
+        form
+    }
+}
