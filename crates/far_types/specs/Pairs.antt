@@ -4,6 +4,7 @@ use Rattle.std.specs.Int.{w64}
 use Rattle.std.specs.List.{filter_map, AllByRecursion}
 use Rattle.far_types.specs.declared.cell.Cell.{Cell}
 use Rattle.far_types.specs.declared.key.Key.{Key}
+use Rattle.far_types.specs.declared.key.Key.TheVariants as key
 use Rattle.far_types.specs.declared.spec.Spec.{Spec}
 use Rattle.far_types.specs.Cells.{Cells, cells_of, number_in, key_in}
 use Rattle.far_types.specs.Filters.{keeps}
@@ -11,6 +12,13 @@ use Rattle.far_types.specs.Filters.{keeps}
 -- the key of a folded row, none in an aggregate without key column, and its value
 abbrev pub Pair : Type 0
 Pair = Option Key × ℤ
+
+-- the text under which a pair stands, if its key is one
+abbrev pub text_under : Option Pair → Option (List ℕ)
+text_under (Some (Some (key.Text text), value)) = Some text
+text_under (Some (Some (key.Int number), value)) = None
+text_under (Some (None, value)) = None
+text_under None = None
 
 -- the key under which a row stands: nothing where the key column has no value
 abbrev pub key_under : Option ℕ → Cells → Option (Option Key)

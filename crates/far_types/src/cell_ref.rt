@@ -1,9 +1,9 @@
 // Cells lent in place.
-ghost use Rattle.std.specs.Prelude.{◌≡◌, ◌↔◌, IsTrue, Some, IfOk, IfErr, IfSome, FitsSigned};
+ghost use Rattle.std.specs.Prelude.{◌≡◌, ◌↔◌, IsTrue, Some, IfOk, IfErr, IfSome, IsSome, OnErr, FitsSigned};
 ghost use Rattle.std.specs.Int.{w64};
 ghost use Rattle.std.specs.Option.{option_copied};
 ghost use Rattle.far_types.specs.declared.key.Key.TheVariants as keys;
-ghost use Rattle.far_types.specs.Cells.{number_in, key_in};
+ghost use Rattle.far_types.specs.Cells.{number_in, text_in, key_in};
 ghost use Rattle.far_types.specs.Lent.{lent_cell, int_cell, text_cell};
 
 use super::cell::Cell;
@@ -84,12 +84,14 @@ impl<'a> CellRef<'a> {
         }
     }
 
-    /// The key that the cell gives, or `None` where it has no value. The memory of an earlier key is used again. Refused with
-    /// `NoMemory` (1) alone. A number is told apart where the caller's loop is: only a text costs a call.
+    /// The key that the cell gives, or `None` if it has no value. The memory of an earlier key is used again. Refused with
+    /// `NoMemory` (1) alone, and only if the cell is a text: no other cell takes memory. A number is told apart where the
+    /// caller's loop is: only a text costs a call.
     #[inline(always)]
     pub fn key(self, alloc: Global, earlier: Option<Key>) -> Result<Option<Key>, Refusal>
         ensures key { IfOk result (λ key. key ≡ key_in (Some (lent_cell self.entry))) }
         ensures memory { IfErr result (λ e. e ≡ Refusal.NoMemory) }
+        ensures text { OnErr result (IsSome (text_in (lent_cell self.entry))) }
     {
         match self {
             CellRef::Int(number) => Ok(Some(Key::Int(number))),

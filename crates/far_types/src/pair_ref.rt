@@ -1,6 +1,7 @@
 // What a row gives to an aggregate, lent in place.
-ghost use Rattle.std.specs.Prelude.{◌≡◌, IfOk, IfErr};
+ghost use Rattle.std.specs.Prelude.{◌≡◌, IfOk, IfErr, IsSome, OnErr};
 ghost use Rattle.far_types.specs.Lent.{key_by, lent_pair};
+ghost use Rattle.far_types.specs.Pairs.{text_under};
 
 use super::cell_ref::CellRef;
 use super::key::Key;
@@ -31,8 +32,8 @@ pub fn number_key(number: Option<i64>) -> Option<Key>
 }
 
 impl<'a> PairRef<'a> {
-    /// The pair with a key of its own, or `None` where there is none. The memory of an earlier key is used again. Refused with
-    /// `NoMemory` (1) alone.
+    /// The pair with a key of its own, or `None` if there is none. The memory of an earlier key is used again. Refused with
+    /// `NoMemory` (1) alone, and only if the key is a text: no other pair takes memory.
     pub fn pair(
         self,
         alloc: Global,
@@ -40,6 +41,7 @@ impl<'a> PairRef<'a> {
     ) -> Result<Option<(Option<Key>, i64)>, Refusal>
         ensures pair { IfOk result (λ pair. pair ≡ lent_pair self.entry) }
         ensures memory { IfErr result (λ e. e ≡ Refusal.NoMemory) }
+        ensures text { OnErr result (IsSome (text_under (lent_pair self.entry))) }
     {
         match self {
             PairRef::Nothing => Ok(None),

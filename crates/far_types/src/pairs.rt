@@ -1,9 +1,9 @@
 // What a row gives to an aggregate.
-ghost use Rattle.std.specs.Prelude.{◌≡◌, IfOk, IfErr, IfSome, FitsSigned};
+ghost use Rattle.std.specs.Prelude.{◌≡◌, IfOk, IfErr, IfSome, IsSome, OnErr, FitsSigned};
 ghost use Rattle.std.specs.Int.{w64};
 ghost use Rattle.far_types.specs.Cells.{number_in};
 ghost use Rattle.far_types.specs.Lent.{lent_pair};
-ghost use Rattle.far_types.specs.Pairs.{pair_of};
+ghost use Rattle.far_types.specs.Pairs.{pair_of, text_under};
 
 use super::cell_ref::CellRef;
 use super::key::Key;
@@ -55,8 +55,8 @@ impl Spec {
         }
     }
 
-    /// The pair of a row, its key and its value, where it is kept and folded. Only the key is cloned. Refused with
-    /// `NoMemory` (1) alone.
+    /// The pair of a row, its key and its value, if the row is kept and folded. Only the key is cloned. Refused with
+    /// `NoMemory` (1) alone, and only if the key is a text.
     pub fn pair_of<R: LendCells>(
         &self,
         alloc: Global,
@@ -65,6 +65,7 @@ impl Spec {
         ensures pair { IfOk result (λ pair. pair ≡ pair_of self.now (R.cells row.now)) }
         ensures fits { IfOk result (λ pair. IfSome pair (λ p. FitsSigned w64 p.1)) }
         ensures memory { IfErr result (λ e. e ≡ Refusal.NoMemory) }
+        ensures text { OnErr result (IsSome (text_under (pair_of self.now (R.cells row.now)))) }
     {
         let lent = self.lend_pair(row);
         Ok(lent.pair(alloc, None)?)
