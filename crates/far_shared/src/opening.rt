@@ -9,7 +9,7 @@ use crate::stripe::{Site, Stripe};
 use crossbeam_utils::CachePadded;
 use far_frame::Frame;
 use far_history::Naming;
-use far_sessions::{Opened, Session};
+use far_sessions::{Keeper, Opened, Session};
 use far_store::FarTickets;
 use far_types::Refusal;
 use std::alloc::{AllocError, Global};
@@ -148,6 +148,47 @@ impl Plan {
     }
 }
 
+/// A table under its lock, beside what keeps its history: both are of an empty history.
+fn under_lock<N: Naming, B: Site, S: FarTickets, const I: usize>(
+    frame: Frame<S>,
+    keeper: Keeper<N, B, I>,
+) -> CachePadded<RwLock<Stripe<N, B, S, I>>>
+    requires empty { IsEmpty S.is_of N.plan I frame }
+    requires new { keeper ≡ [] }
+{
+    CachePadded::new(RwLock::new(Stripe { frame, keeper }))
+}
+
+/// Puts each table under a lock, beside what keeps its history.
+fn share<N: Naming, B: Site, S: FarTickets>(
+    alloc: Global,
+    count: Count<N>,
+    frames: Four<Frame<S>>,
+    opened: Opened<N, B>,
+) -> (Shared<N, B, S>, Vec<Session<B>>)
+    requires zero { IsEmpty S.is_of N.plan 0 frames.zero × (opened.keepers.zero ≡ []) }
+    requires one { IsEmpty S.is_of N.plan 1 frames.one × (opened.keepers.one ≡ []) }
+    requires two { IsEmpty S.is_of N.plan 2 frames.two × (opened.keepers.two ≡ []) }
+    requires three { IsEmpty S.is_of N.plan 3 frames.three × (opened.keepers.three ≡ []) }
+    ensures sessions { result.1.items ≡ opened.sessions.items }
+{
+    let Opened {
+        keepers,
+        cells,
+        sessions,
+    } = opened;
+    let shared = Shared {
+        alloc,
+        zero: under_lock(frames.zero, keepers.zero),
+        one: under_lock(frames.one, keepers.one),
+        two: under_lock(frames.two, keepers.two),
+        three: under_lock(frames.three, keepers.three),
+        cells,
+        count,
+    };
+    (shared, sessions)
+}
+
 impl<N: Naming, S: FarTickets> Made<N, S> {
     /// Puts each table under a lock, beside what keeps its history, and makes the sessions. All histories are empty. The caller names
     /// the four cells, and the store to which objects will go.
@@ -159,16 +200,16 @@ impl<N: Naming, S: FarTickets> Made<N, S> {
         ensures memory { IfErr result (λ e. e ≡ Refusal.NoMemory) }
     {
         let Made {
-            sessions: count,
+            sessions,
             columns,
             cells,
             frames,
         } = self;
         both(
             Ok(frames),
-            cells.open::<B>(alloc, count),
+            cells.open::<B>(alloc, sessions),
             |frames: Four<Frame<S>>, opened: Opened<N, B>| -> (Shared<N, B, S>, Vec<Session<B>>)
-                requires count { count ≡ N.plan.sessions }
+                requires sessions { sessions ≡ N.plan.sessions }
                 requires columns { columns ≡ length N.plan.schema }
                 requires zero { IsEmpty S.is_of N.plan 0 frames.zero × (opened.keepers.zero ≡ []) }
                 requires one { IsEmpty S.is_of N.plan 1 frames.one × (opened.keepers.one ≡ []) }
@@ -176,37 +217,12 @@ impl<N: Naming, S: FarTickets> Made<N, S> {
                 requires three { IsEmpty S.is_of N.plan 3 frames.three × (opened.keepers.three ≡ []) }
                 ensures { result.1.items ≡ opened.sessions.items }
             {
-                let Opened {
-                    keepers,
-                    cells,
+                let count = Count {
                     sessions,
-                } = opened;
-                let shared = Shared {
-                    alloc,
-                    zero: CachePadded::new(RwLock::new(Stripe {
-                        frame: frames.zero,
-                        keeper: keepers.zero,
-                    })),
-                    one: CachePadded::new(RwLock::new(Stripe {
-                        frame: frames.one,
-                        keeper: keepers.one,
-                    })),
-                    two: CachePadded::new(RwLock::new(Stripe {
-                        frame: frames.two,
-                        keeper: keepers.two,
-                    })),
-                    three: CachePadded::new(RwLock::new(Stripe {
-                        frame: frames.three,
-                        keeper: keepers.three,
-                    })),
-                    cells,
-                    count: Count {
-                        sessions: count,
-                        columns,
-                        of: PhantomData,
-                    },
+                    columns,
+                    of: PhantomData,
                 };
-                (shared, sessions)
+                share(alloc, count, frames, opened)
             },
         )
     }
