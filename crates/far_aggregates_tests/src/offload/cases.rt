@@ -112,6 +112,8 @@ fn columns_at_hand_are_folded_as_contents_are(rt: HostRuntime) {
     all_are_right(&rt, rt.alloc(), &CASES);
 }
 
+static MET_BY_A_FAULT: Case = WITH_A_DEAD_PLACE;
+
 /// Whether a job is carried in a store whose first get fails, once it was refused.
 fn meets_a_fault<S: FarStore>(
     alloc: Global,
@@ -127,6 +129,6 @@ fn meets_a_fault<S: FarStore>(
 #[test]
 fn a_job_that_met_a_fault_comes_back_and_is_carried_again(rt: HostRuntime) {
     let store = AgentStore::new(&rt, rt.alloc(), 8);
-    let met = meets_a_fault(rt.alloc(), store, &WITH_A_DEAD_PLACE);
+    let met = meets_a_fault(rt.alloc(), store, &MET_BY_A_FAULT);
     must_be(&rt, met, Ok(true));
 }

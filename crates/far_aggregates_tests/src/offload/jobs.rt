@@ -6,9 +6,10 @@ use crate::lines::{Lines, Name, key_of, text};
 use crate::offload::cases::SIX_ROWS;
 use crate::offload::folding::{columns, is_told};
 use crate::offload::rows::{form_of, put_ints};
+use far_extrema::Span;
 use far_offload::{OffloadJob, span_under};
 use far_store::{AgentStore, FarStore, Meter};
-use far_types::{Refusal, Spec, Test};
+use far_types::{Key, Refusal, Spec, Test};
 use std::alloc::Global;
 
 static ALIVE: [bool; 4] = [true, false, true, true];
@@ -60,13 +61,18 @@ fn under_texts_with_a(alloc: Global) -> Result<Spec, Refusal> {
         .only(Test::TextBegins { column: 1, text })
 }
 
-/// The least and the greatest number of the six rows with this text, of those whose text begins with `a`.
-fn span_of(alloc: Global, word: &'static str) -> Result<Option<(i64, i64)>, Refusal> {
-    let spec = under_texts_with_a(alloc)?;
-    let key = key_of(alloc, Name::Word(word))?;
+/// The extrema of the six rows under a key.
+fn span_in(alloc: Global, spec: &Spec, key: &Option<Key>) -> Result<Option<Span>, Refusal> {
     let form = form_of(alloc, SIX_ROWS.words)?;
     let columns = columns(SIX_ROWS.numbers, &form);
-    Ok(span_under(&spec, &columns, SIX_ROWS.alive, &key))
+    Ok(span_under(spec, &columns, SIX_ROWS.alive, key))
+}
+
+/// The least and the greatest number of the six rows with this text, of those whose text begins with `a`.
+fn span_of(alloc: Global, word: &'static str) -> Result<Option<Span>, Refusal> {
+    let spec = under_texts_with_a(alloc)?;
+    let key = key_of(alloc, Name::Word(word))?;
+    span_in(alloc, &spec, &key)
 }
 
 #[test]
