@@ -4,6 +4,7 @@ ghost use Rattle.far_types.specs.Table.{Place};
 ghost use Rattle.far_aggregates.specs.Kept.{Keeps};
 ghost use Rattle.far_aggregates.specs.Pending.{AreKept};
 
+use crate::cases::must_be;
 use far_aggregates::Aggregates;
 use far_types::{CellRef, LendCells, Refusal, Spec};
 use std::alloc::Global;
@@ -67,16 +68,16 @@ fn knows_a_name(alloc: Global, aggregates: &mut Aggregates) -> Result<bool, Refu
     Ok(append(alloc, aggregates, &ANN, 1).is_ok())
 }
 
-fn totals_know_a_name(alloc: Global) -> Result<bool, Refusal> {
-    knows_a_name(alloc, &mut with_one(alloc, Spec::totals(alloc, 1).by(0))?)
-}
-
-fn extrema_know_a_name(alloc: Global) -> Result<bool, Refusal> {
-    knows_a_name(alloc, &mut with_one(alloc, Spec::extrema(alloc, 1).by(0))?)
+/// The same of one aggregate by name.
+fn knows_its_name(alloc: Global, spec: Spec) -> Result<bool, Refusal> {
+    knows_a_name(alloc, &mut with_one(alloc, spec.by(0))?)
 }
 
 #[test]
 fn a_row_under_a_known_text_takes_no_memory(rt: HostRuntime) {
-    assert!(rt; totals_know_a_name(rt.alloc()) == Ok(true));
-    assert!(rt; extrema_know_a_name(rt.alloc()) == Ok(true));
+    let alloc = rt.alloc();
+    let totals = knows_its_name(alloc, Spec::totals(alloc, 1));
+    must_be(&rt, totals, Ok(true));
+    let extrema = knows_its_name(alloc, Spec::extrema(alloc, 1));
+    must_be(&rt, extrema, Ok(true));
 }

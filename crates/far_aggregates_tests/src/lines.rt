@@ -8,7 +8,7 @@ pub enum Name {
     Nobody,
     Number(i64),
     Word(&'static str),
-    /// The text that a number is written as.
+    /// The text that a number is written as. No line is named so.
     Written(i64),
 }
 
@@ -40,20 +40,11 @@ pub fn key_of(alloc: Global, name: Name) -> Result<Option<Key>, Refusal> {
     }
 }
 
-/// Whether a text is the one that a name tells.
-fn is_text(text: &str, name: Name) -> bool {
-    match name {
-        Name::Word(word) => text == word,
-        Name::Written(number) => text.parse() == Ok(number),
-        _ => false,
-    }
-}
-
 fn is_named(key: &Option<Key>, name: Name) -> bool {
     match key {
         None => matches!(name, Name::Nobody),
         Some(Key::Int(key)) => matches!(name, Name::Number(number) if number == *key),
-        Some(Key::Text(key)) => is_text(key.as_str(), name),
+        Some(Key::Text(key)) => matches!(name, Name::Word(word) if word == key.as_str()),
     }
 }
 
@@ -84,6 +75,9 @@ impl Lines<'_> {
 
     /// Whether an answer has these lines.
     pub fn are_of(self, answer: Result<Answer, Refusal>) -> Result<bool, Refusal> {
-        Ok(self.are_in(&answer?))
+        match answer {
+            Ok(answer) => Ok(self.are_in(&answer)),
+            Err(refusal) => Err(refusal),
+        }
     }
 }

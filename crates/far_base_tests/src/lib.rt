@@ -4,6 +4,8 @@
 //! (far_reciprocal), and scripts as text (far_script).
 
 #[cfg(test)]
+mod cases;
+#[cfg(test)]
 mod codec;
 #[cfg(test)]
 mod log;

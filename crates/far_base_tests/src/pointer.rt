@@ -2,7 +2,7 @@
 use far_pointer::{At, Pointer, Word};
 
 // Each word of the table, by what it says, with its bits.
-const WORDS: [(Pointer, u64); 4] = [
+static WORDS: [(Pointer, u64); 4] = [
     (
         Pointer::Local {
             at: At {
@@ -54,69 +54,97 @@ fn word_of(pointer: Pointer) -> Option<Word> {
     }
 }
 
+/// Whether a word has these bits, and is read back from them.
+fn is_laid_out(pointer: Pointer, bits: u64) -> bool {
+    let Some(word) = word_of(pointer) else {
+        return false;
+    };
+    Word::from_bits(bits) == Some(word) && word.bits() == bits && word.read() == pointer
+}
+
+fn are_laid_out() -> bool {
+    for (pointer, bits) in &WORDS {
+        if !is_laid_out(*pointer, *bits) {
+            return false;
+        }
+    }
+    true
+}
+
 #[test]
 fn a_word_has_the_bits_of_the_layout_and_is_read_back(rt: HostRuntime) {
-    for (pointer, bits) in WORDS {
-        let word = word_of(pointer);
-        assert_eq!(rt; word, Word::from_bits(bits), "{bits:x}");
-        let word = word.expect(&rt, "a word of the table");
-        assert_eq!(rt; word.bits(), bits);
-        assert_eq!(rt; word.read(), pointer, "{bits:x}");
+    assert!(rt; are_laid_out());
+}
+
+static OTHER_BITS: [u64; 4] = [
+    // Nothing is set.
+    0,
+    // Neither dirty nor far.
+    0x8000_0000_0000_0000,
+    // A spare bit.
+    0x9001_0000_0000_0000,
+    // Remote, with an offset.
+    0x1000_0000_0000_0001,
+];
+
+fn are_no_words() -> bool {
+    for bits in &OTHER_BITS {
+        if Word::from_bits(*bits).is_some() {
+            return false;
+        }
     }
+    true
 }
 
 #[test]
 fn no_word_has_other_bits(rt: HostRuntime) {
-    let nothing_set = 0;
-    let neither_dirty_nor_far = 0x8000_0000_0000_0000;
-    let a_spare_bit = 0x9001_0000_0000_0000;
-    let remote_with_an_offset = 0x1000_0000_0000_0001;
-    for bits in [
-        nothing_set,
-        neither_dirty_nor_far,
-        a_spare_bit,
-        remote_with_an_offset,
-    ] {
-        assert_eq!(rt; Word::from_bits(bits), None, "{bits:x}");
-    }
+    assert!(rt; are_no_words());
 }
+
+const AT_1: At = At {
+    segment: 1,
+    offset: 1,
+};
 
 #[test]
 fn a_local_word_that_is_neither_dirty_nor_far_is_not_made(rt: HostRuntime) {
-    let at = At {
-        segment: 1,
-        offset: 1,
-    };
-    assert_eq!(rt; Word::local(at, false, true, false), None);
+    assert!(rt; Word::local(AT_1, false, true, false).is_none());
 }
 
-#[test]
-fn each_change_keeps_the_other_parts(rt: HostRuntime) {
-    let word = Word::from_bits(0x9000_0000_0000_0000).expect(&rt, "a word");
+/// Whether a local word that is far alone is moved, is hot, is dirty, and is cold again.
+fn changes_part_by_part() -> bool {
+    let Some(word) = Word::from_bits(0x9000_0000_0000_0000) else {
+        return false;
+    };
     let moved = word.with_at(At {
         segment: 3,
         offset: 9,
     });
-    assert_eq!(rt; moved.bits(), 0x9000_0003_0000_0009);
     let hot = moved.with_hot(true);
-    assert_eq!(rt; hot.bits(), 0xb000_0003_0000_0009);
     let dirty = hot.with_dirty();
-    assert_eq!(rt; dirty.bits(), 0xf000_0003_0000_0009);
-    assert_eq!(rt; (dirty.dirty(), dirty.hot()), (true, true));
-    assert_eq!(rt; dirty.with_hot(false).bits(), 0xd000_0003_0000_0009);
+    moved.bits() == 0x9000_0003_0000_0009
+        && hot.bits() == 0xb000_0003_0000_0009
+        && dirty.bits() == 0xf000_0003_0000_0009
+        && dirty.dirty()
+        && dirty.hot()
+        && dirty.with_hot(false).bits() == 0xd000_0003_0000_0009
+}
+
+#[test]
+fn each_change_keeps_the_other_parts(rt: HostRuntime) {
+    assert!(rt; changes_part_by_part());
+}
+
+/// Whether no change changes a word, and it has no mark.
+fn stays(away: Word) -> bool {
+    away.with_dirty() == away
+        && away.with_hot(true) == away
+        && away.with_at(AT_1) == away
+        && !away.dirty()
+        && !away.hot()
 }
 
 #[test]
 fn a_remote_word_stays_as_it_is(rt: HostRuntime) {
-    let away = Word::remote();
-    assert_eq!(rt; away.with_dirty(), away);
-    assert_eq!(rt; away.with_hot(true), away);
-    assert_eq!(rt;
-        away.with_at(At {
-            segment: 1,
-            offset: 1
-        }),
-        away
-    );
-    assert_eq!(rt; (away.dirty(), away.hot()), (false, false));
+    assert!(rt; stays(Word::remote()));
 }

@@ -1,6 +1,7 @@
 // Row groups that are proposed after others were seen.
 ghost use Rattle.std.specs.Prelude.{◌≡◌, length, IfOk};
 
+use crate::cases::{Case, all, all_are_right, is_list, must_be};
 use far_prefetcher::Prefetcher;
 use far_types::Refusal;
 use std::alloc::Global;
@@ -16,30 +17,31 @@ fn after(alloc: Global, seen: &[u32]) -> Result<Prefetcher, Refusal>
     Ok(prefetcher)
 }
 
-// What is proposed for a column of so many groups after these were seen of it.
-fn proposals_after(alloc: Global, seen: &[u32], groups: u32) -> Result<Vec<u32>, Refusal> {
-    let prefetcher = after(alloc, seen)?;
-    prefetcher.proposals(alloc, 0, groups)
+// The groups that were seen of a column, how many it has, and those that are proposed then.
+struct Seen(&'static [u32], u32, &'static [u32]);
+
+impl Case for Seen {
+    fn is_right(&self, alloc: Global) -> Result<bool, Refusal> {
+        let prefetcher = after(alloc, self.0)?;
+        is_list(prefetcher.proposals(alloc, 0, self.1), self.2)
+    }
 }
 
-// The groups that were seen of a column, how many it has, and those that are proposed then.
-type Case = (&'static [u32], u32, &'static [u32]);
-
-const CASES: &[Case] = &[
-    (&[7, 5, 3, 1], 8, &[]),
-    (&[0, 0, 0, 0], 8, &[]),
-    (&[0, 1, 2, 3], 5, &[4]),
-    (&[0, 1, 2], 6, &[]),
-    (&[0, 1, 2, 3], 6, &[4, 5]),
-    (&[0, 1, 2, 3], 4, &[]),
-    (&[9, 7, 5, 3], 10, &[1]),
-    (&[8, 7, 6, 5], 10, &[4, 3]),
-    (&[0, 2, 3, 4], 9, &[]),
-    (&[0, 1, 2, 4], 9, &[]),
-    (&[0, 1, 3, 4], 9, &[]),
-    (&[4, 3, 2, 1], 9, &[0]),
-    (&[5, 5, 5, 5, 5, 9, 0, 3, 6, 9], 13, &[12]),
-    (
+static CASES: [Seen; 14] = [
+    Seen(&[7, 5, 3, 1], 8, &[]),
+    Seen(&[0, 0, 0, 0], 8, &[]),
+    Seen(&[0, 1, 2, 3], 5, &[4]),
+    Seen(&[0, 1, 2], 6, &[]),
+    Seen(&[0, 1, 2, 3], 6, &[4, 5]),
+    Seen(&[0, 1, 2, 3], 4, &[]),
+    Seen(&[9, 7, 5, 3], 10, &[1]),
+    Seen(&[8, 7, 6, 5], 10, &[4, 3]),
+    Seen(&[0, 2, 3, 4], 9, &[]),
+    Seen(&[0, 1, 2, 4], 9, &[]),
+    Seen(&[0, 1, 3, 4], 9, &[]),
+    Seen(&[4, 3, 2, 1], 9, &[0]),
+    Seen(&[5, 5, 5, 5, 5, 9, 0, 3, 6, 9], 13, &[12]),
+    Seen(
         &[4294967292, 4294967293, 4294967294, 4294967295],
         4294967295,
         &[],
@@ -47,29 +49,25 @@ const CASES: &[Case] = &[
 ];
 
 #[test]
-fn the_next_two_groups_of_a_stride_are_proposed_where_they_exist(
-    rt: HostRuntime,
-) -> Result<(), Refusal> {
-    for (seen, groups, want) in CASES {
-        let proposals = proposals_after(rt.alloc(), seen, *groups)?;
-        assert!(rt; proposals.as_slice() == *want, "after {seen:?}");
-    }
-    Ok(())
+fn the_next_two_groups_of_a_stride_are_proposed_where_they_exist(rt: HostRuntime) {
+    all_are_right(&rt, rt.alloc(), &CASES);
 }
 
-// What is proposed for two columns after groups were seen of all three.
-fn proposals_apart(alloc: Global) -> Result<(Vec<u32>, Vec<u32>), Refusal> {
-    let mut prefetcher = after(alloc, &[0, 1, 2, 3])?;
+// Whether groups that were seen of all three columns are proposed for the first, and none for the second.
+fn are_proposed_apart(alloc: Global, prefetcher: &mut Prefetcher) -> Result<bool, Refusal> {
     prefetcher.saw(1, 9);
     prefetcher.saw(2, 0);
-    let first = prefetcher.proposals(alloc, 0, 6)?;
-    Ok((first, prefetcher.proposals(alloc, 1, 6)?))
+    all(&[
+        is_list(prefetcher.proposals(alloc, 0, 6), &[4, 5]),
+        is_list(prefetcher.proposals(alloc, 1, 6), &[]),
+    ])
+}
+
+fn has_histories_apart(alloc: Global) -> Result<bool, Refusal> {
+    are_proposed_apart(alloc, &mut after(alloc, &[0, 1, 2, 3])?)
 }
 
 #[test]
-fn each_column_has_a_history_of_its_own(rt: HostRuntime) -> Result<(), Refusal> {
-    let (first, second) = proposals_apart(rt.alloc())?;
-    assert!(rt; first.as_slice() == [4, 5].as_slice());
-    assert!(rt; second.is_empty());
-    Ok(())
+fn each_column_has_a_history_of_its_own(rt: HostRuntime) {
+    must_be(&rt, has_histories_apart(rt.alloc()), Ok(true));
 }

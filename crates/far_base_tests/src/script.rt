@@ -1,47 +1,59 @@
 // A script that is read, and what is said of the faults that end one.
+use crate::cases::{Case, all_are_right, must_be};
 use far_script::{Input, Output, ShellFault};
-use std::alloc::{AllocError, Global};
+use far_types::Refusal;
+use std::alloc::Global;
+use std::io::Read;
 
 /// Two lines, which come at one read.
 const SCRIPT: &[u8] = b"schema 4 int\ninsert 1\n";
 
-/// How many reads and bytes are left of a script once its lines and its end were read.
-fn left_of(alloc: Global, script: &[u8]) -> Result<(u32, u32), ShellFault> {
-    let mut input = Input::new(alloc, script)?;
-    let mut output = Output::new(alloc);
-    let mut replies = Vec::new(alloc);
+/// How many reads and bytes are left of a script once two lines and its end were read.
+fn left_behind<R: Read + Drop>(
+    input: &mut Input<R>,
+    output: &mut Output,
+    replies: &mut Vec<u8>,
+) -> Result<(u32, u32), ShellFault> {
     for _ in 0..3 {
-        input.line(&mut output, &mut replies)?;
+        input.line(output, replies)?;
     }
     Ok((input.reads_left(), input.bytes_left()))
+}
+
+fn left_of(alloc: Global, script: &[u8]) -> Result<(u32, u32), ShellFault> {
+    let mut input = Input::new(alloc, script)?;
+    left_behind(&mut input, &mut Output::new(alloc), &mut Vec::new(alloc))
 }
 
 #[test]
 fn a_script_takes_its_reads_and_bytes_off_the_bounds(rt: HostRuntime) {
     let left = left_of(rt.alloc(), SCRIPT);
-    assert!(rt; left == Ok((1_048_574, 16_777_194)));
+    must_be(&rt, left, Ok((1_048_574, 16_777_194)));
 }
 
-static FAULTS: [(ShellFault, &str); 5] = [
-    (ShellFault::BadStart, "the first command opens no table"),
-    (ShellFault::Input, "the script could not be read"),
-    (ShellFault::Output, "the replies could not be written"),
-    (ShellFault::Memory, "the shell is out of memory"),
-    (
+/// A fault, and what is printed of it.
+struct Printed(ShellFault, &'static str);
+
+impl Case for Printed {
+    fn is_right(&self, alloc: Global) -> Result<bool, Refusal> {
+        let Printed(fault, text) = *self;
+        let printed = format!(in alloc; "{fault}")?;
+        Ok(printed.as_str() == text)
+    }
+}
+
+static FAULTS: [Printed; 5] = [
+    Printed(ShellFault::BadStart, "the first command opens no table"),
+    Printed(ShellFault::Input, "the script could not be read"),
+    Printed(ShellFault::Output, "the replies could not be written"),
+    Printed(ShellFault::Memory, "the shell is out of memory"),
+    Printed(
         ShellFault::Turns,
         "sessions did not get their edits through",
     ),
 ];
 
-/// Whether a fault is printed so.
-fn is_printed(alloc: Global, fault: ShellFault, text: &str) -> Result<bool, AllocError> {
-    let printed = format!(in alloc; "{fault}")?;
-    Ok(printed.as_str() == text)
-}
-
 #[test]
 fn each_fault_says_what_it_is(rt: HostRuntime) {
-    for (fault, text) in &FAULTS {
-        assert!(rt; is_printed(rt.alloc(), *fault, text) == Ok(true));
-    }
+    all_are_right(&rt, rt.alloc(), &FAULTS);
 }

@@ -1,4 +1,5 @@
 // Extrema by key of one row group.
+use crate::cases::must_be;
 use crate::lines::{Lines, Name, Row, key_of};
 use far_extrema::GroupExtrema;
 use far_types::{Key, Refusal};
@@ -48,8 +49,10 @@ fn sees_rows_at_once(alloc: Global, group: &mut GroupExtrema) -> Result<bool, Re
 #[test]
 fn rows_are_seen_one_by_one_or_folded(rt: HostRuntime) {
     let alloc = rt.alloc();
-    assert!(rt; sees_all(alloc, &mut GroupExtrema::new(alloc)) == Ok(true));
-    assert!(rt; sees_rows_at_once(alloc, &mut GroupExtrema::new(alloc)) == Ok(true));
+    let one_by_one = sees_all(alloc, &mut GroupExtrema::new(alloc));
+    must_be(&rt, one_by_one, Ok(true));
+    let folded = sees_rows_at_once(alloc, &mut GroupExtrema::new(alloc));
+    must_be(&rt, folded, Ok(true));
 }
 
 /// Puts what stands under a key, if anything does, and says whether the answer has these lines then.
@@ -91,5 +94,5 @@ fn a_text_loses_its_rows(alloc: Global) -> Result<bool, Refusal> {
 
 #[test]
 fn a_key_whose_rows_are_gone_is_listed_no_more(rt: HostRuntime) {
-    assert!(rt; a_text_loses_its_rows(rt.alloc()) == Ok(true));
+    must_be(&rt, a_text_loses_its_rows(rt.alloc()), Ok(true));
 }

@@ -3,6 +3,7 @@ ghost use Rattle.std.specs.Prelude.{◌≡◌, ◌≢◌, ◌-◌, [], OnOk};
 ghost use Rattle.far_extrema.specs.Live.{with_room, HasRoomFor};
 
 use crate::accumulators::extrema::see_all;
+use crate::cases::{NamedCase, all_are_right, must_be};
 use crate::lines::{Lines, Name, Row, key_of};
 use far_extrema::{GroupExtrema, LiveExtrema};
 use far_types::{Answer, Key, Refusal};
@@ -23,7 +24,7 @@ fn told_early(alloc: Global) -> Result<bool, Refusal> {
 
 #[test]
 fn extrema_are_told_once_their_row_groups_are_in(rt: HostRuntime) {
-    assert!(rt; told_early(rt.alloc()) == Err(Refusal::Building(1)));
+    must_be(&rt, told_early(rt.alloc()), Err(Refusal::Building(1)));
 }
 
 /// Makes room for a row group and its keys, at the second call where the first is refused.
@@ -106,8 +107,14 @@ impl Groups {
         }
         Lines::Extrema(self.lines).are_of(answer(alloc, live))
     }
+}
 
-    fn are_told(&self, alloc: Global) -> Result<bool, Refusal> {
+impl NamedCase for Groups {
+    fn name(&self) -> &'static str {
+        self.name
+    }
+
+    fn is_right(&self, alloc: Global) -> Result<bool, Refusal> {
         self.are_told_by(alloc, &mut LiveExtrema::new(alloc, 1))
     }
 }
@@ -159,10 +166,7 @@ static GROUPS: [Groups; 4] = [
 
 #[test]
 fn row_groups_have_the_lines_of_all_their_rows(rt: HostRuntime) {
-    for groups in &GROUPS {
-        let name = groups.name;
-        assert!(rt; groups.are_told(rt.alloc()) == Ok(true), "{name}");
-    }
+    all_are_right(&rt, rt.alloc(), &GROUPS);
 }
 
 /// Whether what stands under a key of row group 1 follows two rows, is put back to the first and follows another.
@@ -195,7 +199,7 @@ fn a_span_follows_rows_alone(alloc: Global) -> Result<bool, Refusal> {
 
 #[test]
 fn a_span_follows_a_row_and_is_put_back(rt: HostRuntime) {
-    assert!(rt; a_span_follows_rows_alone(rt.alloc()) == Ok(true));
+    must_be(&rt, a_span_follows_rows_alone(rt.alloc()), Ok(true));
 }
 
 /// Whether rows under a key that a row group has are seen without memory, and each call returns what stood there. The first row
@@ -215,5 +219,5 @@ fn knows_a_text(alloc: Global) -> Result<bool, Refusal> {
 
 #[test]
 fn a_row_under_a_known_key_takes_no_memory(rt: HostRuntime) {
-    assert!(rt; knows_a_text(rt.alloc()) == Ok(true));
+    must_be(&rt, knows_a_text(rt.alloc()), Ok(true));
 }

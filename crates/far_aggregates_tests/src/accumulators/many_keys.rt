@@ -3,6 +3,7 @@ ghost use Rattle.std.specs.Prelude.{◌≡◌};
 ghost use Rattle.std.specs.FinMap as fin;
 
 use crate::accumulators::totals::{add_all, answer, merge_rows};
+use crate::cases::{NamedCase, Same, all_are_right, are_same, both};
 use crate::lines::{Name, Row};
 use far_groups::LiveTotals;
 use far_types::{Answer, Refusal};
@@ -11,38 +12,38 @@ use std::alloc::Global;
 /// So many keys, each this far from the next.
 type Spread = (u32, i64);
 
-/// A row for each key of two spreads. The keys are numbers, or the texts that they are written as.
-fn rows(alloc: Global, texts: bool, spreads: [Spread; 2]) -> Result<Vec<Row>, Refusal> {
-    let mut rows = Vec::new(alloc);
-    for (count, step) in spreads {
-        for i in 0..count {
-            let value = i64::from(i).wrapping_mul(step);
-            let name = if texts {
-                Name::Written(value)
-            } else {
-                Name::Number(value)
-            };
-            rows.push((name, value))?;
-        }
+/// A key that is a number, or the text that it is written as.
+fn named(number: i64, texts: bool) -> Name {
+    if texts {
+        Name::Written(number)
+    } else {
+        Name::Number(number)
     }
+}
+
+/// Adds a row for each key of a spread.
+fn push_rows(rows: &mut Vec<Row>, texts: bool, (count, step): Spread) -> Result<(), Refusal> {
+    for i in 0..count {
+        let value = i64::from(i).wrapping_mul(step);
+        rows.push((named(value, texts), value))?;
+    }
+    Ok(())
+}
+
+/// A row for each key of two spreads.
+fn rows(alloc: Global, texts: bool, [here, there]: [Spread; 2]) -> Result<Vec<Row>, Refusal> {
+    let mut rows = Vec::new(alloc);
+    push_rows(&mut rows, texts, here)?;
+    push_rows(&mut rows, texts, there)?;
     Ok(rows)
 }
 
-fn are_same(one: &Answer, other: &Answer) -> bool {
-    match (one, other) {
-        (Answer::Totals(one), Answer::Totals(other)) => one.as_slice() == other.as_slice(),
-        _ => false,
-    }
-}
-
-/// Whether two answers are there, and have the same totals.
-fn are_both(one: Result<Answer, Refusal>, other: Result<Answer, Refusal>) -> Result<bool, Refusal> {
-    match &one {
-        Err(refusal) => Err(*refusal),
-        Ok(one) => match &other {
-            Err(refusal) => Err(*refusal),
-            Ok(other) => Ok(are_same(one, other)),
-        },
+impl Same for Answer {
+    fn is_same(&self, other: &Answer) -> bool {
+        match (self, other) {
+            (Answer::Totals(one), Answer::Totals(other)) => one.as_slice() == other.as_slice(),
+            _ => false,
+        }
     }
 }
 
@@ -67,7 +68,7 @@ fn joins(
     if !merge_rows(alloc, live, partial, here, there)? {
         return Ok(false);
     }
-    are_both(answer(alloc, live), answer(alloc, all))
+    are_same(answer(alloc, live), answer(alloc, all))
 }
 
 /// Keys that are in, and those of the rows that are merged to them.
@@ -88,6 +89,19 @@ impl Join {
             &mut LiveTotals::new(alloc, 1),
             &mut LiveTotals::new(alloc, 0),
             &mut LiveTotals::new(alloc, 0),
+        )
+    }
+}
+
+impl NamedCase for Join {
+    fn name(&self) -> &'static str {
+        self.name
+    }
+
+    fn is_right(&self, alloc: Global) -> Result<bool, Refusal> {
+        both(
+            self.is_row_by_row(alloc, false),
+            self.is_row_by_row(alloc, true),
         )
     }
 }
@@ -127,13 +141,5 @@ static JOINS: [Join; 6] = [
 
 #[test]
 fn two_maps_of_many_numbers_or_texts_are_joined_as_row_by_row(rt: HostRuntime) {
-    for join in &JOINS {
-        for texts in [false, true] {
-            let name = join.name;
-            assert!(rt;
-                join.is_row_by_row(rt.alloc(), texts) == Ok(true),
-                "{name}, texts: {texts}"
-            );
-        }
-    }
+    all_are_right(&rt, rt.alloc(), &JOINS);
 }

@@ -5,6 +5,7 @@ ghost use Rattle.far_types.specs.declared.key.Key.{Key};
 ghost use Rattle.far_types.specs.Changes.{count_in};
 ghost use Rattle.far_groups.specs.Live.{CanJoin};
 
+use crate::cases::{NamedCase, all_are_right, must_be};
 use crate::lines::{Lines, Name, Row, key_of};
 use far_groups::LiveTotals;
 use far_types::{Answer, Key, Refusal};
@@ -71,7 +72,7 @@ fn told_early(alloc: Global) -> Result<bool, Refusal> {
 
 #[test]
 fn totals_are_told_once_their_row_groups_are_in(rt: HostRuntime) {
-    assert!(rt; told_early(rt.alloc()) == Err(Refusal::Building(1)));
+    must_be(&rt, told_early(rt.alloc()), Err(Refusal::Building(1)));
 }
 
 /// Rows that are in while one row group is left, the rows of that, and the lines of the answer to all.
@@ -102,13 +103,16 @@ impl Merged {
         }
         Lines::Totals(self.lines).are_of(answer(alloc, live))
     }
+}
 
-    fn is_told(&self, alloc: Global) -> Result<bool, Refusal> {
-        self.is_told_by(
-            alloc,
-            &mut LiveTotals::new(alloc, 1),
-            &mut LiveTotals::new(alloc, 0),
-        )
+impl NamedCase for Merged {
+    fn name(&self) -> &'static str {
+        self.name
+    }
+
+    fn is_right(&self, alloc: Global) -> Result<bool, Refusal> {
+        let mut live = LiveTotals::new(alloc, 1);
+        self.is_told_by(alloc, &mut live, &mut LiveTotals::new(alloc, 0))
     }
 }
 
@@ -161,10 +165,7 @@ static MERGES: [Merged; 3] = [
 
 #[test]
 fn merged_totals_have_the_lines_of_all_rows(rt: HostRuntime) {
-    for case in &MERGES {
-        let name = case.name;
-        assert!(rt; case.is_told(rt.alloc()) == Ok(true), "{name}");
-    }
+    all_are_right(&rt, rt.alloc(), &MERGES);
 }
 
 static TWO_ROWS: [Row; 2] = [(Name::Nobody, 3), (Name::Nobody, 4)];
@@ -189,7 +190,8 @@ fn is_one_once_the_other_is_taken(alloc: Global, live: &mut LiveTotals) -> Resul
 #[test]
 fn a_row_is_taken(rt: HostRuntime) {
     let alloc = rt.alloc();
-    assert!(rt; is_one_once_the_other_is_taken(alloc, &mut LiveTotals::new(alloc, 0)) == Ok(true));
+    let is_one = is_one_once_the_other_is_taken(alloc, &mut LiveTotals::new(alloc, 0));
+    must_be(&rt, is_one, Ok(true));
 }
 
 static ONE_ROW: [Row; 1] = [(Name::Nobody, 5)];
@@ -229,7 +231,7 @@ fn has_both_lines_in_the_end(alloc: Global) -> Result<bool, Refusal> {
 
 #[test]
 fn a_refused_row_is_not_in_and_is_accepted_again(rt: HostRuntime) {
-    assert!(rt; has_both_lines_in_the_end(rt.alloc()) == Ok(true));
+    must_be(&rt, has_both_lines_in_the_end(rt.alloc()), Ok(true));
 }
 
 /// The count and the sum of a row, and of three that the caller folded.
@@ -244,5 +246,9 @@ fn folded(alloc: Global, live: &mut LiveTotals) -> Result<(u64, i128), Refusal>
 #[test]
 fn rows_that_the_caller_folded_come_in_at_once(rt: HostRuntime) {
     let alloc = rt.alloc();
-    assert!(rt; folded(alloc, &mut LiveTotals::new(alloc, 0)) == Ok((4, -1)));
+    must_be(
+        &rt,
+        folded(alloc, &mut LiveTotals::new(alloc, 0)),
+        Ok((4, -1)),
+    );
 }

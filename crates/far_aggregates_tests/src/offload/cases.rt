@@ -1,4 +1,5 @@
 // Row groups, and the lines of their answers.
+use crate::cases::{all_are_right, must_be};
 use crate::lines::{Lines, Name};
 use crate::offload::folding::{Case, Passing, RowGroup};
 use far_store::{AgentStore, FarStore, FaultyStore};
@@ -103,25 +104,31 @@ fn first_wrong<S: FarStore>(
 #[test]
 fn contents_are_folded(rt: HostRuntime) {
     let store = AgentStore::new(&rt, rt.alloc(), 32);
-    assert!(rt; first_wrong(rt.alloc(), store) == Ok(None));
+    must_be(&rt, first_wrong(rt.alloc(), store), Ok(None));
 }
 
 #[test]
 fn columns_at_hand_are_folded_as_contents_are(rt: HostRuntime) {
-    for case in &CASES {
-        let name = case.name;
-        assert!(rt; case.is_folded(rt.alloc()) == Ok(true), "{name}");
-    }
+    all_are_right(&rt, rt.alloc(), &CASES);
 }
 
+static MET_BY_A_FAULT: Case = WITH_A_DEAD_PLACE;
+
 /// Whether a job is carried in a store whose first get fails, once it was refused.
-fn meets_a_fault<S: FarStore>(alloc: Global, store: Result<S, Refusal>) -> Result<bool, Refusal> {
-    let faulty = FaultyStore::new(store?, 0, 1);
-    WITH_A_DEAD_PLACE.is_carried(alloc, &faulty, 1)
+fn meets_a_fault<S: FarStore>(
+    alloc: Global,
+    store: Result<S, Refusal>,
+    case: &Case,
+) -> Result<bool, Refusal> {
+    match store {
+        Ok(store) => case.is_carried(alloc, &FaultyStore::new(store, 0, 1), 1),
+        Err(refusal) => Err(refusal),
+    }
 }
 
 #[test]
 fn a_job_that_met_a_fault_comes_back_and_is_carried_again(rt: HostRuntime) {
     let store = AgentStore::new(&rt, rt.alloc(), 8);
-    assert!(rt; meets_a_fault(rt.alloc(), store) == Ok(true));
+    let met = meets_a_fault(rt.alloc(), store, &MET_BY_A_FAULT);
+    must_be(&rt, met, Ok(true));
 }

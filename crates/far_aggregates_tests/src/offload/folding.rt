@@ -3,6 +3,7 @@ ghost use Rattle.std.specs.Prelude.{◌≡◌, ◌<◌, ◌^◌, length, All, Is
 ghost use Rattle.far_codec.specs.Lent.{IsForm};
 ghost use Rattle.far_codec.specs.TextForm.{IsTextsForm};
 
+use crate::cases::NamedCase;
 use crate::lines::{Lines, text};
 use crate::offload::rows::{form_of, put_ints, put_texts};
 use far_offload::{Column, OffloadJob, PartialDone, fold};
@@ -56,12 +57,22 @@ fn tests_of(alloc: Global, passing: Passing) -> Result<Vec<Test>, Refusal> {
     Ok(Vec::from_array(alloc, [test])?)
 }
 
-/// The answer of a partial aggregate, or the refusal in its place.
-pub fn answer_of(alloc: Global, done: Result<PartialDone, Refusal>) -> Result<Answer, Refusal> {
-    match &done {
-        Ok(PartialDone::Totals(live)) => live.answer(alloc),
-        Ok(PartialDone::Extrema(seen)) => seen.answer(alloc),
-        Err(refusal) => Err(*refusal),
+fn answer_of(alloc: Global, done: &PartialDone) -> Result<Answer, Refusal> {
+    match done {
+        PartialDone::Totals(live) => live.answer(alloc),
+        PartialDone::Extrema(seen) => seen.answer(alloc),
+    }
+}
+
+/// Whether the answer of a partial aggregate has these lines, or the refusal in its place.
+pub fn is_told(
+    alloc: Global,
+    lines: Lines<'_>,
+    done: Result<PartialDone, Refusal>,
+) -> Result<bool, Refusal> {
+    match done {
+        Ok(done) => lines.are_of(answer_of(alloc, &done)),
+        Err(refusal) => Err(refusal),
     }
 }
 
@@ -104,7 +115,7 @@ fn comes_to<S: FarStore>(
 {
     let mut met = 0;
     let done = carry_again(alloc, store, job, &mut met);
-    let are_right = lines.are_of(answer_of(alloc, done));
+    let are_right = is_told(alloc, lines, done);
     if met == refused { are_right } else { Ok(false) }
 }
 
@@ -176,9 +187,15 @@ impl Case {
         let spec = self.spec(alloc)?;
         self.is_carried_over(alloc, store, spec, ints, texts, refused)
     }
+}
+
+impl NamedCase for Case {
+    fn name(&self) -> &'static str {
+        self.name
+    }
 
     /// Whether the row group with its columns at hand has the lines.
-    pub fn is_folded(&self, alloc: Global) -> Result<bool, Refusal> {
+    fn is_right(&self, alloc: Global) -> Result<bool, Refusal> {
         if !self.rows.is_short() {
             return Ok(false);
         }
@@ -186,6 +203,6 @@ impl Case {
         let form = form_of(alloc, self.rows.words)?;
         let columns = columns(self.rows.numbers, &form);
         let done = fold(alloc, &spec, &columns, self.rows.alive);
-        self.lines.are_of(answer_of(alloc, done))
+        is_told(alloc, self.lines, done)
     }
 }

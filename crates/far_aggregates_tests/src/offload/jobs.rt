@@ -1,13 +1,15 @@
 // A job that is kept, and what stands under one key.
 ghost use Rattle.std.specs.Prelude.{All};
 
+use crate::cases::must_be;
 use crate::lines::{Lines, Name, key_of, text};
 use crate::offload::cases::SIX_ROWS;
-use crate::offload::folding::{answer_of, columns};
+use crate::offload::folding::{columns, is_told};
 use crate::offload::rows::{form_of, put_ints};
+use far_extrema::Span;
 use far_offload::{OffloadJob, span_under};
 use far_store::{AgentStore, FarStore, Meter};
-use far_types::{Refusal, Spec, Test};
+use far_types::{Key, Refusal, Spec, Test};
 use std::alloc::Global;
 
 static ALIVE: [bool; 4] = [true, false, true, true];
@@ -19,28 +21,36 @@ fn is_kept<S: FarStore>(alloc: Global, store: &S, job: &OffloadJob<S>) -> Result
     requires { All (λ ticket. S.is_of ticket.1 (S.name store.now)) job.now.tickets }
 {
     let done = job.partial(alloc, store, &mut Meter::new());
-    let folded = LINES.are_of(answer_of(alloc, done));
+    let folded = is_told(alloc, LINES, done);
     let kept = job.tickets().len() == 1 && job.alive() == ALIVE.as_slice() && job.spec().value == 0;
     if kept { folded } else { Ok(false) }
 }
 
 /// Whether a job over the numbers from 1 to 4 is kept, in a store.
-fn keeps_a_job<S: FarStore>(alloc: Global, store: Result<S, Refusal>) -> Result<bool, Refusal> {
-    let store = store?;
+fn keeps_a_job<S: FarStore>(alloc: Global, store: &S) -> Result<bool, Refusal> {
+    let ints = put_ints(alloc, store, &[Some(1), Some(2), Some(3), Some(4)])?;
     let mut tickets = Vec::new(alloc);
-    tickets.push((
-        0,
-        put_ints(alloc, &store, &[Some(1), Some(2), Some(3), Some(4)])?,
-    ))?;
+    tickets.push((0, ints))?;
     let alive = Vec::from_array(alloc, ALIVE)?;
     let job = OffloadJob::new(Spec::totals(alloc, 0), tickets, alive);
-    is_kept(alloc, &store, &job)
+    is_kept(alloc, store, &job)
+}
+
+/// The same, if the store was made.
+fn keeps_a_job_once_made<S: FarStore>(
+    alloc: Global,
+    store: Result<S, Refusal>,
+) -> Result<bool, Refusal> {
+    match store {
+        Ok(store) => keeps_a_job(alloc, &store),
+        Err(refusal) => Err(refusal),
+    }
 }
 
 #[test]
 fn a_job_that_is_kept_gives_its_partial(rt: HostRuntime) {
     let store = AgentStore::new(&rt, rt.alloc(), 8);
-    assert!(rt; keeps_a_job(rt.alloc(), store) == Ok(true));
+    must_be(&rt, keeps_a_job_once_made(rt.alloc(), store), Ok(true));
 }
 
 /// The extrema by text, over the rows whose text begins with `a`.
@@ -51,17 +61,22 @@ fn under_texts_with_a(alloc: Global) -> Result<Spec, Refusal> {
         .only(Test::TextBegins { column: 1, text })
 }
 
-/// The least and the greatest number of the six rows with this text, of those whose text begins with `a`.
-fn span_of(alloc: Global, word: &'static str) -> Result<Option<(i64, i64)>, Refusal> {
-    let spec = under_texts_with_a(alloc)?;
-    let key = key_of(alloc, Name::Word(word))?;
+/// The extrema of the six rows under a key.
+fn span_in(alloc: Global, spec: &Spec, key: &Option<Key>) -> Result<Option<Span>, Refusal> {
     let form = form_of(alloc, SIX_ROWS.words)?;
     let columns = columns(SIX_ROWS.numbers, &form);
-    Ok(span_under(&spec, &columns, SIX_ROWS.alive, &key))
+    Ok(span_under(spec, &columns, SIX_ROWS.alive, key))
+}
+
+/// The least and the greatest number of the six rows with this text, of those whose text begins with `a`.
+fn span_of(alloc: Global, word: &'static str) -> Result<Option<Span>, Refusal> {
+    let spec = under_texts_with_a(alloc)?;
+    let key = key_of(alloc, Name::Word(word))?;
+    span_in(alloc, &spec, &key)
 }
 
 #[test]
 fn a_span_is_that_of_the_live_rows_under_its_key(rt: HostRuntime) {
-    assert!(rt; span_of(rt.alloc(), "ab") == Ok(Some((3, 3))));
-    assert!(rt; span_of(rt.alloc(), "b") == Ok(None));
+    must_be(&rt, span_of(rt.alloc(), "ab"), Ok(Some((3, 3))));
+    must_be(&rt, span_of(rt.alloc(), "b"), Ok(None));
 }

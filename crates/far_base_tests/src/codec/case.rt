@@ -1,18 +1,21 @@
-// Cases of tables.
+// Cases of tables that are tried again.
+use crate::cases::Case;
 use far_types::Refusal;
 use std::alloc::Global;
-
-/// A row of a table of tests.
-pub trait Case {
-    /// Whether all calls answer as the row says.
-    fn is_right(&self, alloc: Global) -> Result<bool, Refusal>;
-}
+use std::process::Abort;
 
 /// Whether a case is right. One that is refused for want of memory is tried again, since a run may ask that one allocation
 /// fails.
-pub fn holds<C: Case>(alloc: Global, case: &C) -> bool {
+fn holds<C: Case>(alloc: Global, case: &C) -> bool {
     match case.is_right(alloc) {
         Err(Refusal::NoMemory) => case.is_right(alloc) == Ok(true),
         answer => answer == Ok(true),
+    }
+}
+
+/// Ends the test at the first case that does not hold.
+pub fn all_hold<R: Abort, C: Case>(rt: &R, alloc: Global, cases: &[C]) {
+    for (i, case) in cases.iter().enumerate() {
+        assert!(rt; holds(alloc, case), "case {i}");
     }
 }

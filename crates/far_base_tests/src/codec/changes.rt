@@ -1,7 +1,8 @@
 // Forms made from forms in which one text changes.
 ghost use Rattle.far_codec.specs.TextForm.{IsTextsForm};
 
-use crate::codec::case::{Case, holds};
+use crate::cases::{Case, is_list};
+use crate::codec::case::all_hold;
 use crate::codec::forms::{E_ACUTE, THREE_TEXTS};
 use far_codec::{
     Elem, count_texts, form_of, form_with, form_with_next, length_with, length_with_next,
@@ -55,8 +56,7 @@ struct Change {
 
 impl Case for Change {
     fn is_right(&self, alloc: Global) -> Result<bool, Refusal> {
-        let form = changed(alloc, self.from, self.at, self.word)?;
-        Ok(form.as_slice() == self.to)
+        is_list(changed(alloc, self.from, self.at, self.word), self.to)
     }
 }
 
@@ -171,20 +171,18 @@ static CHANGES: [Change; 12] = [
 
 #[test]
 fn a_changed_text_stands_in_the_form_of_the_changed_list(rt: HostRuntime) {
-    for case in &CHANGES {
-        let (at, word) = (case.at, case.word);
-        assert!(rt; holds(rt.alloc(), case), "{word:?} at {at}");
-    }
+    all_hold(&rt, rt.alloc(), &CHANGES);
 }
 
 /// The form of one text that is short or missing.
 fn one_text(alloc: Global, word: Option<&str>) -> Result<Vec<u8>, Refusal> {
     let text = text(alloc, word)?;
-    match &text {
-        Some(short) if short.len() < 100 => form_of(alloc, &text),
-        Some(_) => Ok(Vec::new(alloc)),
-        None => form_of(alloc, &text),
+    if let Some(long) = &text
+        && long.len() >= 100
+    {
+        return Ok(Vec::new(alloc));
     }
+    form_of(alloc, &text)
 }
 
 /// Texts that are put one behind the other, and their form.
@@ -196,11 +194,14 @@ struct Growth {
 
 impl Case for Growth {
     fn is_right(&self, alloc: Global) -> Result<bool, Refusal> {
-        let mut form = one_text(alloc, self.first)?;
+        let mut form = one_text(alloc, self.first);
         for (i, word) in self.others.iter().enumerate() {
-            form = changed(alloc, form.as_slice(), i + 1, *word)?;
+            form = match &form {
+                Ok(form) => changed(alloc, form.as_slice(), i + 1, *word),
+                Err(refusal) => Err(*refusal),
+            };
         }
-        Ok(form.as_slice() == self.to)
+        is_list(form, self.to)
     }
 }
 
@@ -230,8 +231,5 @@ static GROWTHS: [Growth; 4] = [
 
 #[test]
 fn texts_put_one_behind_the_other_have_their_form(rt: HostRuntime) {
-    for case in &GROWTHS {
-        let (first, others) = (case.first, case.others);
-        assert!(rt; holds(rt.alloc(), case), "{first:?} {others:?}");
-    }
+    all_hold(&rt, rt.alloc(), &GROWTHS);
 }

@@ -1,4 +1,5 @@
 // Forms made by hand from the description of the format, and forms that are read and written again.
+use crate::cases::{all, is_list, is_nothing};
 use far_codec::{Elem, Values, decode, encode_ints, encode_texts};
 use far_types::{Kind, Refusal};
 use std::alloc::Global;
@@ -19,17 +20,14 @@ pub const E_ACUTE: &[u8] = &[1, 1, 1, 0, 0, 0, 2, 0, 0, 0, 195, 169];
 
 pub const MISSING_AND_A: &[u8] = &[2, 1, 2, 0, 0, 0, 1, 0, 0, 0, 0, 1, 0, 0, 0, 97];
 
-/// The kind of the values that are read from the bytes, if they are written as these bytes again.
-pub fn kind_of_rewritten(alloc: Global, bytes: &[u8]) -> Result<Option<Kind>, Refusal> {
-    let (kind, form) = match decode(alloc, bytes)? {
-        Some(Values::Ints(list)) => (Kind::Int, encode_ints(alloc, list.as_slice())?),
-        Some(Values::Texts(list)) => (Kind::Text, encode_texts(alloc, list.as_slice())?),
-        None => return Ok(None),
+/// Whether the values that are read from the bytes are of a kind, and are written as these bytes again.
+pub fn are_rewritten(alloc: Global, bytes: &[u8], kind: Kind) -> Result<bool, Refusal> {
+    let (read, form) = match decode(alloc, bytes)? {
+        Some(Values::Ints(list)) => (Kind::Int, encode_ints(alloc, list.as_slice())),
+        Some(Values::Texts(list)) => (Kind::Text, encode_texts(alloc, list.as_slice())),
+        None => return Ok(false),
     };
-    if form.as_slice() == bytes {
-        return Ok(Some(kind));
-    }
-    Ok(None)
+    all(&[Ok(read == kind), is_list(form, bytes)])
 }
 
 /// Whether these are the elements of an object where they are read from the bytes, and these bytes again.
@@ -41,11 +39,14 @@ pub fn are_elements<T: Elem + PartialEq>(
     let Some(read) = T::unspell(alloc, bytes)? else {
         return Ok(false);
     };
-    let form = T::spell(alloc, read.as_slice())?;
-    Ok(read.as_slice() == list && form.as_slice() == bytes && T::spells(bytes, list))
+    let is_same = read.as_slice() == list && T::spells(bytes, list);
+    all(&[
+        Ok(is_same),
+        is_list(T::spell(alloc, read.as_slice()), bytes),
+    ])
 }
 
 /// Whether the bytes spell no list of elements of an object.
 pub fn spells_none<T: Elem>(alloc: Global, bytes: &[u8]) -> Result<bool, Refusal> {
-    Ok(T::unspell(alloc, bytes)?.is_none())
+    is_nothing(T::unspell(alloc, bytes))
 }

@@ -1,5 +1,6 @@
 // Bytes that are no form.
-use crate::codec::case::{Case, holds};
+use crate::cases::{Case, all, is_nothing, must_be};
+use crate::codec::case::all_hold;
 use crate::codec::forms::{THREE_TEXTS, spells_none};
 use far_codec::{decode, kind_of, text_at};
 use far_types::Refusal;
@@ -7,12 +8,13 @@ use std::alloc::Global;
 
 /// Whether no call reads the bytes.
 pub fn is_no_form(alloc: Global, bytes: &[u8]) -> Result<bool, Refusal> {
-    let is_none = decode(alloc, bytes)?.is_none();
-    let plain = spells_none::<i64>(alloc, bytes)?;
-    let numbers = spells_none::<Option<i64>>(alloc, bytes)?;
-    let texts = spells_none::<u8>(alloc, bytes)?;
-    let told = kind_of(bytes).is_some() || text_at(bytes, 0).is_some();
-    Ok(is_none && plain && numbers && texts && !told)
+    all(&[
+        is_nothing(decode(alloc, bytes)),
+        spells_none::<i64>(alloc, bytes),
+        spells_none::<Option<i64>>(alloc, bytes),
+        spells_none::<u8>(alloc, bytes),
+        Ok(kind_of(bytes).is_none() && text_at(bytes, 0).is_none()),
+    ])
 }
 
 /// Bytes that are no form, and why.
@@ -76,19 +78,22 @@ static NO_FORMS: [NoForm; 11] = [
 
 #[test]
 fn other_bytes_are_no_form(rt: HostRuntime) {
-    for case in &NO_FORMS {
-        let flaw = case.flaw;
-        assert!(rt; holds(rt.alloc(), case), "{flaw}");
+    all_hold(&rt, rt.alloc(), &NO_FORMS);
+}
+
+/// Whether no part of a form from its beginning on is a form.
+fn is_whole_alone(alloc: Global) -> Result<bool, Refusal> {
+    for length in 0..21 {
+        let (prefix, _) = THREE_TEXTS.split_at(length);
+        let answer = is_no_form(alloc, prefix);
+        if answer != Ok(true) {
+            return answer;
+        }
     }
+    Ok(true)
 }
 
 #[test]
 fn no_proper_prefix_of_a_form_is_one(rt: HostRuntime) {
-    for length in 0..21 {
-        let (prefix, _) = THREE_TEXTS.split_at(length);
-        assert!(rt;
-            is_no_form(rt.alloc(), prefix) == Ok(true),
-            "of {length} bytes"
-        );
-    }
+    must_be(&rt, is_whole_alone(rt.alloc()), Ok(true));
 }

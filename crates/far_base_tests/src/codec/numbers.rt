@@ -1,7 +1,8 @@
 // Forms of numbers.
-use crate::codec::case::{Case, holds};
+use crate::cases::{Case, all};
+use crate::codec::case::all_hold;
 use crate::codec::forms::{
-    ONE_AND_MINUS_ONE, ONE_AND_MISSING, are_elements, kind_of_rewritten, spells_none,
+    ONE_AND_MINUS_ONE, ONE_AND_MISSING, are_elements, are_rewritten, spells_none,
 };
 use far_codec::{Elem, Values, decode, ints_length, kind_of};
 use far_types::{Kind, Refusal};
@@ -17,10 +18,12 @@ fn are_values(alloc: Global, bytes: &[u8], numbers: &[Option<i64>]) -> Result<bo
 
 /// Whether every call that reads and writes numbers agrees that the bytes are their form.
 fn are_numbers(alloc: Global, bytes: &[u8], numbers: &[Option<i64>]) -> Result<bool, Refusal> {
-    let kinds = [kind_of(bytes), kind_of_rewritten(alloc, bytes)?];
-    let elements = are_elements(alloc, bytes, numbers)?;
-    let values = are_values(alloc, bytes, numbers)?;
-    Ok(kinds == [Some(Kind::Int); 2] && elements && values)
+    all(&[
+        Ok(kind_of(bytes) == Some(Kind::Int)),
+        are_rewritten(alloc, bytes, Kind::Int),
+        are_elements(alloc, bytes, numbers),
+        are_values(alloc, bytes, numbers),
+    ])
 }
 
 /// A form made by hand, and its numbers.
@@ -34,10 +37,10 @@ struct Numbers {
 impl Case for Numbers {
     fn is_right(&self, alloc: Global) -> Result<bool, Refusal> {
         let are_plain = match self.plain {
-            Some(plain) => are_elements(alloc, self.form, plain)?,
-            None => spells_none::<i64>(alloc, self.form)?,
+            Some(plain) => are_elements(alloc, self.form, plain),
+            None => spells_none::<i64>(alloc, self.form),
         };
-        Ok(are_plain && are_numbers(alloc, self.form, self.numbers)?)
+        all(&[are_plain, are_numbers(alloc, self.form, self.numbers)])
     }
 }
 
@@ -76,65 +79,75 @@ static NUMBERS: [Numbers; 5] = [
 
 #[test]
 fn numbers_are_written_and_read(rt: HostRuntime) {
-    for case in &NUMBERS {
-        let numbers = case.numbers;
-        assert!(rt; holds(rt.alloc(), case), "{numbers:?}");
-    }
+    all_hold(&rt, rt.alloc(), &NUMBERS);
 }
 
-/// The numbers from 0 up to the last, which may be missing.
-#[derive(Drop)]
-struct Ascending {
-    last: u8,
-    is_last_missing: bool,
-}
+/// The numbers from 0 up to a last one, and whether that is missing.
+struct Ascending(u8, bool);
 
 impl Ascending {
+    fn number(&self, i: u8) -> Option<i64> {
+        let Ascending(last, is_last_missing) = *self;
+        let is_missing = is_last_missing && i == last;
+        (!is_missing).then_some(i64::from(i))
+    }
+
     fn numbers(&self, alloc: Global) -> Result<Vec<Option<i64>>, Refusal> {
         let mut numbers = Vec::new(alloc);
-        for number in 0..self.last {
-            numbers.push(Some(i64::from(number)))?;
+        for i in 0..=self.0 {
+            numbers.push(self.number(i))?;
         }
-        numbers.push((!self.is_last_missing).then_some(i64::from(self.last)))?;
         Ok(numbers)
     }
 
-    /// Their form, made by hand. A mask has a bit for each number, here for the last alone; a missing number is written as 0.
-    fn form(&self, alloc: Global) -> Result<Vec<u8>, Refusal> {
-        let version = if self.is_last_missing { 2 } else { 1 };
-        let head = [version, 0, self.last.wrapping_add(1), 0, 0, 0];
+    /// Their form up to the numbers, made by hand. A mask has a bit for each number, here for the last alone.
+    fn head(&self, alloc: Global) -> Result<Vec<u8>, Refusal> {
+        let Ascending(last, is_last_missing) = *self;
+        let version = if is_last_missing { 2 } else { 1 };
+        let head = [version, 0, last.wrapping_add(1), 0, 0, 0];
         let mut form = Vec::from_slice(alloc, &head)?;
-        if self.is_last_missing {
-            form.resize(6 + usize::from(self.last / 8), 0)?;
-            form.push(1 << (self.last % 8))?;
+        if is_last_missing {
+            form.resize(6 + usize::from(last / 8), 0)?;
+            form.push(1 << (last % 8))?;
         }
-        for number in 0..self.last {
-            form.extend_from_slice(&i64::from(number).to_le_bytes())?;
+        Ok(form)
+    }
+
+    /// Their form, made by hand. A missing number is written as 0.
+    fn form(&self, alloc: Global) -> Result<Vec<u8>, Refusal> {
+        let mut form = self.head(alloc)?;
+        for i in 0..=self.0 {
+            form.extend_from_slice(&self.number(i).unwrap_or(0).to_le_bytes())?;
         }
-        let last = if self.is_last_missing { 0 } else { self.last };
-        form.extend_from_slice(&i64::from(last).to_le_bytes())?;
         Ok(form)
     }
 }
 
 impl Case for Ascending {
     fn is_right(&self, alloc: Global) -> Result<bool, Refusal> {
+        let form = self.form(alloc)?;
         let numbers = self.numbers(alloc)?;
-        are_numbers(alloc, self.form(alloc)?.as_slice(), numbers.as_slice())
+        are_numbers(alloc, &form, &numbers)
     }
 }
 
+/// Lists around one block and two.
+static BLOCKS: [Ascending; 10] = [
+    Ascending(62, false),
+    Ascending(62, true),
+    Ascending(63, false),
+    Ascending(63, true),
+    Ascending(64, false),
+    Ascending(64, true),
+    Ascending(127, false),
+    Ascending(127, true),
+    Ascending(129, false),
+    Ascending(129, true),
+];
+
 #[test]
 fn lists_longer_than_a_block_are_written_and_read(rt: HostRuntime) {
-    for last in [62, 63, 64, 127, 129] {
-        for is_last_missing in [false, true] {
-            let case = Ascending {
-                last,
-                is_last_missing,
-            };
-            assert!(rt; holds(rt.alloc(), &case), "up to {last}");
-        }
-    }
+    all_hold(&rt, rt.alloc(), &BLOCKS);
 }
 
 /// Bytes, and numbers that they do not spell.
@@ -146,12 +159,16 @@ static UNSPELLED: [(&[u8], &[Option<i64>]); 5] = [
     (&[2, 0, 0, 0, 0, 0], &[]),
 ];
 
+fn are_unspelled() -> bool {
+    for (bytes, numbers) in &UNSPELLED {
+        if <Option<i64> as Elem>::spells(bytes, numbers) {
+            return false;
+        }
+    }
+    true
+}
+
 #[test]
 fn bytes_do_not_spell_other_numbers(rt: HostRuntime) {
-    for (bytes, numbers) in &UNSPELLED {
-        assert!(rt;
-            !<Option<i64> as Elem>::spells(bytes, numbers),
-            "{numbers:?}"
-        );
-    }
+    assert!(rt; are_unspelled());
 }

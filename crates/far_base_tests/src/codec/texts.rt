@@ -1,8 +1,9 @@
 // Forms of texts.
 ghost use Rattle.far_codec.specs.TextForm.{IsTextsForm};
 
-use crate::codec::case::{Case, holds};
-use crate::codec::forms::{E_ACUTE, MISSING_AND_A, THREE_TEXTS, are_elements, kind_of_rewritten};
+use crate::cases::{Case, all};
+use crate::codec::case::all_hold;
+use crate::codec::forms::{E_ACUTE, MISSING_AND_A, THREE_TEXTS, are_elements, are_rewritten};
 use far_codec::{Elem, Values, count_texts, decode, kind_of, text_at, text_of, texts_length};
 use far_types::{Kind, Refusal};
 use std::alloc::Global;
@@ -44,11 +45,13 @@ struct Texts {
 impl Case for Texts {
     /// Whether every call that reads and writes texts agrees that the bytes are their form.
     fn is_right(&self, alloc: Global) -> Result<bool, Refusal> {
-        let kinds = [kind_of(self.form), kind_of_rewritten(alloc, self.form)?];
-        let elements = are_elements(alloc, self.form, self.form)?;
-        let found = are_found(alloc, self.form, self.texts)?;
-        let values = are_values(alloc, self.form)?;
-        Ok(kinds == [Some(Kind::Text); 2] && elements && found && values)
+        all(&[
+            Ok(kind_of(self.form) == Some(Kind::Text)),
+            are_rewritten(alloc, self.form, Kind::Text),
+            are_elements(alloc, self.form, self.form),
+            are_found(alloc, self.form, self.texts),
+            are_values(alloc, self.form),
+        ])
     }
 }
 
@@ -73,8 +76,5 @@ static TEXTS: [Texts; 4] = [
 
 #[test]
 fn texts_are_written_and_read(rt: HostRuntime) {
-    for case in &TEXTS {
-        let texts = case.texts;
-        assert!(rt; holds(rt.alloc(), case), "{texts:?}");
-    }
+    all_hold(&rt, rt.alloc(), &TEXTS);
 }

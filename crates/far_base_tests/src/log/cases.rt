@@ -1,4 +1,5 @@
 // Parts that are placed, found, written, dropped and moved.
+use crate::cases::must_be;
 use crate::log::script::Case;
 use crate::log::script::Line::{
     Capacity, Compact, Drop, DropEach, Fits, Has, HasEach, IsFull, Place, PlaceEach, PlaceInEach,
@@ -6,7 +7,7 @@ use crate::log::script::Line::{
 };
 use far_log::Region;
 use far_types::Refusal;
-use std::test::Fail;
+use std::alloc::Global;
 
 static CASES: [Case; 14] = [
     Case {
@@ -215,21 +216,24 @@ fn a_region_answers_as_each_case_says(rt: HostRuntime) {
     }
 }
 
-/// Whether lists of 4 and 1; 1, 2 and 2; 2 and 4; 1, 4 and 1 elements, and no lists, fit in order.
-fn fit_in_order(region: &Region<u8>) -> [bool; 5] {
-    [
+/// Whether lists of 4 and 1; 1, 2 and 2; 2 and 4; 1, 4 and 1 elements, and no lists, fit in order behind one of 3.
+fn fit_in_order(region: &mut Region<u8>) -> Result<[bool; 5], Refusal> {
+    region.place(b"abc")?;
+    Ok([
         region.fits_in_order(&[4, 1]),
         region.fits_in_order(&[1, 2, 2]),
         region.fits_in_order(&[2, 4]),
         region.fits_in_order(&[1, 4, 1]),
         region.fits_in_order(&[]),
-    ]
+    ])
+}
+
+fn fit_behind_three(alloc: Global) -> Result<[bool; 5], Refusal> {
+    fit_in_order(&mut Region::new(alloc, 2, 4)?)
 }
 
 #[test]
-fn lists_fit_in_order_where_each_finds_the_space(rt: HostRuntime) -> Result<(), Fail> {
-    let mut region = Region::<u8>::new(rt.alloc(), 2, 4)?;
-    region.place(b"abc")?;
-    assert!(rt; fit_in_order(&region) == [true, true, false, false, true]);
-    Ok(())
+fn lists_fit_in_order_where_each_finds_the_space(rt: HostRuntime) {
+    let fit = fit_behind_three(rt.alloc());
+    must_be(&rt, fit, Ok([true, true, false, false, true]));
 }

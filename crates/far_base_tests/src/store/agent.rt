@@ -1,5 +1,5 @@
 // The agent store: worked examples, four threads at once, and memory that is refused.
-use crate::store::case::{AGENT, Case};
+use crate::store::case::{AGENT, Case, all_hold};
 use crate::store::generic::Why::Full;
 use crate::store::script::Line::{
     Fill, FourThreads, FromShelf, Get, Put, StaysFull, TellsApart, ToShelf,
@@ -63,20 +63,17 @@ static CASES: [Case; 7] = [
 
 #[test]
 fn an_agent_answers_as_each_case_says(rt: HostRuntime) {
-    for case in &CASES {
-        let name = case.name;
-        assert!(rt; case.holds(&rt, rt.alloc()), "{name}");
-    }
+    all_hold(&rt, rt.alloc(), &CASES);
 }
 
-static FILLED_BY_FOUR: Case = Case {
+static FILLED_BY_FOUR: [Case; 1] = [Case {
     name: "four threads fill a store together, and each reads back all of its own",
     capacity: 40_000,
     lines: &[FourThreads(10_000, 4, 0), Put(&[1], Err(Full))],
     ..AGENT
-};
+}];
 
 #[test]
 fn four_threads_read_back_their_own(rt: HostRuntime) {
-    assert!(rt; FILLED_BY_FOUR.holds(&rt, rt.alloc()));
+    all_hold(&rt, rt.alloc(), &FILLED_BY_FOUR);
 }

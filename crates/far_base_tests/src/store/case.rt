@@ -2,9 +2,10 @@
 use crate::store::planned_engine::{PlannedEngine, Turn};
 use crate::store::script::{Line, plays};
 use far_byte_log::ByteLog;
-use far_store::{AgentStore, EngineStore, FaultyStore};
+use far_store::{AgentStore, EngineStore, FarStore, FaultyStore};
 use far_types::Refusal;
 use std::alloc::Global;
+use std::process::Abort;
 use std::sync::Wait;
 use std::thread::Threads;
 
@@ -69,36 +70,41 @@ impl Case {
         }
     }
 
+    // Whether a store that was made for the case answers each line as it should, under a `FaultyStore`.
+    fn is_played<R: Threads + Sync, S: FarStore>(
+        &self,
+        rt: &R,
+        alloc: Global,
+        store: Result<S, Refusal>,
+    ) -> Result<bool, Refusal> {
+        match store {
+            Ok(store) => {
+                let store = FaultyStore::new(store, self.failing_put, self.failing_get);
+                Ok(plays(rt, &store, alloc, self.lines))
+            }
+            Err(refusal) => Err(refusal),
+        }
+    }
+
     fn tried<R: Threads + Wait + Sync + Drop>(
         &self,
         rt: &R,
         alloc: Global,
     ) -> Result<bool, Refusal> {
+        let capacity = self.capacity;
         match self.base {
-            Base::Agent => self.on_agent(rt, alloc),
-            Base::Log(size, plan) => self.on_log(rt, alloc, size, plan),
+            Base::Agent => self.is_played(rt, alloc, AgentStore::new(rt, alloc, capacity)),
+            Base::Log(size, plan) => {
+                self.is_played(rt, alloc, logged(rt, alloc, size, plan, capacity))
+            }
         }
     }
+}
 
-    fn on_agent<R: Threads + Wait + Sync + Drop>(
-        &self,
-        rt: &R,
-        alloc: Global,
-    ) -> Result<bool, Refusal> {
-        let agent = AgentStore::new(rt, alloc, self.capacity)?;
-        let store = FaultyStore::new(agent, self.failing_put, self.failing_get);
-        Ok(plays(rt, &store, alloc, self.lines))
-    }
-
-    fn on_log<R: Threads + Wait + Sync + Drop>(
-        &self,
-        rt: &R,
-        alloc: Global,
-        size: usize,
-        plan: &[Turn],
-    ) -> Result<bool, Refusal> {
-        let log = logged(rt, alloc, size, plan, self.capacity)?;
-        let store = FaultyStore::new(log, self.failing_put, self.failing_get);
-        Ok(plays(rt, &store, alloc, self.lines))
+// Ends the test at the first case whose store answers a line otherwise.
+pub fn all_hold<R: Abort + Threads + Wait + Sync + Drop>(rt: &R, alloc: Global, cases: &[Case]) {
+    for case in cases {
+        let name = case.name;
+        assert!(rt; case.holds(rt, alloc), "{name}");
     }
 }

@@ -1,5 +1,6 @@
 // Stores over engines: what an engine's failure is answered with, and a log that is full.
-use crate::store::case::{Base, Case, LOG};
+use crate::cases::must_be;
+use crate::store::case::{Base, Case, LOG, all_hold};
 use crate::store::generic::Why::{Fault, Full, NoMemory};
 use crate::store::planned_engine::Turn;
 use crate::store::script::Line::{self, FourThreads, FromShelf, Get, Put, ToShelf};
@@ -65,10 +66,7 @@ static CASES: [Case; 5] = [
 
 #[test]
 fn a_store_over_an_engine_answers_as_each_case_says(rt: HostRuntime) {
-    for case in &CASES {
-        let name = case.name;
-        assert!(rt; case.holds(&rt, rt.alloc()), "{name}");
-    }
+    all_hold(&rt, rt.alloc(), &CASES);
 }
 
 static IN_FIVE_BYTES: [Line; 6] = [
@@ -91,5 +89,5 @@ fn uses_all_of_five<R: Threads + Wait + Sync + Drop>(
 
 #[test]
 fn a_content_that_does_not_fit_into_the_log_leaves_its_room(rt: HostRuntime) {
-    assert!(rt; uses_all_of_five(&rt, rt.alloc()) == Ok(true));
+    must_be(&rt, uses_all_of_five(&rt, rt.alloc()), Ok(true));
 }

@@ -1,5 +1,5 @@
 // When a planned fault comes: no clause can say it, since no clause knows what an atomic holds.
-use crate::store::case::{AGENT, Base, Case, LOG};
+use crate::store::case::{AGENT, Base, Case, LOG, all_hold};
 use crate::store::generic::Why::{Fault, Full, NoMemory};
 use crate::store::planned_engine::Turn;
 use crate::store::script::Line::{self, FourThreads, Get, JoinsMeters, Put};
@@ -136,8 +136,5 @@ static CASES: [Case; 11] = [
 
 #[test]
 fn a_faulty_store_fails_where_each_case_says(rt: HostRuntime) {
-    for case in &CASES {
-        let name = case.name;
-        assert!(rt; case.holds(&rt, rt.alloc()), "{name}");
-    }
+    all_hold(&rt, rt.alloc(), &CASES);
 }

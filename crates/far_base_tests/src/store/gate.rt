@@ -1,4 +1,5 @@
 // What a gate does to a put, which no clause can say.
+use crate::cases::must_be;
 use crate::store::case::logged;
 use crate::store::generic::Why::{self, Fault};
 use crate::store::generic::put;
@@ -8,6 +9,7 @@ use crate::store::threads::had;
 use far_store::{AgentStore, FarStore, GateStore};
 use far_types::Refusal;
 use std::alloc::Global;
+use std::process::Abort;
 use std::sync::Wait;
 use std::thread::{self, Threads};
 
@@ -100,29 +102,35 @@ fn comes_out<R: Threads + Sync, S: FarStore>(
     }
 }
 
-fn on_agent<R: Threads + Wait + Sync + Drop>(
+// Whether a trial comes out on a gate over a store that was made for it.
+fn comes_out_on<R: Threads + Sync, S: FarStore>(
     rt: &R,
     alloc: Global,
+    store: Result<S, Refusal>,
     opener: Opener,
     trial: Trial,
 ) -> Result<bool, Refusal> {
-    let gate = gated(AgentStore::new(rt, alloc, 8)?, opener);
-    Ok(comes_out(rt, &gate, alloc, trial))
+    match store {
+        Ok(store) => Ok(comes_out(rt, &gated(store, opener), alloc, trial)),
+        Err(refusal) => Err(refusal),
+    }
 }
 
-fn on_log<R: Threads + Wait + Sync + Drop>(
-    rt: &R,
-    alloc: Global,
-    trial: Trial,
-) -> Result<bool, Refusal> {
-    let gate = gated(logged(rt, alloc, 8, &[], 8)?, Opener::Release);
-    Ok(comes_out(rt, &gate, alloc, trial))
+// What is tried on a gate over an agent, with a name.
+type Case = (&'static str, Opener, Trial);
+
+// Ends the test at the first trial that does not come out.
+fn all_come_out<R: Abort + Threads + Wait + Sync + Drop>(rt: &R, alloc: Global, cases: &[Case]) {
+    for (name, opener, trial) in cases {
+        let came_out = comes_out_on(rt, alloc, AgentStore::new(rt, alloc, 8), *opener, *trial);
+        assert!(rt; came_out == Ok(true), "{name}");
+    }
 }
 
 // The first put is held until it is a fault, and the second is served.
 const UNRELEASED: Trial = Trial::Plays(&[Put(&[1], Err(Fault)), Put(&[1], Ok(0))]);
 
-static CASES: [(&str, Opener, Trial); 5] = [
+static CASES: [Case; 5] = [
     (
         "a held put goes on when it is released",
         Opener::Release,
@@ -157,18 +165,20 @@ static CASES: [(&str, Opener, Trial); 5] = [
 
 #[test]
 fn a_gate_over_an_agent_opens_as_each_case_says(rt: HostRuntime) {
-    for (name, opener, trial) in &CASES {
-        let came_out = on_agent(&rt, rt.alloc(), *opener, *trial);
-        assert!(rt; came_out == Ok(true), "{name}");
-    }
+    all_come_out(&rt, rt.alloc(), &CASES);
 }
+
+static NEVER_RELEASED: [Case; 1] = [("nobody releases a put", Opener::Release, UNRELEASED)];
 
 #[test]
 fn a_put_that_nobody_releases_is_a_fault(rt: HostRuntime) {
-    assert!(rt; on_agent(&rt, rt.alloc(), Opener::Release, UNRELEASED) == Ok(true));
+    all_come_out(&rt, rt.alloc(), &NEVER_RELEASED);
 }
 
 #[test]
 fn a_held_put_into_a_log_goes_on_when_it_is_released(rt: HostRuntime) {
-    assert!(rt; on_log(&rt, rt.alloc(), Trial::ServesTheReleased) == Ok(true));
+    let log = logged(&rt, rt.alloc(), 8, &[], 8);
+    let trial = Trial::ServesTheReleased;
+    let came_out = comes_out_on(&rt, rt.alloc(), log, Opener::Release, trial);
+    must_be(&rt, came_out, Ok(true));
 }

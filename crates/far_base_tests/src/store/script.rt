@@ -1,5 +1,5 @@
 // What is tried on a store, line by line.
-ghost use Rattle.std.specs.Prelude.{IfSome};
+ghost use Rattle.std.specs.Prelude.{IfOk, IfSome};
 
 use crate::store::carrying::{is_carried_from_shelf, is_carried_to_shelf};
 use crate::store::generic::{Why, get, put};
@@ -77,7 +77,22 @@ impl Line {
     }
 }
 
-// Whether a put is answered so. One that finds no memory, where that is not wanted, is made again.
+// A put that is made again where it finds no memory, which is not wanted.
+fn put_at_last<S: FarStore>(
+    store: &S,
+    alloc: Global,
+    bytes: &[u8],
+    wanted: Result<u64, Why>,
+) -> Result<S::Ticket, Why>
+    ensures { IfOk result (λ t. S.is_of t (S.name store.now)) }
+{
+    match put(store, alloc, bytes) {
+        Err(Why::NoMemory) if wanted != Err(Why::NoMemory) => put(store, alloc, bytes),
+        answer => answer,
+    }
+}
+
+// Whether a put is answered so.
 fn is_put<S: FarStore>(
     store: &S,
     alloc: Global,
@@ -88,11 +103,7 @@ fn is_put<S: FarStore>(
     requires { IfSome last.old (λ t. S.is_of t (S.name store.now)) }
     ensures { IfSome last.new (λ t. S.is_of t (S.name store.now)) }
 {
-    let answer = match put(store, alloc, bytes) {
-        Err(Why::NoMemory) if wanted != Err(Why::NoMemory) => put(store, alloc, bytes),
-        answer => answer,
-    };
-    match answer {
+    match put_at_last(store, alloc, bytes, wanted) {
         Ok(ticket) => {
             let number = store.number(&ticket);
             *last = Some(ticket);
@@ -102,7 +113,23 @@ fn is_put<S: FarStore>(
     }
 }
 
-// Whether a get by a copy of the last ticket is answered so, and again where it finds no memory, which is not wanted.
+// A get that is made again where it finds no memory, which is not wanted.
+fn get_at_last<S: FarRead>(
+    store: &S,
+    alloc: Global,
+    ticket: &S::Ticket,
+    buffer: &mut Vec<u8>,
+    wanted: Result<&[u8], Why>,
+) -> Result<(), Why>
+    requires { S.is_of ticket.now (S.name store.now) }
+{
+    match get(store, alloc, ticket, buffer) {
+        Err(Why::NoMemory) if wanted != Err(Why::NoMemory) => get(store, alloc, ticket, buffer),
+        answer => answer,
+    }
+}
+
+// Whether a get by a copy of the last ticket is answered so.
 fn is_got<S: FarRead>(
     store: &S,
     alloc: Global,
@@ -115,11 +142,7 @@ fn is_got<S: FarRead>(
     let Some(ticket) = last else {
         return false;
     };
-    let copy = store.again(ticket);
-    let answer = match get(store, alloc, &copy, buffer) {
-        Err(Why::NoMemory) if wanted != Err(Why::NoMemory) => get(store, alloc, &copy, buffer),
-        answer => answer,
-    };
+    let answer = get_at_last(store, alloc, &store.again(ticket), buffer, wanted);
     match wanted {
         Ok(bytes) => answer == Ok(()) && buffer.as_slice() == bytes,
         Err(why) => answer == Err(why) && buffer.is_empty(),

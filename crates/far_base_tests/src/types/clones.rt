@@ -1,10 +1,31 @@
 // A clone is equal.
-use crate::types::samples::{row_of, schema, spec, text};
-use far_types::{Cell, Edit, Key, Kind, Refusal, clone_key};
+use crate::cases::{all, must_be};
+use crate::types::samples::{row_of, schema, spec, text_key};
+use far_types::{Cell, Edit, Key, Kind, Refusal, Schema, Spec, clone_key};
 use std::alloc::Global;
 
-fn is_schema_cloned(alloc: Global) -> Result<bool, Refusal> {
-    Ok(schema(alloc)?.clone()?.as_slice() == [Kind::Int, Kind::Text].as_slice())
+/// What is cloned where there is memory.
+trait Cloned: Drop {
+    fn cloned(&self) -> Result<Self, Refusal>;
+
+    /// Whether this is a clone of a value.
+    fn is_clone_of(&self, value: &Self) -> bool;
+}
+
+fn is_cloned<T: Cloned>(made: Result<T, Refusal>) -> Result<bool, Refusal> {
+    let value = made?;
+    let clone = value.cloned()?;
+    Ok(clone.is_clone_of(&value))
+}
+
+impl Cloned for Schema {
+    fn cloned(&self) -> Result<Schema, Refusal> {
+        self.clone()
+    }
+
+    fn is_clone_of(&self, _: &Schema) -> bool {
+        self.as_slice() == [Kind::Int, Kind::Text].as_slice()
+    }
 }
 
 fn has_cells(cells: &[Cell], number: i64, bytes: &str) -> bool {
@@ -14,28 +35,48 @@ fn has_cells(cells: &[Cell], number: i64, bytes: &str) -> bool {
     }
 }
 
-/// The same of an edit, and so of its row, of the cells of that and of a text.
-fn is_edit_cloned(alloc: Global) -> Result<bool, Refusal> {
-    let clone = Edit::Insert(row_of(alloc, Some(1), "a")?).clone()?;
-    Ok(matches!(&clone, Edit::Insert(row) if has_cells(row.as_slice(), 1, "a")))
+/// An edit, and so its row, the cells of that and a text.
+impl Cloned for Edit {
+    fn cloned(&self) -> Result<Edit, Refusal> {
+        self.clone()
+    }
+
+    fn is_clone_of(&self, _: &Edit) -> bool {
+        matches!(self, Edit::Insert(row) if has_cells(row.as_slice(), 1, "a"))
+    }
 }
 
-fn is_key_cloned(alloc: Global) -> Result<bool, Refusal> {
-    let key = Some(Key::Text(text(alloc, "a")?));
-    Ok(clone_key(&key)? == key)
+impl Cloned for Option<Key> {
+    fn cloned(&self) -> Result<Option<Key>, Refusal> {
+        clone_key(self)
+    }
+
+    fn is_clone_of(&self, key: &Option<Key>) -> bool {
+        *self == *key
+    }
 }
 
-/// The same of an aggregate, and so of its filter and the test of that.
-fn is_spec_cloned(alloc: Global) -> Result<bool, Refusal> {
-    let spec = spec(alloc, 0, 1, 1)?;
-    Ok(spec.clone()?.is_same(&spec))
+/// An aggregate, and so its filter and the test of that.
+impl Cloned for Spec {
+    fn cloned(&self) -> Result<Spec, Refusal> {
+        self.clone()
+    }
+
+    fn is_clone_of(&self, spec: &Spec) -> bool {
+        self.is_same(spec)
+    }
+}
+
+fn are_cloned(alloc: Global) -> Result<bool, Refusal> {
+    all(&[
+        is_cloned(schema(alloc)),
+        is_cloned(Ok(Edit::Insert(row_of(alloc, Some(1), "a")?))),
+        is_cloned(Ok(Some(text_key(alloc, "a")?))),
+        is_cloned(spec(alloc, 0, 1, 1)),
+    ])
 }
 
 #[test]
 fn a_clone_is_equal(rt: HostRuntime) {
-    let alloc = rt.alloc();
-    assert!(rt; is_schema_cloned(alloc) == Ok(true));
-    assert!(rt; is_edit_cloned(alloc) == Ok(true));
-    assert!(rt; is_key_cloned(alloc) == Ok(true));
-    assert!(rt; is_spec_cloned(alloc) == Ok(true));
+    must_be(&rt, are_cloned(rt.alloc()), Ok(true));
 }

@@ -1,4 +1,5 @@
 // The edges of the limits, and of schemas.
+use crate::cases::{Case, all_are_right};
 use far_types::{Kind, Limits, Refusal, Schema};
 use std::alloc::Global;
 
@@ -13,12 +14,26 @@ const LIMITS: Limits = Limits {
     text_size: 65_536,
 };
 
+/// Whether the check of each of these says so.
+fn are_checked(all: &[Limits], expected: Result<(), Refusal>) -> bool {
+    for limits in all {
+        if limits.check() != expected {
+            return false;
+        }
+    }
+    true
+}
+
+fn are_usual() -> bool {
+    Limits::in_groups_of(4) == LIMITS
+        && Limits::default() == Limits::in_groups_of(64)
+        && Limits::default().check() == Ok(())
+        && Limits::in_groups_of(65_536).check() == Ok(())
+}
+
 #[test]
 fn usual_limits_are_within_their_bounds(rt: HostRuntime) {
-    assert!(rt; Limits::in_groups_of(4) == LIMITS);
-    assert!(rt; Limits::default() == Limits::in_groups_of(64));
-    assert!(rt; Limits::default().check() == Ok(()));
-    assert!(rt; Limits::in_groups_of(65_536).check() == Ok(()));
+    assert!(rt; are_usual());
 }
 
 static AT_THEIR_ENDS: [Limits; 15] = [
@@ -133,30 +148,33 @@ static PAST_THEIR_ENDS: [Limits; 14] = [
 
 #[test]
 fn limits_reach_to_their_ends(rt: HostRuntime) {
-    for limits in &AT_THEIR_ENDS {
-        assert!(rt; limits.check() == Ok(()), "{limits:?}");
-    }
+    assert!(rt; are_checked(&AT_THEIR_ENDS, Ok(())));
 }
 
 #[test]
 fn limits_past_their_ends_are_refused(rt: HostRuntime) {
-    for limits in &PAST_THEIR_ENDS {
-        assert!(rt; limits.check() == Err(Refusal::BadSchema), "{limits:?}");
+    assert!(rt; are_checked(&PAST_THEIR_ENDS, Err(Refusal::BadSchema)));
+}
+
+/// How many columns, and whether a schema has so many.
+struct Width(usize, bool);
+
+impl Case for Width {
+    fn is_right(&self, alloc: Global) -> Result<bool, Refusal> {
+        let mut kinds = Vec::new(alloc);
+        kinds.resize(self.0, Kind::Int)?;
+        Ok(Schema::new(kinds).is_ok() == self.1)
     }
 }
 
-fn is_schema(alloc: Global, columns: usize) -> Result<bool, Refusal> {
-    let mut kinds = Vec::new(alloc);
-    kinds.resize(columns, Kind::Int)?;
-    Ok(Schema::new(kinds).is_ok())
-}
+static WIDTHS: [Width; 4] = [
+    Width(0, false),
+    Width(1, true),
+    Width(16, true),
+    Width(17, false),
+];
 
 #[test]
 fn a_schema_has_one_to_sixteen_columns(rt: HostRuntime) {
-    for (columns, expected) in [(0, false), (1, true), (16, true), (17, false)] {
-        assert!(rt;
-            is_schema(rt.alloc(), columns) == Ok(expected),
-            "{columns} columns"
-        );
-    }
+    all_are_right(&rt, rt.alloc(), &WIDTHS);
 }

@@ -1,22 +1,11 @@
 // What rows give to an aggregate, in hand and lent.
-use crate::types::samples::{row_of, spec, text};
+use crate::cases::{Case, all, all_are_right, are_equal, must_be};
+use crate::types::samples::{row_of, spec, text_key};
 use far_types::{CellRef, Key, LentRow, Op, PairRef, Refusal, Row, Spec, Test, number_key};
 use std::alloc::Global;
 
-/// Whether a row gives this pair, in hand and lent.
-fn gives(
-    alloc: Global,
-    spec: &Spec,
-    row: &Row,
-    pair: &Option<(Option<Key>, i64)>,
-) -> Result<bool, Refusal> {
-    if row.len() > 16 {
-        return Ok(false);
-    }
-    let in_hand = spec.pair_of(alloc, row)?;
-    let lent = spec.pair_of(alloc, &LentRow::of_row(row))?;
-    Ok(in_hand == *pair && lent == *pair)
-}
+/// What a row gives to an aggregate.
+type Pair = Option<(Option<Key>, i64)>;
 
 /// Whether a value is lent under a text, or nothing is where there is no value.
 fn lends(pair: PairRef<'_>, bytes: &str, value: Option<i64>) -> bool {
@@ -45,27 +34,44 @@ impl Folded {
         spec(alloc, 0, 1, 1)?.only(not_4)
     }
 
-    /// The pair that the row gives.
-    fn pair(&self, alloc: Global) -> Result<Option<(Option<Key>, i64)>, Refusal> {
-        match self.value {
-            Some(value) => Ok(Some((Some(Key::Text(text(alloc, self.bytes)?)), value))),
-            None => Ok(None),
+    /// Whether a pair is the one that the row gives.
+    fn is_pair(&self, pair: &Pair) -> bool {
+        match pair {
+            Some((Some(Key::Text(text)), value)) => {
+                self.value == Some(*value) && text.as_str() == self.bytes
+            }
+            Some(_) => false,
+            None => self.value.is_none(),
         }
     }
 
-    /// Whether the row is kept, and gives its pair and nothing else.
+    /// The same of a pair that was made.
+    fn is_made(&self, pair: Result<Pair, Refusal>) -> Result<bool, Refusal> {
+        match pair {
+            Ok(pair) => Ok(self.is_pair(&pair)),
+            Err(refusal) => Err(refusal),
+        }
+    }
+
+    /// Whether the row is kept, and gives its pair and nothing else, in hand and lent.
+    fn is_given(&self, alloc: Global, spec: &Spec, row: &Row) -> Result<bool, Refusal> {
+        if row.len() > 16 {
+            return Ok(false);
+        }
+        all(&[
+            Ok(spec.filter.keeps(row) == self.value.is_some()),
+            self.is_made(spec.pair_of(alloc, row)),
+            self.is_made(spec.pair_of(alloc, &LentRow::of_row(row))),
+            Ok(lends(spec.lend_pair(row), self.bytes, self.value)),
+        ])
+    }
+}
+
+impl Case for Folded {
     fn is_right(&self, alloc: Global) -> Result<bool, Refusal> {
         let spec = Folded::spec(alloc)?;
         let row = row_of(alloc, self.number, self.bytes)?;
-        let is_kept = spec.filter.keeps(&row) == self.value.is_some();
-        Ok(is_kept && gives(alloc, &spec, &row, &self.pair(alloc)?)?)
-    }
-
-    /// Whether the row lends its pair where it lies.
-    fn is_lent(&self, alloc: Global) -> Result<bool, Refusal> {
-        let spec = Folded::spec(alloc)?;
-        let row = row_of(alloc, self.number, self.bytes)?;
-        Ok(lends(spec.lend_pair(&row), self.bytes, self.value))
+        self.is_given(alloc, &spec, &row)
     }
 }
 
@@ -94,19 +100,11 @@ static ROWS: [Folded; 4] = [
 
 #[test]
 fn a_row_gives_its_value_under_its_key_where_all_tests_pass(rt: HostRuntime) {
-    for row in &ROWS {
-        let (number, bytes) = (row.number, row.bytes);
-        assert!(rt; row.is_right(rt.alloc()) == Ok(true), "{number:?} {bytes}");
-        assert!(rt; row.is_lent(rt.alloc()) == Ok(true), "{number:?} {bytes}");
-    }
+    all_are_right(&rt, rt.alloc(), &ROWS);
 }
 
 /// The pair of a row by the totals of its number, 7, under its second cell, where this key is at hand.
-fn pair_under(
-    alloc: Global,
-    cell: CellRef<'_>,
-    earlier: Option<Key>,
-) -> Result<Option<(Option<Key>, i64)>, Refusal> {
+fn pair_under(alloc: Global, cell: CellRef<'_>, earlier: Option<Key>) -> Result<Pair, Refusal> {
     let mut row = LentRow::new();
     row.push(CellRef::Int(7));
     row.push(cell);
@@ -114,35 +112,44 @@ fn pair_under(
     spec.lend_pair(&row).pair(alloc, earlier)
 }
 
+/// Whether a row gives its value under the number 5 where this key is at hand.
+fn is_under_5(alloc: Global, earlier: Option<Key>) -> Result<bool, Refusal> {
+    let pair = pair_under(alloc, CellRef::Int(5), earlier);
+    are_equal(pair, Ok(Some((Some(Key::Int(5)), 7))))
+}
+
+fn are_keys() -> bool {
+    number_key(Some(5)) == Some(Key::Int(5)) && number_key(None).is_none()
+}
+
 #[test]
 fn a_row_gives_its_value_under_its_number(rt: HostRuntime) {
-    let pair = pair_under(rt.alloc(), CellRef::Int(5), None);
-    assert!(rt; pair == Ok(Some((Some(Key::Int(5)), 7))));
-    assert!(rt; number_key(Some(5)) == Some(Key::Int(5)) && number_key(None).is_none());
+    must_be(&rt, is_under_5(rt.alloc(), None), Ok(true));
+    assert!(rt; are_keys());
 }
 
 /// Whether a row gives its value under a text where this key is at hand.
 fn is_under_text(alloc: Global, earlier: Option<Key>, bytes: &str) -> Result<bool, Refusal> {
-    let key = Key::Text(text(alloc, bytes)?);
-    let pair = pair_under(alloc, CellRef::Text(bytes), earlier)?;
-    Ok(pair == Some((Some(key), 7)))
+    let key = text_key(alloc, bytes)?;
+    let pair = pair_under(alloc, CellRef::Text(bytes), earlier);
+    are_equal(pair, Ok(Some((Some(key), 7))))
 }
 
 /// The same where a text is at hand.
 fn is_over_text(alloc: Global, earlier: &str, bytes: &str) -> Result<bool, Refusal> {
-    let earlier = Some(Key::Text(text(alloc, earlier)?));
-    is_under_text(alloc, earlier, bytes)
+    let earlier = text_key(alloc, earlier)?;
+    is_under_text(alloc, Some(earlier), bytes)
 }
 
 #[test]
 fn a_pair_is_made_over_an_earlier_key(rt: HostRuntime) {
-    for (earlier, bytes) in [("", "ab"), ("abc", "ab"), ("abc", "")] {
-        assert!(rt;
-            is_over_text(rt.alloc(), earlier, bytes) == Ok(true),
-            "{earlier} {bytes}"
-        );
-    }
-    assert!(rt; is_under_text(rt.alloc(), Some(Key::Int(3)), "ab") == Ok(true));
-    let number = pair_under(rt.alloc(), CellRef::Int(5), Some(Key::Int(3)));
-    assert!(rt; number == Ok(Some((Some(Key::Int(5)), 7))));
+    let alloc = rt.alloc();
+    let are_made = all(&[
+        is_over_text(alloc, "", "ab"),
+        is_over_text(alloc, "abc", "ab"),
+        is_over_text(alloc, "abc", ""),
+        is_under_text(alloc, Some(Key::Int(3)), "ab"),
+        is_under_5(alloc, Some(Key::Int(3))),
+    ]);
+    must_be(&rt, are_made, Ok(true));
 }

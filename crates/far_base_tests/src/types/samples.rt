@@ -1,9 +1,14 @@
 // What the tests begin with.
-use far_types::{Cell, Kind, Refusal, Row, Schema, Spec, Test, Text};
+use far_types::{Cell, Key, Kind, Refusal, Row, Schema, Spec, Test, Text};
 use std::alloc::Global;
 
 pub fn text(alloc: Global, bytes: &str) -> Result<Text, Refusal> {
     Ok(Text::new(String::from_str(alloc, bytes)?))
+}
+
+/// The key that a text is.
+pub fn text_key(alloc: Global, bytes: &str) -> Result<Key, Refusal> {
+    Ok(Key::Text(text(alloc, bytes)?))
 }
 
 /// The row of a number, which may be missing, and a text.
