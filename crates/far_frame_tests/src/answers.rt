@@ -1,10 +1,10 @@
 //! What a call answers, as plain data, and whether a reply is that.
 use crate::call::Value;
 use far_frame::{IntPiece, Reply, TextPiece};
-use far_types::{Answer, CellRef, Key, LentRow, Name, Refusal, Text};
+use far_types::{Answer, CellRef, Key, LentRow, Name, Refusal};
 
-/// A line of an answer: its key if it has one, and count and sum or least and greatest value.
-pub type Line = (Option<Value>, i128, i128);
+/// A line of an answer: its key, which is missing where there is no key column, and count and sum or least and greatest value.
+pub type Line = (Value, i128, i128);
 
 /// What is lent of a place: its value in a column, and whether the place is alive.
 pub type Lent = (Value, bool);
@@ -25,65 +25,104 @@ pub enum Due<'a> {
     Refused(Refusal),
 }
 
-fn is_key(key: &Option<Key>, due: Option<Value>) -> bool {
-    match (key, due) {
-        (None, None) => true,
-        (Some(Key::Int(number)), Some(Value::Int(due))) => *number == due,
-        (Some(Key::Text(text)), Some(Value::Text(due))) => text.as_str() == due,
+// Whether a cell is there and has this value.
+fn is_cell(cell: Option<CellRef<'_>>, due: Value) -> bool {
+    match (cell, due) {
+        (Some(CellRef::Int(number)), Value::Int(due)) => number == due,
+        (Some(CellRef::Text(text)), Value::Text(due)) => text == due,
+        (Some(CellRef::Missing), Value::Missing) => true,
         _ => false,
     }
 }
 
-// Whether an answer has this line at an index.
-fn is_line(answer: &Answer, at: usize, due: Line) -> bool {
+// The value of a key, which is missing where there is no key column.
+fn key_cell(key: &Option<Key>) -> CellRef<'_> {
+    match key {
+        Some(Key::Int(number)) => CellRef::Int(*number),
+        Some(Key::Text(text)) => CellRef::Text(text.as_str()),
+        None => CellRef::Missing,
+    }
+}
+
+// The line of an answer at an index.
+fn line_at(answer: &Answer, at: usize) -> Option<(CellRef<'_>, i128, i128)> {
     match answer {
         Answer::Totals(lines) => match lines.as_slice().get(at) {
-            Some((key, count, sum)) => {
-                is_key(key, due.0) && i128::from(*count) == due.1 && *sum == due.2
-            }
-            None => false,
+            Some((key, count, sum)) => Some((key_cell(key), i128::from(*count), *sum)),
+            None => None,
         },
         Answer::Extrema(lines) => match lines.as_slice().get(at) {
-            Some((key, least, greatest)) => {
-                is_key(key, due.0) && i128::from(*least) == due.1 && i128::from(*greatest) == due.2
-            }
-            None => false,
+            Some((key, least, greatest)) => Some((
+                key_cell(key),
+                i128::from(*least),
+                i128::from(*greatest),
+            )),
+            None => None,
         },
     }
 }
 
-// How many lines an answer has.
-fn count_of(answer: &Answer) -> usize {
-    match answer {
-        Answer::Totals(lines) => lines.as_slice().len(),
-        Answer::Extrema(lines) => lines.as_slice().len(),
+fn is_line(line: Option<(CellRef<'_>, i128, i128)>, due: Line) -> bool {
+    match line {
+        Some((key, first, second)) => {
+            is_cell(Some(key), due.0) && first == due.1 && second == due.2
+        }
+        None => false,
     }
 }
 
 // Whether an answer has these lines, in this order.
 fn is_answer(answer: &Answer, due: &[Line]) -> bool {
+    let mut same = line_at(answer, due.len()).is_none();
     for (at, line) in due.iter().enumerate() {
-        if !is_line(answer, at, *line) {
-            return false;
+        same = same && is_line(line_at(answer, at), *line);
+    }
+    same
+}
+
+/// Places of one row group that follow each other.
+trait Piece {
+    /// The value of the n-th place.
+    fn value(&self, n: usize) -> Option<CellRef<'_>>;
+
+    /// Whether each place is alive.
+    fn flags(&self) -> &[bool];
+}
+
+impl Piece for IntPiece {
+    fn value(&self, n: usize) -> Option<CellRef<'_>> {
+        match self.values.get(n) {
+            Some(number) => Some(CellRef::of_int(*number)),
+            None => None,
         }
     }
-    count_of(answer) == due.len()
-}
 
-fn is_number(number: Option<i64>, due: Value) -> bool {
-    match (number, due) {
-        (Some(number), Value::Int(due)) => number == due,
-        (None, Value::Missing) => true,
-        _ => false,
+    fn flags(&self) -> &[bool] {
+        self.flags.as_slice()
     }
 }
 
-fn is_text(text: &Option<Text>, due: Value) -> bool {
-    match (text, due) {
-        (Some(text), Value::Text(due)) => text.as_str() == due,
-        (None, Value::Missing) => true,
-        _ => false,
+impl Piece for TextPiece {
+    fn value(&self, n: usize) -> Option<CellRef<'_>> {
+        match self.values.get(n) {
+            Some(Some(text)) => Some(CellRef::Text(text.as_str())),
+            Some(None) => Some(CellRef::Missing),
+            None => None,
+        }
     }
+
+    fn flags(&self) -> &[bool] {
+        self.flags.as_slice()
+    }
+}
+
+fn is_piece<P: Piece>(piece: &P, due: &[Lent]) -> bool {
+    let flags = piece.flags();
+    let mut same = flags.len() == due.len() && piece.value(due.len()).is_none();
+    for (n, lent) in due.iter().enumerate() {
+        same = same && is_cell(piece.value(n), lent.0) && flags.get(n).copied() == Some(lent.1);
+    }
+    same
 }
 
 // Of how many places the piece is that begins at a place, where so many are lent in all from there on.
@@ -94,83 +133,72 @@ fn piece_len(place: usize, size: usize, left: usize) -> usize {
     size.saturating_sub(place % size).min(left)
 }
 
-// Whether pieces of numbers are these, the places from one on in row groups of a size.
-fn are_ints(pieces: &[IntPiece], size: u32, from: u32, due: &[Lent]) -> bool {
+// Whether pieces are these, the places from one on in row groups of a size.
+fn are_pieces<P: Piece>(pieces: &[P], size: u32, from: u32, due: &[Lent]) -> bool {
     let (mut place, mut left) = (from as usize, due);
     for piece in pieces {
         let len = piece_len(place, size as usize, left.len());
         match left.split_at_checked(len) {
-            Some((own, behind)) if is_int_piece(piece, own) => left = behind,
+            Some((own, behind)) if is_piece(piece, own) => left = behind,
             _ => return false,
         }
         place = place.saturating_add(len);
     }
     left.is_empty() && pieces.is_empty() == due.is_empty()
-}
-
-fn is_int_piece(piece: &IntPiece, due: &[Lent]) -> bool {
-    for ((number, flag), (value, alive)) in piece.values.iter().zip(piece.flags.iter()).zip(due) {
-        if !is_number(*number, *value) || *flag != *alive {
-            return false;
-        }
-    }
-    piece.values.len() == due.len() && piece.flags.len() == due.len()
-}
-
-// Likewise of texts.
-fn are_texts(pieces: &[TextPiece], size: u32, from: u32, due: &[Lent]) -> bool {
-    let (mut place, mut left) = (from as usize, due);
-    for piece in pieces {
-        let len = piece_len(place, size as usize, left.len());
-        match left.split_at_checked(len) {
-            Some((own, behind)) if is_text_piece(piece, own) => left = behind,
-            _ => return false,
-        }
-        place = place.saturating_add(len);
-    }
-    left.is_empty() && pieces.is_empty() == due.is_empty()
-}
-
-fn is_text_piece(piece: &TextPiece, due: &[Lent]) -> bool {
-    for ((text, flag), (value, alive)) in piece.values.iter().zip(piece.flags.iter()).zip(due) {
-        if !is_text(text, *value) || *flag != *alive {
-            return false;
-        }
-    }
-    piece.values.len() == due.len() && piece.flags.len() == due.len()
 }
 
 /// Whether a reply is the one that is due, of a table with row groups of this size.
 pub fn is_reply(reply: &Reply, due: Due<'_>, size: u32) -> bool {
-    match (reply, due) {
-        (Reply::Done, Due::Done) => true,
-        (Reply::Place(given), Due::Place(place)) => *given == place,
-        (Reply::Aggregate(given), Due::Aggregate(a)) => *given == a,
-        (Reply::Answer(answer), Due::Lines(lines)) => is_answer(answer, lines),
-        (Reply::Ints(pieces), Due::Lent(from, lent)) => are_ints(pieces, size, from, lent),
-        (Reply::Texts(pieces), Due::Lent(from, lent)) => are_texts(pieces, size, from, lent),
-        (Reply::Job(given), Due::Job(n)) => *given == n,
-        (Reply::Next(given), Due::Next(groups)) => given.as_slice() == groups,
-        (Reply::Refused(given), Due::Refused(refusal)) => *given == refusal,
-        _ => false,
+    match due {
+        Due::Lines(lines) => match reply {
+            Reply::Answer(answer) => is_answer(answer, lines),
+            _ => false,
+        },
+        Due::Lent(from, lent) => match reply {
+            Reply::Ints(pieces) => are_pieces(pieces, size, from, lent),
+            Reply::Texts(pieces) => are_pieces(pieces, size, from, lent),
+            _ => false,
+        },
+        Due::Next(groups) => match reply {
+            Reply::Next(given) => given.as_slice() == groups,
+            _ => false,
+        },
+        due => is_plain(reply, due),
     }
 }
 
-fn is_cell(cell: Option<CellRef<'_>>, due: Value) -> bool {
-    match (cell, due) {
-        (Some(CellRef::Int(number)), Value::Int(due)) => number == due,
-        (Some(CellRef::Text(text)), Value::Text(due)) => text == due,
-        (Some(CellRef::Missing), Value::Missing) => true,
+// The same of a reply that owns nothing.
+fn is_plain(reply: &Reply, due: Due<'_>) -> bool {
+    match reply {
+        Reply::Done => match due {
+            Due::Done => true,
+            _ => false,
+        },
+        Reply::Place(given) => match due {
+            Due::Place(place) => *given == place,
+            _ => false,
+        },
+        Reply::Aggregate(given) => match due {
+            Due::Aggregate(a) => *given == a,
+            _ => false,
+        },
+        Reply::Job(given) => match due {
+            Due::Job(n) => *given == n,
+            _ => false,
+        },
+        Reply::Refused(given) => match due {
+            Due::Refused(refusal) => *given == refusal,
+            _ => false,
+        },
         _ => false,
     }
 }
 
 /// Whether a row that is lent has these values.
 pub fn is_row(row: &LentRow<'_>, due: &[Value]) -> bool {
+    let mut same = row.len() == due.len();
     for (column, value) in due.iter().enumerate() {
-        if !is_cell(row.get(column), *value) {
-            return false;
-        }
+        same = same && is_cell(row.get(column), *value);
     }
-    row.len() == due.len()
+    same
 }

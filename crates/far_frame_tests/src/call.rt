@@ -123,11 +123,18 @@ pub enum Call {
     Faults(u64),
 }
 
+fn text(alloc: Global, letters: &str) -> Result<Cell, Refusal> {
+    match String::from_str(alloc, letters) {
+        Ok(letters) => Ok(Cell::Text(Text::new(letters))),
+        Err(_) => Err(Refusal::NoMemory),
+    }
+}
+
 fn cell(alloc: Global, value: Value) -> Result<Cell, Refusal> {
     match value {
         Value::Missing => Ok(Cell::Missing),
         Value::Int(number) => Ok(Cell::Int(number)),
-        Value::Text(letters) => Ok(Cell::Text(Text::new(String::from_str(alloc, letters)?))),
+        Value::Text(letters) => text(alloc, letters),
     }
 }
 
@@ -137,6 +144,22 @@ fn insert(alloc: Global, values: &[Value]) -> Result<Step, Refusal> {
         cells.push(cell(alloc, *value)?)?;
     }
     Ok(Step::Edit(Edit::Insert(Row::new(cells))))
+}
+
+fn insert_drawn(alloc: Global, row: DrawnRow) -> Result<Step, Refusal> {
+    let values = row.values();
+    insert(alloc, values.get(..row.width as usize).unwrap_or(&[]))
+}
+
+fn set(alloc: Global, place: u32, column: u32, value: Value) -> Result<Step, Refusal> {
+    match cell(alloc, value) {
+        Ok(cell) => Ok(Step::Edit(Edit::Set {
+            place,
+            column,
+            cell,
+        })),
+        Err(refusal) => Err(refusal),
+    }
 }
 
 /// The specification of an aggregate.
@@ -157,20 +180,20 @@ pub fn spec(alloc: Global, watched: Watched) -> Result<Spec, Refusal> {
     })
 }
 
+fn watch(alloc: Global, watched: Watched) -> Result<Step, Refusal> {
+    match spec(alloc, watched) {
+        Ok(spec) => Ok(Step::Watch(spec)),
+        Err(refusal) => Err(refusal),
+    }
+}
+
 /// The step of a call that is one.
 pub fn step(alloc: Global, call: Call) -> Result<Step, Refusal> {
     match call {
         Call::Insert(values) => insert(alloc, values),
-        Call::InsertDrawn(row) => {
-            let values = row.values();
-            insert(alloc, values.get(..row.width as usize).unwrap_or(&[]))
-        }
-        Call::Set(place, column, value) => Ok(Step::Edit(Edit::Set {
-            place,
-            column,
-            cell: cell(alloc, value)?,
-        })),
-        Call::Watch(watched) => Ok(Step::Watch(spec(alloc, watched)?)),
+        Call::InsertDrawn(row) => insert_drawn(alloc, row),
+        Call::Set(place, column, value) => set(alloc, place, column, value),
+        Call::Watch(watched) => watch(alloc, watched),
         call => Ok(plain_step(call)),
     }
 }

@@ -1,11 +1,11 @@
 //! A world that goes on with another store: all rows and answers are the same, and aggregates go on. One that is refused is as it was.
 use crate::answers::Due;
-use crate::call::Value::{Int, Text};
+use crate::call::Value::{Int, Missing, Text};
 use crate::call::{Call, EXTREMA, TOTALS_BY_TEXT};
-use crate::opening::{PAIRS, Plan, SOUND, store, world};
+use crate::opening::{PAIRS, Plan, SOUND, migrate, store, world};
 use crate::script::{Calls, Wrong, answered, first_wrong};
 use far_frame::World;
-use far_store::{AgentStore, FarStore, FaultyStore};
+use far_store::FarStore;
 use far_types::Refusal;
 use std::alloc::Global;
 use std::sync::Wait;
@@ -27,9 +27,9 @@ const AWAY: Due<'static> = Due::Refused(Refusal::Absent {
 });
 
 const BY_TEXT: Due<'static> = Due::Lines(&[
-    (Some(Text("fig")), 1, 5),
-    (Some(Text("pear")), 2, 10),
-    (Some(Text("plum")), 1, 7),
+    (Text("fig"), 1, 5),
+    (Text("pear"), 2, 10),
+    (Text("plum"), 1, 7),
 ]);
 
 /// The first row group is away, and still to be built into the second aggregate. A job waits for its end.
@@ -63,11 +63,11 @@ const MIGRATED: Calls = &[
     (Call::Ask(1), Due::Refused(Refusal::Building(1))),
     (Call::Carry(2), Due::Refused(Refusal::StaleJob)),
     (Call::Commit(2), Due::Refused(Refusal::StaleJob)),
-    (Call::Recount(1, 2), Due::Lines(&[(None, 4, 7)])),
+    (Call::Recount(1, 2), Due::Lines(&[(Missing, 4, 7)])),
     (Call::Offload(1, 0), Due::Job(3)),
     (Call::Carry(3), Due::Done),
     (Call::Merge(3), Due::Done),
-    (Call::Ask(1), Due::Lines(&[(None, 4, 7)])),
+    (Call::Ask(1), Due::Lines(&[(Missing, 4, 7)])),
     (Call::Fetch(0, 0), Due::Job(4)),
     (Call::Carry(4), Due::Done),
     (Call::Install(4), Due::Done),
@@ -82,12 +82,12 @@ const MIGRATED: Calls = &[
     (
         Call::Ask(0),
         Due::Lines(&[
-            (Some(Text("fig")), 1, 9),
-            (Some(Text("pear")), 2, 10),
-            (Some(Text("plum")), 2, 8),
+            (Text("fig"), 1, 9),
+            (Text("pear"), 2, 10),
+            (Text("plum"), 2, 8),
         ]),
     ),
-    (Call::Ask(1), Due::Lines(&[(None, 1, 9)])),
+    (Call::Ask(1), Due::Lines(&[(Missing, 1, 9)])),
     (Call::Unpin(1, 1), Due::Done),
     (Call::Unpin(1, 1), Due::Refused(Refusal::NotPinned)),
 ];
@@ -192,90 +192,88 @@ static MIGRATIONS: [Migration; 5] = [
     },
 ];
 
-/// The world over the store of a plan, or why it is not, and the world as it was. It meets few faults.
-fn migrated<'a, S: FarStore, R: Threads + Wait + Sync>(
-    rt: &'a R,
-    alloc: Global,
+/// A world over another store, or as it was and why, the second time where the first finds no memory.
+fn migrated<S: FarStore>(
     world: World<S>,
-    plan: Plan,
-) -> Result<World<FaultyStore<AgentStore<&'a R>>>, (Refusal, World<S>)> {
-    if world.faults() >= 9 {
-        return Err((Refusal::FarFault, world));
-    }
-    match store(rt, alloc, plan) {
-        Ok(to) => world.migrate(to),
-        Err(refusal) => Err((refusal, world)),
+    first: Result<S, Refusal>,
+    second: Result<S, Refusal>,
+) -> (World<S>, Option<Refusal>) {
+    let (world, refused) = migrate(world, first);
+    match refused {
+        Some(Refusal::NoMemory) => migrate(world, second),
+        refused => (world, refused),
     }
 }
 
-/// The first call that does not answer what it should after a migration with this outcome.
-fn first_wrong_then<S: FarStore, R: Threads + Sync>(
-    rt: &R,
-    alloc: Global,
-    world: &mut World<S>,
-    refused: Option<Refusal>,
-    migration: &Migration,
+/// What was wrong before a migration; else its outcome, if it was not due, as the first behind these calls; else what was wrong then.
+fn joined(
+    before: Result<Option<usize>, Refusal>,
+    is_due: bool,
+    then: Result<Option<usize>, Refusal>,
 ) -> Result<Option<usize>, Refusal> {
-    if refused == migration.refused {
-        first_wrong(rt, alloc, world, migration.then)
-    } else {
-        Ok(Some(BEFORE.len()))
+    match before {
+        Ok(None) if is_due => then,
+        Ok(None) => Ok(Some(BEFORE.len())),
+        before => before,
     }
 }
 
-/// The same once the world went on, the second time where the first finds no memory.
-fn play_on<S: FarStore, R: Threads + Wait + Sync>(
+/// The index of the first call that does not answer what it should, before a world goes on with another store or then.
+fn play_on<S: FarStore, R: Threads + Sync>(
     rt: &R,
     alloc: Global,
-    world: World<S>,
+    mut world: World<S>,
+    first: Result<S, Refusal>,
+    second: Result<S, Refusal>,
     migration: &Migration,
 ) -> Result<Option<usize>, Refusal> {
-    let moved = match migrated(rt, alloc, world, migration.to) {
-        Err((Refusal::NoMemory, world)) => migrated(rt, alloc, world, migration.to),
-        moved => moved,
-    };
-    match moved {
-        Ok(mut world) => {
-            let wrong = first_wrong_then(rt, alloc, &mut world, None, migration);
-            drop(world);
-            wrong
-        }
-        Err((refusal, mut world)) => {
-            let wrong = first_wrong_then(rt, alloc, &mut world, Some(refusal), migration);
-            drop(world);
-            wrong
-        }
-    }
+    let before = first_wrong(rt, alloc, &mut world, BEFORE);
+    let (mut world, refused) = migrated(world, first, second);
+    let then = first_wrong(rt, alloc, &mut world, migration.then);
+    drop(world);
+    joined(before, refused == migration.refused, then)
 }
 
 /// The same of a new world over a store.
-fn play_over<S: FarStore, R: Threads + Wait + Sync>(
+fn play_over<S: FarStore, R: Threads + Sync>(
     rt: &R,
     alloc: Global,
-    store: S,
+    from: Result<S, Refusal>,
+    first: Result<S, Refusal>,
+    second: Result<S, Refusal>,
     migration: &Migration,
 ) -> Result<Option<usize>, Refusal> {
-    match world(alloc, PAIRS.kinds, PAIRS.limits, store) {
-        Ok(mut world) => match first_wrong(rt, alloc, &mut world, BEFORE) {
-            Ok(None) => play_on(rt, alloc, world, migration),
-            wrong => {
-                drop(world);
-                wrong
-            }
-        },
+    match world(alloc, PAIRS.kinds, PAIRS.limits, from) {
+        Ok(world) => play_on(rt, alloc, world, first, second, migration),
         Err(refusal) => Err(refusal),
     }
 }
 
-/// The same over a new store.
+/// The same over new stores.
+fn play_once<R: Threads + Wait + Sync>(
+    rt: &R,
+    alloc: Global,
+    migration: &Migration,
+) -> Result<Option<usize>, Refusal> {
+    play_over(
+        rt,
+        alloc,
+        store(rt, alloc, migration.from),
+        store(rt, alloc, migration.to),
+        store(rt, alloc, migration.to),
+        migration,
+    )
+}
+
+/// The same, the second time where there was no memory for a table or its stores at the first.
 fn play<R: Threads + Wait + Sync>(
     rt: &R,
     alloc: Global,
     migration: &Migration,
 ) -> Result<Option<usize>, Refusal> {
-    match store(rt, alloc, migration.from) {
-        Ok(store) => play_over(rt, alloc, store, migration),
-        Err(refusal) => Err(refusal),
+    match play_once(rt, alloc, migration) {
+        Err(Refusal::NoMemory) => play_once(rt, alloc, migration),
+        played => played,
     }
 }
 

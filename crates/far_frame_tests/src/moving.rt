@@ -62,8 +62,8 @@ const ANSWERED: Calls = &[
     (Call::Evac(1, 0), Due::Job(1)),
     (Call::Carry(1), Due::Done),
     (Call::Commit(1), Due::Done),
-    (Call::Ask(0), Due::Lines(&[(Some(Text("pear")), 1, 4)])),
-    (Call::Ask(1), Due::Lines(&[(None, 4, 4)])),
+    (Call::Ask(0), Due::Lines(&[(Text("pear"), 1, 4)])),
+    (Call::Ask(1), Due::Lines(&[(Missing, 4, 4)])),
 ];
 
 const SCANNED: Calls = &[
@@ -75,7 +75,7 @@ const SCANNED: Calls = &[
     (Call::Commit(0), Due::Done),
     (Call::Scan(0, 0), NO_TEXTS),
     (Call::Scan(1, 0), Due::Done),
-    (Call::Ask(1), Due::Lines(&[(None, 1, 4)])),
+    (Call::Ask(1), Due::Lines(&[(Missing, 1, 4)])),
     (Call::Evac(0, 0), Due::Job(1)),
     (Call::Carry(1), Due::Done),
     (Call::Commit(1), Due::Done),
@@ -94,7 +94,7 @@ const BACK: Calls = &[
     (Call::Row(0), Due::Row(&[Int(4), Text("pear")])),
     (Call::Set(0, 0, Int(9)), Due::Done),
     (Call::Row(0), Due::Row(&[Int(9), Text("pear")])),
-    (Call::Ask(0), Due::Lines(&[(None, 1, 9)])),
+    (Call::Ask(0), Due::Lines(&[(Missing, 1, 9)])),
 ];
 
 const PINNED: Calls = &[

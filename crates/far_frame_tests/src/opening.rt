@@ -92,17 +92,49 @@ pub const SOUND: Plan = Plan {
     failing_get: 0,
 };
 
-/// The store of a plan, at the second call where the first finds no memory.
+// A store that fails as a plan says, if it was made.
+fn faulty<S: Drop>(made: Result<S, Refusal>, plan: Plan) -> Result<FaultyStore<S>, Refusal> {
+    match made {
+        Ok(store) => Ok(FaultyStore::new(store, plan.failing_put, plan.failing_get)),
+        Err(refusal) => Err(refusal),
+    }
+}
+
+/// The store of a plan.
 pub fn store<R: Wait + Sync + Drop + Copy>(
     rt: R,
     alloc: Global,
     plan: Plan,
 ) -> Result<FaultyStore<AgentStore<R>>, Refusal> {
-    let agent = match AgentStore::new(rt, alloc, plan.capacity) {
-        Err(Refusal::NoMemory) => AgentStore::new(rt, alloc, plan.capacity),
-        reply => reply,
-    }?;
-    Ok(FaultyStore::new(agent, plan.failing_put, plan.failing_get))
+    faulty(AgentStore::new(rt, alloc, plan.capacity), plan)
+}
+
+/// The stores of plans.
+pub fn stores<R: Wait + Sync + Drop + Copy>(
+    rt: R,
+    alloc: Global,
+    plans: &[Plan],
+) -> Result<Vec<FaultyStore<AgentStore<R>>>, Refusal> {
+    let mut stores = Vec::new(alloc);
+    let mut refusal = None;
+    for plan in plans {
+        refusal = refusal.or(push(&mut stores, store(rt, alloc, *plan)));
+    }
+    match refusal {
+        None => Ok(stores),
+        Some(refusal) => Err(refusal),
+    }
+}
+
+// Appends what was made, or tells why it is not there.
+fn push<T: Drop>(items: &mut Vec<T>, made: Result<T, Refusal>) -> Option<Refusal> {
+    match made {
+        Ok(item) => match items.push(item) {
+            Ok(()) => None,
+            Err(_) => Some(Refusal::NoMemory),
+        },
+        Err(refusal) => Some(refusal),
+    }
 }
 
 fn schema(alloc: Global, kinds: &[Kind]) -> Result<Schema, Refusal> {
@@ -112,7 +144,8 @@ fn schema(alloc: Global, kinds: &[Kind]) -> Result<Schema, Refusal> {
     }
 }
 
-fn frame_at_once<S: FarTickets>(
+/// A table without a row.
+pub fn frame<S: FarTickets>(
     alloc: Global,
     kinds: &[Kind],
     limits: Limits,
@@ -126,30 +159,47 @@ fn frame_at_once<S: FarTickets>(
     }
 }
 
-/// A table without a row, at the second call where the first finds no memory.
-pub fn frame<S: FarTickets>(
-    alloc: Global,
-    kinds: &[Kind],
-    limits: Limits,
-    number: u32,
-) -> Result<Frame<S>, Refusal>
-    ensures { IfOk result (λ frame. (name : List ℕ) → AreAt S.is_of name frame.rows) }
-{
-    match frame_at_once(alloc, kinds, limits, number) {
-        Err(Refusal::NoMemory) => frame_at_once(alloc, kinds, limits, number),
-        opened => opened,
-    }
-}
-
-/// A world of such a table over a store.
+/// A world of such a table over a store, if that was made.
 pub fn world<S: FarStore>(
     alloc: Global,
     kinds: &[Kind],
     limits: Limits,
-    store: S,
+    store: Result<S, Refusal>,
 ) -> Result<World<S>, Refusal> {
-    match frame(alloc, kinds, limits, 3) {
-        Ok(frame) => Ok(World::new(alloc, frame, store).unwrap()),
+    match store {
+        Ok(store) => match frame(alloc, kinds, limits, 3) {
+            Ok(frame) => Ok(World::new(alloc, frame, store).unwrap()),
+            Err(refusal) => Err(refusal),
+        },
         Err(refusal) => Err(refusal),
+    }
+}
+
+// The world as it is after a migration, and why that was refused, if it was.
+fn split<M>(moved: Result<M, (Refusal, M)>) -> (M, Option<Refusal>) {
+    match moved {
+        Ok(world) => (world, None),
+        Err((refusal, world)) => (world, Some(refusal)),
+    }
+}
+
+// A world over another store, or why it is not and the world as it was. It has met few faults, else it is refused in a way that is never
+// due.
+fn migrate_few<S: FarStore>(world: World<S>, store: S) -> Result<World<S>, (Refusal, World<S>)> {
+    if world.faults() < 9 {
+        world.migrate(store)
+    } else {
+        Err((Refusal::BadSchema, world))
+    }
+}
+
+/// A world over another store, if that was made; or as it was, and why.
+pub fn migrate<S: FarStore>(
+    world: World<S>,
+    store: Result<S, Refusal>,
+) -> (World<S>, Option<Refusal>) {
+    match store {
+        Ok(store) => split(migrate_few(world, store)),
+        Err(refusal) => (world, Some(refusal)),
     }
 }

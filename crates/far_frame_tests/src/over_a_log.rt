@@ -1,7 +1,7 @@
 //! A table whose objects go away to one log of bytes, and come back from it.
 use crate::answers::Due;
 use crate::call::Call;
-use crate::call::Value::Int;
+use crate::call::Value::{Int, Missing};
 use crate::opening::{NUMBERS, SOUND};
 use crate::script::{Calls, Script, play_over};
 use far_byte_log::ByteLog;
@@ -20,7 +20,7 @@ const COME_AND_GO: Calls = &[
     (Call::Evac(0, 1), Due::Job(1)),
     (Call::Carry(1), Due::Done),
     (Call::Commit(1), Due::Done),
-    (Call::Ask(0), Due::Lines(&[(None, 4, 26)])),
+    (Call::Ask(0), Due::Lines(&[(Missing, 4, 26)])),
     (Call::Fetch(0, 0), Due::Job(2)),
     (Call::Carry(2), Due::Done),
     (Call::Install(2), Due::Done),
@@ -46,7 +46,7 @@ const COME_AND_GO: Calls = &[
     (Call::Set(0, 0, Int(9)), Due::Done),
     (Call::Evac(0, 0), Due::Job(5)),
     (Call::Carry(5), Due::Refused(Refusal::FarFault)),
-    (Call::Ask(0), Due::Lines(&[(None, 4, 30)])),
+    (Call::Ask(0), Due::Lines(&[(Missing, 4, 30)])),
     (Call::Faults(1), Due::Done),
 ];
 
@@ -60,11 +60,33 @@ static SCRIPT: Script = Script {
     calls: COME_AND_GO,
 };
 
-/// The index of the first call that does not answer what it should.
-fn first_wrong<R: Threads + Wait + Sync>(rt: &R, alloc: Global) -> Result<Option<usize>, Refusal> {
-    let log = ByteLog::new(alloc, ROOM)?;
-    let store = EngineStore::new(rt, alloc, log, SCRIPT.plan.capacity)?;
+/// The index of the first call that does not answer what it should, over a log.
+fn first_wrong_over<R: Threads + Wait + Sync>(
+    rt: &R,
+    alloc: Global,
+    log: ByteLog,
+) -> Result<Option<usize>, Refusal> {
+    let store = EngineStore::new(rt, alloc, log, SCRIPT.plan.capacity);
     play_over(rt, alloc, store, &SCRIPT)
+}
+
+/// The same over a new log.
+fn first_wrong_once<R: Threads + Wait + Sync>(
+    rt: &R,
+    alloc: Global,
+) -> Result<Option<usize>, Refusal> {
+    match ByteLog::new(alloc, ROOM) {
+        Ok(log) => first_wrong_over(rt, alloc, log),
+        Err(_) => Err(Refusal::NoMemory),
+    }
+}
+
+/// The same, the second time where the first finds no memory.
+fn first_wrong<R: Threads + Wait + Sync>(rt: &R, alloc: Global) -> Result<Option<usize>, Refusal> {
+    match first_wrong_once(rt, alloc) {
+        Err(Refusal::NoMemory) => first_wrong_once(rt, alloc),
+        wrong => wrong,
+    }
 }
 
 #[test]

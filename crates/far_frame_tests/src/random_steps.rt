@@ -14,12 +14,12 @@ mod store;
 
 use crate::answers::Due;
 use crate::call::Call;
-use crate::opening::{Plan, world};
+use crate::opening::{Plan, migrate, stores, world};
 use crate::script::is_answered;
 use drawing::{KINDS, PLACES, SIZE, drawn_call, look};
 use far_frame::World;
 use far_random::Draws;
-use far_store::{AgentStore, FarStore, FaultyStore};
+use far_store::FarStore;
 use far_types::{Limits, Refusal};
 use plain::Plain;
 use std::alloc::Global;
@@ -182,25 +182,42 @@ fn agree<S: FarStore, R: Threads + Sync>(
     Ok(true)
 }
 
+/// A run that is on: what is drawn next, and what was told so far.
+#[derive(Drop)]
+struct Running {
+    run: Run,
+    draws: Draws,
+    told: u64,
+}
+
+/// Whether the next step of a run answers what it should, and the table is as it should be where it is looked at then.
+fn is_next_right<S: FarStore, R: Threads + Sync>(
+    rt: &R,
+    alloc: Global,
+    world: &mut World<S>,
+    plain: &mut Plain,
+    running: &mut Running,
+    n: u32,
+) -> Result<bool, Refusal> {
+    let call = drawn_call(&mut running.draws, plain);
+    match is_right(rt, alloc, world, plain, call, &mut running.told) {
+        Ok(true) if running.run.at_each_step || n % LOOK == 0 => {
+            agree(rt, alloc, world, plain, running.run.reach)
+        }
+        right => right,
+    }
+}
+
 /// Makes the steps of a run over one store: which is the first that is not right, or after which the table is not.
 fn first_wrong<S: FarStore, R: Threads + Sync>(
     rt: &R,
     alloc: Global,
     world: &mut World<S>,
-    run: &Run,
     plain: &mut Plain,
-    draws: &mut Draws,
-    told: &mut u64,
+    running: &mut Running,
 ) -> Result<Option<u32>, Refusal> {
-    for n in 0..run.steps {
-        let call = drawn_call(draws, plain);
-        let right = match is_right(rt, alloc, world, plain, call, told) {
-            Ok(true) if run.at_each_step || n % LOOK == 0 => {
-                agree(rt, alloc, world, plain, run.reach)
-            }
-            right => right,
-        };
-        match right {
+    for n in 0..running.run.steps {
+        match is_next_right(rt, alloc, world, plain, running, n) {
             Ok(true) => {}
             Ok(false) => return Ok(Some(n)),
             Err(refusal) => return Err(refusal),
@@ -209,28 +226,26 @@ fn first_wrong<S: FarStore, R: Threads + Sync>(
     Ok(None)
 }
 
-/// The world over another store, if it goes on there, and whether it does as it should.
-fn migrated<S: FarStore>(
-    world: World<S>,
-    store: S,
-    plain: &mut Plain,
-    plan: Plan,
-    told: &mut u64,
-) -> (World<S>, Result<bool, Refusal>) {
-    if world.faults() >= 9 {
-        return (world, Ok(false));
+/// Whether a world went on with another store, or was refused it, as it is due. What it tells goes with it.
+fn is_due(refused: Option<Refusal>, due: Option<Refusal>, told: &mut u64) -> Result<bool, Refusal> {
+    match refused {
+        Some(Refusal::NoMemory) => return Err(Refusal::NoMemory),
+        Some(_) => *told |= 1 << 54,
+        None => *told |= 1 << 53,
     }
-    let due = plain.migrate(plan);
-    match world.migrate(store) {
-        Ok(world) => {
-            *told |= 1 << 53;
-            (world, Ok(due.is_none()))
-        }
-        Err((Refusal::NoMemory, world)) => (world, Err(Refusal::NoMemory)),
-        Err((refusal, world)) => {
-            *told |= 1 << 54;
-            (world, Ok(due == Some(refusal)))
-        }
+    Ok(refused == due)
+}
+
+/// What is wrong so far: the first wrong step, or 0 where a world did not go on as it should.
+fn so_far(
+    wrong: Result<Option<u32>, Refusal>,
+    right: Result<bool, Refusal>,
+) -> Result<Option<u32>, Refusal> {
+    match (wrong, right) {
+        (Ok(None), Ok(true)) => Ok(None),
+        (Ok(None), Ok(false)) => Ok(Some(0)),
+        (Ok(None), Err(refusal)) => Err(refusal),
+        (wrong, _) => wrong,
     }
 }
 
@@ -239,70 +254,84 @@ fn migrated<S: FarStore>(
 fn first_wrong_of<S: FarStore, R: Threads + Sync>(
     rt: &R,
     alloc: Global,
-    world: World<S>,
+    mut world: World<S>,
     others: IntoIter<S, Global>,
-    run: &Run,
-    told: &mut u64,
+    plain: &mut Plain,
+    running: &mut Running,
 ) -> Result<Option<u32>, Refusal> {
-    let mut plain = Plain::new(run.limits, Store::new(run.plan(0)));
-    let mut draws = Draws::new(run.seed);
-    let mut world = world;
-    let mut wrong = first_wrong(rt, alloc, &mut world, run, &mut plain, &mut draws, told);
+    let mut wrong = first_wrong(rt, alloc, &mut world, plain, running);
     for (store, turn) in others.zip(1..STORES) {
-        let (next, right) = migrated(world, store, &mut plain, run.plan(turn), told);
+        let (next, refused) = migrate(world, Ok(store));
         world = next;
-        wrong = match (wrong, right) {
-            (Ok(None), Ok(true)) => {
-                first_wrong(rt, alloc, &mut world, run, &mut plain, &mut draws, told)
-            }
-            (Ok(None), Ok(false)) => Ok(Some(0)),
-            (Ok(None), Err(refusal)) => Err(refusal),
-            (wrong, _) => wrong,
+        let due = plain.migrate(running.run.plan(turn));
+        wrong = match so_far(wrong, is_due(refused, due, &mut running.told)) {
+            Ok(None) => first_wrong(rt, alloc, &mut world, plain, running),
+            wrong => wrong,
         };
     }
     drop(world);
     wrong
 }
 
+// The same of a new world over the first of its stores.
 fn first_wrong_over<S: FarStore, R: Threads + Sync>(
     rt: &R,
     alloc: Global,
     stores: Vec<S>,
-    run: &Run,
-    told: &mut u64,
+    plain: &mut Plain,
+    running: &mut Running,
 ) -> Result<Option<u32>, Refusal> {
     let mut others = stores.into_iter();
-    let Some(first) = others.next() else {
-        return Ok(None);
-    };
-    match world(alloc, &KINDS, run.limits, first) {
-        Ok(world) => first_wrong_of(rt, alloc, world, others, run, told),
+    let first = others.next().ok_or(Refusal::FarFull);
+    match world(alloc, &KINDS, running.run.limits, first) {
+        Ok(world) => first_wrong_of(rt, alloc, world, others, plain, running),
         Err(refusal) => Err(refusal),
     }
 }
 
-/// The stores of a run.
-fn stores_of<R: Wait + Sync + Drop + Copy>(
-    rt: R,
+// The same over stores, if they were made.
+fn first_wrong_if_made<S: FarStore, R: Threads + Sync>(
+    rt: &R,
     alloc: Global,
-    run: &Run,
-) -> Result<Vec<FaultyStore<AgentStore<R>>>, Refusal> {
-    let mut stores = Vec::new(alloc);
-    for turn in 0..STORES {
-        stores.push(crate::opening::store(rt, alloc, run.plan(turn))?)?;
+    stores: Result<Vec<S>, Refusal>,
+    plain: &mut Plain,
+    running: &mut Running,
+) -> Result<Option<u32>, Refusal> {
+    match stores {
+        Ok(stores) => first_wrong_over(rt, alloc, stores, plain, running),
+        Err(refusal) => Err(refusal),
     }
-    Ok(stores)
 }
 
+fn play_once<R: Threads + Wait + Sync>(
+    rt: &R,
+    alloc: Global,
+    run: &Run,
+    told: &mut u64,
+) -> Result<Option<u32>, Refusal> {
+    let mut plain = Plain::new(run.limits, Store::new(run.plan(0)));
+    let mut running = Running {
+        run: *run,
+        draws: Draws::new(run.seed),
+        told: *told,
+    };
+    let plans = [run.plan(0), run.plan(1), run.plan(2), run.plan(3)];
+    let made = stores(rt, alloc, &plans);
+    let wrong = first_wrong_if_made(rt, alloc, made, &mut plain, &mut running);
+    *told = running.told;
+    wrong
+}
+
+// The same, the second time where the first finds no memory.
 fn play<R: Threads + Wait + Sync>(
     rt: &R,
     alloc: Global,
     run: &Run,
     told: &mut u64,
 ) -> Result<Option<u32>, Refusal> {
-    match stores_of(rt, alloc, run) {
-        Ok(stores) => first_wrong_over(rt, alloc, stores, run, told),
-        Err(refusal) => Err(refusal),
+    match play_once(rt, alloc, run, told) {
+        Err(Refusal::NoMemory) => play_once(rt, alloc, run, told),
+        played => played,
     }
 }
 

@@ -1,6 +1,6 @@
 //! Aggregates that are computed from scratch, by several threads, while the store fails once.
 use crate::answers::Due;
-use crate::call::Value::Int;
+use crate::call::Value::{Int, Missing};
 use crate::call::{Call, TOTALS};
 use crate::opening::{A_SEGMENT_EACH, FOUR_SEGMENTS, Opening, Plan, SOUND};
 use crate::script::{Calls, Script, answered, play_all};
@@ -63,7 +63,7 @@ const FIRST_GET_FAILS: Plan = Plan {
 };
 
 /// The count and the sum of the rows that are all away.
-const TOTAL: Due<'static> = Due::Lines(&[(None, 8, 36)]);
+const TOTAL: Due<'static> = Due::Lines(&[(Missing, 8, 36)]);
 
 const BY_ONE: Calls = &[(Call::RecountAgain(0, 1), TOTAL)];
 
@@ -82,8 +82,8 @@ const WORKERS: Calls = &[
 
 /// More row groups than workers, in two kinds of place.
 const UNEVEN: Calls = &[
-    (Call::Recount(0, 2), Due::Lines(&[(None, 7, 56)])),
-    (Call::Recount(0, 3), Due::Lines(&[(None, 7, 56)])),
+    (Call::Recount(0, 2), Due::Lines(&[(Missing, 7, 56)])),
+    (Call::Recount(0, 3), Due::Lines(&[(Missing, 7, 56)])),
 ];
 
 /// A missing aggregate is told before a wrong number of workers.

@@ -1,6 +1,6 @@
 //! A list of steps that is served by one call. The call is refused before any step or not at all, so one that finds no memory is made again.
 use crate::answers::{Due, is_reply};
-use crate::call::Value::Int;
+use crate::call::Value::{Int, Missing};
 use crate::call::{Call, TOTALS, step};
 use crate::opening::{A_SEGMENT_EACH, SOUND, store, world};
 use crate::script::Calls;
@@ -43,7 +43,7 @@ const BUILT: Calls = &[
     (Call::Offload(0, 1), Due::Job(3)),
     (Call::Carry(3), Due::Done),
     (Call::Merge(3), Due::Done),
-    (Call::Ask(0), Due::Lines(&[(None, 8, 36)])),
+    (Call::Ask(0), Due::Lines(&[(Missing, 8, 36)])),
 ];
 
 /// The steps of calls.
@@ -55,17 +55,25 @@ fn steps(alloc: Global, calls: Calls) -> Result<Vec<Step>, Refusal> {
     Ok(steps)
 }
 
-/// The replies of a run of calls. There are few of them, and few faults were met before.
+// The replies of a run of steps. There are few of them, and few faults were met before.
+fn run_few<S: FarStore>(world: &mut World<S>, steps: Vec<Step>) -> Result<Vec<Reply>, Refusal> {
+    if world.faults() < 9 && steps.len() < 99 {
+        run(world, steps)
+    } else {
+        Err(Refusal::FarFault)
+    }
+}
+
+/// The replies of a run of calls.
 fn replies_once<S: FarStore>(
     alloc: Global,
     world: &mut World<S>,
     calls: Calls,
 ) -> Result<Vec<Reply>, Refusal> {
-    let steps = steps(alloc, calls)?;
-    if world.faults() >= 9 || steps.len() > 99 {
-        return Err(Refusal::FarFault);
+    match steps(alloc, calls) {
+        Ok(steps) => run_few(world, steps),
+        Err(refusal) => Err(refusal),
     }
-    run(world, steps)
 }
 
 /// The same, of a second run where the first is refused.
@@ -81,7 +89,7 @@ fn replies<S: FarStore>(
 }
 
 /// The index of the first reply that is not what it should be, of row groups of this size. Nothing can be said where a step found no memory.
-fn first_wrong(replies: &[Reply], calls: Calls, size: u32) -> Result<Option<usize>, Refusal> {
+fn first_wrong_in(replies: &[Reply], calls: Calls, size: u32) -> Result<Option<usize>, Refusal> {
     for (at, (_, due)) in calls.iter().enumerate() {
         match replies.get(at) {
             Some(Reply::Refused(Refusal::NoMemory)) => return Err(Refusal::NoMemory),
@@ -96,27 +104,43 @@ fn first_wrong(replies: &[Reply], calls: Calls, size: u32) -> Result<Option<usiz
     }
 }
 
-/// The same of a run on a new table over a store.
-fn first_wrong_over<S: FarStore>(alloc: Global, store: S) -> Result<Option<usize>, Refusal> {
+/// The same of replies, if they were made.
+fn first_wrong(replies: Result<Vec<Reply>, Refusal>) -> Result<Option<usize>, Refusal> {
+    match replies {
+        Ok(replies) => first_wrong_in(&replies, BUILT, A_SEGMENT_EACH.group),
+        Err(refusal) => Err(refusal),
+    }
+}
+
+/// The same of a run on a new table over a store, if that was made.
+fn first_wrong_over<S: FarStore>(
+    alloc: Global,
+    store: Result<S, Refusal>,
+) -> Result<Option<usize>, Refusal> {
     match world(alloc, &[Kind::Int], A_SEGMENT_EACH, store) {
         Ok(mut world) => {
             let replies = replies(alloc, &mut world, BUILT);
             drop(world);
-            first_wrong(&replies?, BUILT, A_SEGMENT_EACH.group)
+            first_wrong(replies)
         }
         Err(refusal) => Err(refusal),
     }
 }
 
 /// The same over a new store.
+fn play_once<R: Wait + Sync + Drop + Copy>(rt: R, alloc: Global) -> Result<Option<usize>, Refusal> {
+    first_wrong_over(alloc, store(rt, alloc, SOUND))
+}
+
+/// The same, the second time where the first finds no memory.
 fn play<R: Wait + Sync + Drop + Copy>(rt: R, alloc: Global) -> Result<Option<usize>, Refusal> {
-    match store(rt, alloc, SOUND) {
-        Ok(store) => first_wrong_over(alloc, store),
-        Err(refusal) => Err(refusal),
+    match play_once(rt, alloc) {
+        Err(Refusal::NoMemory) => play_once(rt, alloc),
+        played => played,
     }
 }
 
 #[test]
 fn a_run_gives_a_reply_to_each_step(rt: HostRuntime) {
-    assert_eq!(rt; play(&rt, rt.alloc()), Ok(None));
+    assert!(rt; play(&rt, rt.alloc()) == Ok(None));
 }

@@ -1,13 +1,12 @@
 //! The player of scripts: calls on a world, each with what it answers. A call that finds no memory is made again.
-ghost use Rattle.std.specs.Prelude.{◌<◌};
 ghost use Rattle.far_rows.specs.Jobs.{AreAt};
 
 use crate::answers::{Due, is_reply, is_row};
 use crate::call::{Call, step};
 use crate::opening::{Opening, Plan, store, world};
-use far_frame::{Frame, Reply, Step, World};
+use far_frame::{Frame, Job, Reply, Step, World};
 use far_store::{FarStore, FarTickets, Meter};
-use far_types::{Answer, Refusal};
+use far_types::{Answer, LentRow, Name, Refusal};
 use std::alloc::Global;
 use std::sync::Wait;
 use std::test::Fail;
@@ -51,34 +50,53 @@ pub fn play_all<R: Threads + Wait + Sync>(
     Ok(None)
 }
 
+// Plays a script, the second time where there was no memory for its table or its store at the first.
 fn play<R: Threads + Wait + Sync>(
     rt: &R,
     alloc: Global,
     script: &Script,
 ) -> Result<Option<usize>, Refusal> {
-    match store(rt, alloc, script.plan) {
-        Ok(store) => play_over(rt, alloc, store, script),
-        Err(refusal) => Err(refusal),
+    match play_once(rt, alloc, script) {
+        Err(Refusal::NoMemory) => play_once(rt, alloc, script),
+        played => played,
     }
 }
 
-/// The index of the first call of a script over this store that does not answer what it should.
+fn play_once<R: Threads + Wait + Sync>(
+    rt: &R,
+    alloc: Global,
+    script: &Script,
+) -> Result<Option<usize>, Refusal> {
+    play_over(rt, alloc, store(rt, alloc, script.plan), script)
+}
+
+/// The index of the first call of a script over this store, if that was made, that does not answer what it should.
 pub fn play_over<S: FarStore, R: Threads + Sync>(
     rt: &R,
     alloc: Global,
-    store: S,
+    store: Result<S, Refusal>,
     script: &Script,
 ) -> Result<Option<usize>, Refusal> {
     match world(alloc, script.opening.kinds, script.opening.limits, store) {
         Ok(mut world) => {
-            let wrong = match first_wrong(rt, alloc, &mut world, script.opening.rows) {
-                Ok(None) => first_wrong(rt, alloc, &mut world, script.calls),
-                wrong => wrong,
-            };
+            let wrong = play_in(rt, alloc, &mut world, script);
             drop(world);
             wrong
         }
         Err(refusal) => Err(refusal),
+    }
+}
+
+// The same in a new world.
+fn play_in<S: FarStore, R: Threads + Sync>(
+    rt: &R,
+    alloc: Global,
+    world: &mut World<S>,
+    script: &Script,
+) -> Result<Option<usize>, Refusal> {
+    match first_wrong(rt, alloc, world, script.opening.rows) {
+        Ok(None) => first_wrong(rt, alloc, world, script.calls),
+        wrong => wrong,
     }
 }
 
@@ -113,7 +131,7 @@ pub fn is_answered<S: FarStore, R: Threads + Sync>(
     }
 }
 
-// Whether a call answers this. Nothing can be said where it finds no memory. No script meets more faults than a few.
+// Whether a call answers this. Nothing can be said where it finds no memory.
 fn is_answered_once<S: FarStore, R: Threads + Sync>(
     rt: &R,
     alloc: Global,
@@ -121,25 +139,20 @@ fn is_answered_once<S: FarStore, R: Threads + Sync>(
     call: Call,
     due: Due<'_>,
 ) -> Result<bool, Refusal> {
-    if world.faults() >= 9 {
-        return Err(Refusal::FarFault);
-    }
     match call {
-        Call::Row(place) => Ok(is_row_due(world.frame(), place, due)),
-        Call::Coldest => is_coldest(world.frame(), world.store(), due),
-        Call::Recount(a, workers) => {
-            is_due(
-                recounted(rt, world.frame(), world.store(), a, workers),
-                due,
-                1,
-            )
+        Call::Row(_) | Call::Coldest => is_seen(world, call, due),
+        Call::Recount(_, _) | Call::RecountAgain(_, _) => {
+            is_due(recounted(rt, world.frame(), world.store(), call), due, 1)
         }
-        Call::RecountAgain(a, workers) => is_due(
-            recounted_again(rt, world.frame(), world.store(), a, workers),
-            due,
-            1,
-        ),
         call => is_served(alloc, world, call, due),
+    }
+}
+
+// Whether a row, or the object that goes away first, is this.
+fn is_seen<S: FarStore>(world: &World<S>, call: Call, due: Due<'_>) -> Result<bool, Refusal> {
+    match call {
+        Call::Row(place) => Ok(is_row_due(world.frame().scope().row(place), due)),
+        _ => is_job_due(world.frame().begin_coldest(world.store()), due),
     }
 }
 
@@ -149,9 +162,7 @@ fn is_served<S: FarStore>(
     world: &mut World<S>,
     call: Call,
     due: Due<'_>,
-) -> Result<bool, Refusal>
-    requires few { world.old.faults < 9 }
-{
+) -> Result<bool, Refusal> {
     let size = world.frame().limits().group;
     match call {
         Call::Repin(column, group) => is_due(repinned(world, column, group), due, size),
@@ -159,11 +170,8 @@ fn is_served<S: FarStore>(
         | Call::IsAlive(_)
         | Call::MayEvac(_, _)
         | Call::MayScan(_, _)
-        | Call::MayOffload(_, _) => is_due(looked(world, call), due, size),
-        call => match step(alloc, call) {
-            Ok(step) => is_due(world.serve(step), due, size),
-            Err(refusal) => Err(refusal),
-        },
+        | Call::MayOffload(_, _) => is_due(if_done(looked(world, call)), due, size),
+        call => is_due(stepped(world, step(alloc, call)), due, size),
     }
 }
 
@@ -174,129 +182,181 @@ fn is_due(reply: Reply, due: Due<'_>, size: u32) -> Result<bool, Refusal> {
     }
 }
 
+// Serves a step. No script meets more faults than a few, so a world that did is refused in a way that is never due.
+fn served<S: FarStore>(world: &mut World<S>, step: Step) -> Reply {
+    if world.faults() < 9 {
+        world.serve(step)
+    } else {
+        Reply::Refused(Refusal::BadSchema)
+    }
+}
+
+// The same if the step was made.
+fn stepped<S: FarStore>(world: &mut World<S>, step: Result<Step, Refusal>) -> Reply {
+    match step {
+        Ok(step) => served(world, step),
+        Err(refusal) => Reply::Refused(refusal),
+    }
+}
+
+// Whether a step is done that says no more.
+fn is_done<S: FarStore>(world: &mut World<S>, step: Step) -> bool {
+    is_reply(&served(world, step), Due::Done, 1)
+}
+
 // Takes all pins off an object, and says how many it had.
 fn unpinned<S: FarStore>(world: &mut World<S>, column: u32, group: u32) -> u32 {
     for turn in 0..65_536 {
-        if world.faults() >= 9 {
+        if !is_done(world, Step::Unpin { column, group }) {
             return turn;
         }
-        let Reply::Done = world.serve(Step::Unpin { column, group }) else {
-            return turn;
-        };
     }
     65_536
 }
 
 // Puts so many pins on an object.
 fn is_pinned<S: FarStore>(world: &mut World<S>, column: u32, group: u32, count: u32) -> bool {
+    let mut done = true;
     for _ in 0..count {
-        if world.faults() >= 9 {
-            return false;
-        }
-        let Reply::Done = world.serve(Step::Pin { column, group }) else {
-            return false;
-        };
+        done = is_done(world, Step::Pin { column, group }) && done;
     }
-    true
+    done
 }
 
 // How many pins an object has, told as a place is; or why none is taken off. All are put on again.
 fn repinned<S: FarStore>(world: &mut World<S>, column: u32, group: u32) -> Reply {
     let count = unpinned(world, column, group);
-    if world.faults() >= 9 || !is_pinned(world, column, group, count) {
-        return Reply::Refused(Refusal::Pinned);
+    if !is_pinned(world, column, group, count) {
+        Reply::Refused(Refusal::Pinned)
+    } else if count > 0 {
+        Reply::Place(count)
+    } else {
+        served(world, Step::Unpin { column, group })
     }
-    if count > 0 || world.faults() >= 9 {
-        return Reply::Place(count);
-    }
-    world.serve(Step::Unpin { column, group })
 }
 
-// `Done` if a look finds what it asks for, else why not.
-fn looked<S: FarStore>(world: &World<S>, call: Call) -> Reply {
-    let found = match call {
-        Call::IsAlive(place) => alive(world.frame(), place),
+// Why a look does not find what it asks for.
+fn looked<S: FarStore>(world: &World<S>, call: Call) -> Result<(), Refusal> {
+    match call {
+        Call::IsAlive(place) => alive(world.frame().scope().is_alive(place)),
         Call::MayEvac(column, group) => world.frame().may_evac(column, group),
         Call::MayOffload(a, group) => world.frame().may_offload(a, group),
-        Call::MayScan(a, group) if world.frame().may_scan(a, group) => Ok(()),
-        Call::Faults(count) if world.faults() == count => Ok(()),
-        Call::Faults(_) => Err(Refusal::FarFault),
+        Call::MayScan(a, group) => if_found(world.frame().may_scan(a, group), Refusal::StaleJob),
+        Call::Faults(count) => if_found(world.faults() == count, Refusal::FarFault),
         _ => Err(Refusal::StaleJob),
-    };
+    }
+}
+
+fn if_done(found: Result<(), Refusal>) -> Reply {
     match found {
         Ok(()) => Reply::Done,
         Err(refusal) => Reply::Refused(refusal),
     }
 }
 
-fn alive<S: FarTickets>(frame: &Frame<S>, place: u32) -> Result<(), Refusal> {
-    match frame.scope().is_alive(place) {
+fn if_found(found: bool, refusal: Refusal) -> Result<(), Refusal> {
+    if found { Ok(()) } else { Err(refusal) }
+}
+
+fn alive(alive: Option<bool>) -> Result<(), Refusal> {
+    match alive {
         None => Err(Refusal::NoRow),
         Some(false) => Err(Refusal::RemovedRow),
         Some(true) => Ok(()),
     }
 }
 
-fn is_row_due<S: FarTickets>(frame: &Frame<S>, place: u32, due: Due<'_>) -> bool {
-    match (frame.scope().row(place), due) {
-        (Ok(row), Due::Row(values)) => is_row(&row, values),
-        (Err(given), Due::Refused(refusal)) => given == refusal,
+fn is_row_due(row: Result<LentRow<'_>, Refusal>, due: Due<'_>) -> bool {
+    match due {
+        Due::Row(values) => match &row {
+            Ok(row) => is_row(row, values),
+            Err(_) => false,
+        },
+        Due::Refused(refusal) => match &row {
+            Ok(_) => false,
+            Err(given) => *given == refusal,
+        },
         _ => false,
     }
 }
 
-fn is_coldest<S: FarStore>(frame: &Frame<S>, store: &S, due: Due<'_>) -> Result<bool, Refusal>
-    requires here { AreAt S.is_of (S.name store.now) frame.now.rows }
-{
-    let Due::Coldest(name) = due else {
-        return Ok(false);
-    };
-    match frame.begin_coldest(store) {
-        Ok(Some(job)) => {
-            let is_due = job.object() == name;
-            drop(job);
-            Ok(is_due)
-        }
-        Ok(None) => Ok(name.is_none()),
-        Err(refusal) => Err(refusal),
+// The object of a job, if there is one.
+fn object_of<S: FarTickets>(
+    job: &Result<Option<Job<S>>, Refusal>,
+) -> Result<Option<Name>, Refusal> {
+    match job {
+        Ok(Some(job)) => Ok(job.object()),
+        Ok(None) => Ok(None),
+        Err(refusal) => Err(*refusal),
     }
 }
 
-// A recount on a meter of few faults.
-fn recount_on<S: FarStore, R: Threads + Sync>(
+// Whether the object of a job, if there is one, is the one that is due.
+fn is_job_due<S: FarTickets>(
+    job: Result<Option<Job<S>>, Refusal>,
+    due: Due<'_>,
+) -> Result<bool, Refusal> {
+    let object = object_of(&job);
+    drop(job);
+    is_object_due(object, due)
+}
+
+fn is_object_due(object: Result<Option<Name>, Refusal>, due: Due<'_>) -> Result<bool, Refusal> {
+    match (object, due) {
+        (Ok(given), Due::Coldest(name)) => Ok(given == name),
+        (Err(refusal), _) => Err(refusal),
+        _ => Ok(false),
+    }
+}
+
+// What a recount answers, on a meter of few faults. It meets one fault exactly where it is refused for one.
+fn recounted_on<S: FarStore, R: Threads + Sync>(
     rt: &R,
     frame: &Frame<S>,
     store: &S,
     meter: &mut Meter,
     a: u32,
     workers: u32,
-) -> Result<Answer, Refusal>
-    requires here { AreAt S.is_of (S.name store.now) frame.now.rows }
-{
-    if meter.faults() >= 9 {
-        return Err(Refusal::StaleJob);
-    }
-    frame.recount(rt, store, meter, a, workers)
-}
-
-// What a recount answers. It meets one fault exactly where it is refused for one.
-fn recounted<S: FarStore, R: Threads + Sync>(
-    rt: &R,
-    frame: &Frame<S>,
-    store: &S,
-    a: u32,
-    workers: u32,
 ) -> Reply
     requires here { AreAt S.is_of (S.name store.now) frame.now.rows }
 {
-    let mut meter = Meter::new();
-    let found = recount_on(rt, frame, store, &mut meter, a, workers);
-    match (found, meter.faults()) {
+    let before = meter.faults();
+    if before >= 9 {
+        return Reply::Done;
+    }
+    let found = frame.recount(rt, store, meter, a, workers);
+    answer_or_refusal(found, meter.faults().wrapping_sub(before))
+}
+
+// An answer during which so many faults were met, or why there is none.
+fn answer_or_refusal(found: Result<Answer, Refusal>, faults: u64) -> Reply {
+    match (found, faults) {
         (Ok(answer), 0) => Reply::Answer(answer),
         (Err(Refusal::FarFault), 1) => Reply::Refused(Refusal::FarFault),
         (Err(refusal), 0) if refusal != Refusal::FarFault => Reply::Refused(refusal),
         _ => Reply::Done,
     }
+}
+
+// The same, the second time where the first finds no memory.
+fn recounted_once_more<S: FarStore, R: Threads + Sync>(
+    rt: &R,
+    frame: &Frame<S>,
+    store: &S,
+    meter: &mut Meter,
+    a: u32,
+    workers: u32,
+) -> Reply
+    requires here { AreAt S.is_of (S.name store.now) frame.now.rows }
+{
+    match recounted_on(rt, frame, store, meter, a, workers) {
+        Reply::Refused(Refusal::NoMemory) => recounted_on(rt, frame, store, meter, a, workers),
+        reply => reply,
+    }
+}
+
+fn is_refused(reply: &Reply, refusal: Refusal) -> bool {
+    is_reply(reply, Due::Refused(refusal), 1)
 }
 
 // What a recount answers after one that was refused for a fault, where their meter shows that one fault both times.
@@ -310,18 +370,37 @@ fn recounted_again<S: FarStore, R: Threads + Sync>(
     requires here { AreAt S.is_of (S.name store.now) frame.now.rows }
 {
     let mut meter = Meter::new();
-    let first = recount_on(rt, frame, store, &mut meter, a, workers);
-    match (first, meter.faults()) {
-        (Err(Refusal::FarFault), 1) => {}
-        (Err(Refusal::NoMemory), 0) => return Reply::Refused(Refusal::NoMemory),
-        _ => return Reply::Done,
+    let first = recounted_on(rt, frame, store, &mut meter, a, workers);
+    if is_refused(&first, Refusal::FarFault) {
+        recounted_once_more(rt, frame, store, &mut meter, a, workers)
+    } else {
+        without_answer(&first)
     }
-    let again = match recount_on(rt, frame, store, &mut meter, a, workers) {
-        Err(Refusal::NoMemory) => recount_on(rt, frame, store, &mut meter, a, workers),
-        again => again,
-    };
-    match (again, meter.faults()) {
-        (Ok(answer), 1) => Reply::Answer(answer),
+}
+
+// `Done`, which is never due, if there was memory.
+fn without_answer(reply: &Reply) -> Reply {
+    if is_refused(reply, Refusal::NoMemory) {
+        Reply::Refused(Refusal::NoMemory)
+    } else {
+        Reply::Done
+    }
+}
+
+// What a recount answers, or one after another.
+fn recounted<S: FarStore, R: Threads + Sync>(
+    rt: &R,
+    frame: &Frame<S>,
+    store: &S,
+    call: Call,
+) -> Reply
+    requires here { AreAt S.is_of (S.name store.now) frame.now.rows }
+{
+    match call {
+        Call::Recount(a, workers) => {
+            recounted_on(rt, frame, store, &mut Meter::new(), a, workers)
+        }
+        Call::RecountAgain(a, workers) => recounted_again(rt, frame, store, a, workers),
         _ => Reply::Done,
     }
 }

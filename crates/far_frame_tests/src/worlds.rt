@@ -1,7 +1,7 @@
 //! Lendings, jobs and offloaded builds as steps of a world, over stores that fail or are full. Scripts of the shell show how a world goes
 //! on with another store.
 use crate::answers::Due;
-use crate::call::Value::Int;
+use crate::call::Value::{Int, Missing};
 use crate::call::{Call, TOTALS};
 use crate::opening::{A_SEGMENT_EACH, NUMBERS, Opening, Plan, SOUND};
 use crate::script::{Calls, Script, answered, play_all};
@@ -56,14 +56,14 @@ const SECOND_PUT: Calls = &[
     (Call::Evac(0, 1), Due::Job(1)),
     (Call::Carry(1), FAULT),
     (Call::Faults(1), Due::Done),
-    (Call::Ask(0), Due::Lines(&[(None, 8, 36)])),
+    (Call::Ask(0), Due::Lines(&[(Missing, 8, 36)])),
     (Call::Carry(1), Due::Done),
     (Call::Commit(1), Due::Done),
-    (Call::Ask(0), Due::Lines(&[(None, 8, 36)])),
+    (Call::Ask(0), Due::Lines(&[(Missing, 8, 36)])),
 ];
 
 /// What the aggregate of twelve answers always.
-const ASK: (Call, Due<'static>) = (Call::Ask(0), Due::Lines(&[(None, 12, 78)]));
+const ASK: (Call, Due<'static>) = (Call::Ask(0), Due::Lines(&[(Missing, 12, 78)]));
 
 /// All twelve rows, which are local.
 const LEND: (Call, Due<'static>) = (
@@ -259,7 +259,7 @@ const BUILT: Calls = &[
     (Call::Offload(1, 0), Due::Refused(Refusal::StaleJob)),
     (Call::Ask(1), Due::Refused(Refusal::Building(1))),
     (Call::Scan(1, 1), Due::Done),
-    (Call::Ask(1), Due::Lines(&[(None, 3, 18)])),
+    (Call::Ask(1), Due::Lines(&[(Missing, 3, 18)])),
 ];
 
 /// The object is local again and clean when the build begins; a row is inserted before its end.
@@ -278,7 +278,7 @@ const OUTDATED: Calls = &[
     (Call::Carry(2), Due::Refused(Refusal::StaleJob)),
     (Call::Scan(1, 1), Due::Done),
     (Call::Scan(1, 0), Due::Done),
-    (Call::Ask(1), Due::Lines(&[(None, 4, 26)])),
+    (Call::Ask(1), Due::Lines(&[(Missing, 4, 26)])),
 ];
 
 /// A build keeps its number while its aggregate is forgotten, and is not that of another.

@@ -1,15 +1,21 @@
 //! The aggregates of a plain table: each is folded anew whenever it answers.
-use super::drawing::{COLUMNS, kind_of, values_of};
+use super::drawing::{COLUMNS, keys_of, kind_of};
 use super::plain::Plain;
 use crate::answers::{Due, Line};
 use crate::call::{EXTREMA, TOTALS, TOTALS_BY_TEXT, Value, Values, Watched};
-use far_types::{Fold, Kind, Op, Refusal};
+use far_types::{Fold, Op, Refusal};
 
 /// How many aggregates are registered at most.
 const SLOTS: u32 = 32;
 
-/// How many row groups there are at most.
-const GROUPS: usize = 6;
+/// How many numbers are kept. Calls name some that are never given out: no aggregate stands there.
+pub const NUMBERS: usize = 64;
+
+/// The columns of texts, a bit for each.
+const TEXTS: u32 = 0b1010;
+
+/// The key of each row, where there is no key column.
+static NO_KEY: [Value; 1] = [Value::Missing];
 
 /// The aggregates that are drawn. The last four cannot be had.
 pub static DRAWN: [Watched; 12] = [
@@ -60,71 +66,78 @@ pub static DRAWN: [Watched; 12] = [
     },
 ];
 
+// The bit of a column.
+fn bit(column: u32) -> u32 {
+    1u32.wrapping_shl(column)
+}
+
 impl Watched {
-    /// Whether the aggregate needs a column.
-    pub fn needs(&self, column: u32) -> bool {
+    // The columns that it folds or tests, a bit for each.
+    fn folded(&self) -> u32 {
+        let mut columns = bit(self.value);
         for test in self.tests {
-            if test.0 == column {
-                return true;
-            }
+            columns |= bit(test.0);
         }
-        self.value == column || self.key == Some(column)
+        columns
     }
 
-    // Whether a column that it needs is not of numbers, the key's aside.
-    fn is_of_texts(&self) -> bool {
-        for test in self.tests {
-            if kind_of(test.0) == Kind::Text {
-                return true;
-            }
+    // The columns that it needs.
+    fn columns(&self) -> u32 {
+        match self.key {
+            Some(column) => self.folded() | bit(column),
+            None => self.folded(),
         }
-        kind_of(self.value) == Kind::Text
     }
 
     // Why a table has it not.
     fn refusal(&self) -> Option<Refusal> {
         if self.tests.len() > 4 {
-            return Some(Refusal::BadSpec);
+            Some(Refusal::BadSpec)
+        } else if self.columns() >= bit(COLUMNS) {
+            Some(Refusal::NoColumn)
+        } else if self.folded() & TEXTS != 0 {
+            Some(Refusal::WrongKind)
+        } else {
+            None
         }
-        for column in COLUMNS..8 {
-            if self.needs(column) {
-                return Some(Refusal::NoColumn);
-            }
+    }
+
+    // Its keys, ascending.
+    fn keys(&self) -> &'static [Value] {
+        match self.key {
+            Some(column) => keys_of(kind_of(column)),
+            None => &NO_KEY,
         }
-        if self.is_of_texts() {
-            return Some(Refusal::WrongKind);
-        }
-        None
     }
 
     // Whether a row passes its tests.
     fn keeps(&self, values: &Values) -> bool {
+        let mut keeps = true;
         for test in self.tests {
-            match values.get(test.0 as usize) {
-                Some(Value::Int(number)) if holds(*number, test.1, test.2) => {}
-                _ => return false,
-            }
+            keeps = keeps && holds(values[test.0 as usize % 4], test.1, test.2);
         }
-        true
+        keeps
     }
 
     // The value of a row that stands under a key, if it has one and is kept. Without a key column each row stands under none.
-    fn value_under(&self, values: &Values, key: Option<Value>) -> Option<i128> {
+    fn value_under(&self, values: &Values, key: Value) -> Option<i128> {
         let own = match self.key {
-            Some(column) => values.get(column as usize).copied(),
-            None => None,
+            Some(column) => values[column as usize % 4],
+            None => Value::Missing,
         };
-        if own != key || own == Some(Value::Missing) || !self.keeps(values) {
-            return None;
-        }
-        match values.get(self.value as usize) {
-            Some(Value::Int(number)) => Some(i128::from(*number)),
+        let value = values[self.value as usize % 4];
+        match value {
+            Value::Int(number) if own == key && self.keeps(values) => Some(i128::from(number)),
             _ => None,
         }
     }
 }
 
-fn holds(number: i64, op: Op, constant: i64) -> bool {
+// Whether a value is a number that stands so to a constant.
+fn holds(value: Value, op: Op, constant: i64) -> bool {
+    let Value::Int(number) = value else {
+        return false;
+    };
     match op {
         Op::Eq => number == constant,
         Op::Ne => number != constant,
@@ -135,34 +148,25 @@ fn holds(number: i64, op: Op, constant: i64) -> bool {
     }
 }
 
-/// An aggregate: whether it is registered, what is drawn, the number of its registration, and which row groups are still to be built
-/// in.
+/// An aggregate: whether it is registered, what is drawn, the columns that it needs, a bit for each, the number of its registration, and
+/// which row groups are still to be built in, a bit for each.
 #[derive(Clone, Copy)]
 pub struct Aggregate {
     pub registered: bool,
     pub watched: Watched,
+    pub columns: u32,
     pub registration: u64,
-    pub unbuilt: [bool; GROUPS],
+    pub unbuilt: u32,
 }
 
 /// No aggregate.
 pub const FREE: Aggregate = Aggregate {
     registered: false,
     watched: TOTALS,
+    columns: 0,
     registration: 0,
-    unbuilt: [false; GROUPS],
+    unbuilt: 0,
 };
-
-impl Aggregate {
-    /// How many row groups are still to be built in.
-    fn left(&self) -> u32 {
-        let mut left: u32 = 0;
-        for flag in self.unbuilt {
-            left = left.saturating_add(u32::from(flag));
-        }
-        left
-    }
-}
 
 // What stands under a key: how many values, their sum, the least and the greatest.
 #[derive(Clone, Copy)]
@@ -184,7 +188,7 @@ impl Sums {
     }
 
     // The line of a key.
-    fn line(self, fold: Fold, key: Option<Value>) -> Line {
+    fn line(self, fold: Fold, key: Value) -> Line {
         match fold {
             Fold::Totals => (key, self.count, self.sum),
             Fold::Extrema => (key, self.least, self.greatest),
@@ -195,17 +199,7 @@ impl Sums {
 impl Plain {
     /// The aggregate of a number.
     pub fn aggregate(&self, a: u32) -> Aggregate {
-        match self.aggregates.get(a as usize) {
-            Some(aggregate) => *aggregate,
-            None => FREE,
-        }
-    }
-
-    // This stands under a number.
-    fn put_aggregate(&mut self, a: u32, aggregate: Aggregate) {
-        if let Some(old) = self.aggregates.get_mut(a as usize) {
-            *old = aggregate;
-        }
+        self.aggregates[a as usize % NUMBERS]
     }
 
     // The lowest free number.
@@ -218,61 +212,50 @@ impl Plain {
         None
     }
 
-    // Which row groups are there.
-    fn there(&self) -> [bool; GROUPS] {
-        let mut there = [false; GROUPS];
-        for (group, flag) in there.iter_mut().enumerate() {
-            *flag = group < self.groups() as usize;
-        }
-        there
-    }
-
     /// An aggregate is registered under the lowest free number, with all row groups still to be built in.
     pub fn watch(&mut self, watched: Watched) -> Due<'static> {
-        if let Some(refusal) = watched.refusal() {
-            return Due::Refused(refusal);
+        match (watched.refusal(), self.free()) {
+            (Some(refusal), _) => Due::Refused(refusal),
+            (None, None) => Due::Refused(Refusal::TooManyAggregates),
+            (None, Some(a)) => {
+                self.aggregates[a as usize % NUMBERS] = Aggregate {
+                    registered: true,
+                    watched,
+                    columns: watched.columns(),
+                    registration: self.registrations,
+                    unbuilt: bit(self.groups()).wrapping_sub(1),
+                };
+                self.registrations = self.registrations.wrapping_add(1);
+                Due::Aggregate(a)
+            }
         }
-        let Some(a) = self.free() else {
-            return Due::Refused(Refusal::TooManyAggregates);
-        };
-        let aggregate = Aggregate {
-            registered: true,
-            watched,
-            registration: self.registrations,
-            unbuilt: self.there(),
-        };
-        self.put_aggregate(a, aggregate);
-        self.registrations = self.registrations.wrapping_add(1);
-        Due::Aggregate(a)
+    }
+
+    // Why nothing is asked of an aggregate.
+    fn unknown(&self, a: u32) -> Option<Refusal> {
+        let is_free = !self.aggregate(a).registered;
+        is_free.then_some(Refusal::NoAggregate)
     }
 
     /// An aggregate is forgotten.
     pub fn unwatch(&mut self, a: u32) -> Option<Refusal> {
-        if !self.aggregate(a).registered {
-            return Some(Refusal::NoAggregate);
-        }
-        self.put_aggregate(a, FREE);
-        None
+        let refusal = self.unknown(a);
+        self.aggregates[a as usize % NUMBERS] = FREE;
+        refusal
     }
 
     /// A row group is built into an aggregate.
     pub fn build(&mut self, a: u32, group: u32) {
-        let mut aggregate = self.aggregate(a);
-        if let Some(flag) = aggregate.unbuilt.get_mut(group as usize) {
-            *flag = false;
-        }
-        self.put_aggregate(a, aggregate);
+        let aggregate = &mut self.aggregates[a as usize % NUMBERS];
+        aggregate.unbuilt &= !bit(group);
     }
 
     /// Why a row group is not there and still to be built into an aggregate.
     pub fn build_refusal(&self, a: u32, group: u32) -> Option<Refusal> {
-        let aggregate = self.aggregate(a);
-        if !aggregate.registered {
-            Some(Refusal::NoAggregate)
-        } else if group >= self.groups() {
-            Some(Refusal::OutOfRange)
-        } else if aggregate.unbuilt.get(group as usize).copied() != Some(true) {
-            Some(Refusal::StaleJob)
+        if group >= self.groups() {
+            self.unknown(a).or(Some(Refusal::OutOfRange))
+        } else if self.aggregate(a).unbuilt & bit(group) == 0 {
+            self.unknown(a).or(Some(Refusal::StaleJob))
         } else {
             None
         }
@@ -280,18 +263,8 @@ impl Plain {
 
     /// Why it is not scanned.
     pub fn scan_refusal(&self, a: u32, group: u32) -> Option<Refusal> {
-        let refusal = self.build_refusal(a, group);
-        if refusal.is_some() {
-            return refusal;
-        }
-        let watched = self.aggregate(a).watched;
-        for column in 0..COLUMNS {
-            let away = self.away(column, group);
-            if watched.needs(column) && away.is_some() {
-                return away;
-            }
-        }
-        None
+        let away = self.some_away(self.aggregate(a).columns, group);
+        self.build_refusal(a, group).or(away)
     }
 
     /// A row group is scanned.
@@ -305,49 +278,44 @@ impl Plain {
 
     /// An aggregate is asked.
     pub fn ask(&mut self, a: u32) -> Due<'_> {
-        let aggregate = self.aggregate(a);
-        if !aggregate.registered {
-            return Due::Refused(Refusal::NoAggregate);
-        }
-        let left = aggregate.left();
-        if left > 0 {
-            return Due::Refused(Refusal::Building(left));
-        }
-        self.answer(&aggregate.watched)
+        let left = self.aggregate(a).unbuilt.count_ones();
+        let is_left = left > 0;
+        let refusal = self
+            .unknown(a)
+            .or(is_left.then_some(Refusal::Building(left)));
+        self.answer_or(refusal, a)
     }
 
-    /// The lines of an aggregate.
-    pub fn answer(&mut self, watched: &Watched) -> Due<'_> {
-        let count = self.fold(watched);
+    /// The lines of an aggregate, unless they are refused.
+    pub fn answer_or(&mut self, refusal: Option<Refusal>, a: u32) -> Due<'_> {
+        if let Some(refusal) = refusal {
+            return Due::Refused(refusal);
+        }
+        let watched = self.aggregate(a).watched;
+        let count = self.fold(&watched);
         Due::Lines(self.lines.get(..count).unwrap_or(&[]))
     }
 
     // Writes the lines of an aggregate down: how many they are.
     fn fold(&mut self, watched: &Watched) -> usize {
-        let Some(column) = watched.key else {
-            return self.fold_under(0, watched, None);
-        };
         let mut count = 0;
-        for key in values_of(kind_of(column)) {
-            count = self.fold_under(count, watched, Some(*key));
+        for key in watched.keys() {
+            count = self.fold_under(count, watched, *key);
         }
         count
     }
 
-    // Writes the line of a key down behind so many others, if it has one. The totals of all rows have one always.
-    fn fold_under(&mut self, count: usize, watched: &Watched, key: Option<Value>) -> usize {
+    // Writes the line of a key down behind so many others, and counts it if the aggregate has it. Each key that has rows has one, and the
+    // totals of all rows have one always.
+    fn fold_under(&mut self, count: usize, watched: &Watched, key: Value) -> usize {
         let sums = self.sums(watched, key);
-        if sums.count == 0 && (key.is_some() || watched.fold == Fold::Extrema) {
-            return count;
-        }
-        if let Some(line) = self.lines.get_mut(count) {
-            *line = sums.line(watched.fold, key);
-        }
-        count.saturating_add(1)
+        let is_total = watched.key.is_none() && watched.fold == Fold::Totals;
+        self.lines[count % 10] = sums.line(watched.fold, key);
+        count.saturating_add(usize::from(is_total || sums.count > 0))
     }
 
     // What stands under a key, over the places that are alive.
-    fn sums(&self, watched: &Watched, key: Option<Value>) -> Sums {
+    fn sums(&self, watched: &Watched, key: Value) -> Sums {
         let mut sums = Sums {
             count: 0,
             sum: 0,

@@ -17,9 +17,8 @@ pub const SIZE: u32 = 3;
 /// How many places there are at most.
 pub const PLACES: u32 = 18;
 
-/// Numbers that are drawn, ascending behind the first.
-static NUMBERS: [Value; 10] = [
-    Value::Missing,
+/// Numbers that are drawn, ascending.
+static NUMBERS: [Value; 9] = [
     Value::Int(-4),
     Value::Int(-3),
     Value::Int(-2),
@@ -31,9 +30,8 @@ static NUMBERS: [Value; 10] = [
     Value::Int(4),
 ];
 
-/// Texts that are drawn, ascending behind the first. Three of the longest are too long for a text object.
-static TEXTS: [Value; 6] = [
-    Value::Missing,
+/// Texts that are drawn, ascending. Three of the longest are too long for a text object.
+static TEXTS: [Value; 5] = [
     Value::Text(""),
     Value::Text("fig"),
     Value::Text("pear"),
@@ -41,8 +39,8 @@ static TEXTS: [Value; 6] = [
     Value::Text("quince"),
 ];
 
-/// All values that are drawn of a kind.
-pub fn values_of(kind: Kind) -> &'static [Value] {
+/// All values that are drawn of a kind, but for a missing one.
+pub fn keys_of(kind: Kind) -> &'static [Value] {
     match kind {
         Kind::Int => &NUMBERS,
         Kind::Text => &TEXTS,
@@ -51,20 +49,30 @@ pub fn values_of(kind: Kind) -> &'static [Value] {
 
 /// The kind of a column; of numbers where there is none.
 pub fn kind_of(column: u32) -> Kind {
-    KINDS.get(column as usize).copied().unwrap_or(Kind::Int)
+    KINDS[column as usize % 4]
+}
+
+// Whether a value that is drawn of a column is of texts. One time in twenty it is of the other kind.
+fn draws_text(draws: &mut Draws, column: u32) -> bool {
+    let is_other = draws.below(20) == 0;
+    is_other != (kind_of(column) == Kind::Text)
 }
 
 /// A value of a column, one time in twenty of the other kind.
 fn drawn_value(draws: &mut Draws, column: u32) -> Value {
-    let kind = match (draws.below(20), kind_of(column)) {
-        (0, Kind::Int) => Kind::Text,
-        (0, Kind::Text) => Kind::Int,
-        (_, kind) => kind,
-    };
-    let values = values_of(kind);
-    let count = u32::try_from(values.len()).unwrap_or(0);
-    let at = draws.below(count) as usize;
-    values.get(at).copied().unwrap_or(Value::Missing)
+    if draws_text(draws, column) {
+        nth(&TEXTS, draws.below(6))
+    } else {
+        nth(&NUMBERS, draws.below(10))
+    }
+}
+
+// The n-th of values, from 1 on. None is missing.
+fn nth(values: &[Value], n: u32) -> Value {
+    match values.get((n as usize).wrapping_sub(1)) {
+        Some(value) => *value,
+        None => Value::Missing,
+    }
 }
 
 fn drawn_row(draws: &mut Draws, width: u32) -> DrawnRow {

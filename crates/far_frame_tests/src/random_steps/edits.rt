@@ -1,10 +1,13 @@
 //! Edits of a plain table.
-use super::drawing::{COLUMNS, KINDS, PLACES, SIZE, kind_of};
+use super::drawing::{COLUMNS, PLACES, SIZE, kind_of};
 use super::objects::index;
 use super::plain::{Place, Plain};
 use crate::answers::Due;
 use crate::call::{Value, Values};
 use far_types::{Kind, Refusal};
+
+/// All columns, a bit for each.
+pub const ALL: u32 = 0b1111;
 
 // Whether a value may stand in a column of this kind.
 fn is_of_kind(value: Value, kind: Kind) -> bool {
@@ -17,254 +20,211 @@ fn is_of_kind(value: Value, kind: Kind) -> bool {
 
 // Why so many of these values are no row.
 fn row_refusal(values: &Values, width: u32) -> Option<Refusal> {
-    for (value, kind) in values.iter().zip(KINDS.iter()).take(width as usize) {
-        if !is_of_kind(*value, *kind) {
-            return Some(Refusal::WrongKind);
-        }
+    let mut fits = true;
+    for column in 0..COLUMNS {
+        let is_right = is_of_kind(values[column as usize], kind_of(column));
+        fits = fits && (is_right || column >= width);
     }
-    if width != COLUMNS {
-        return Some(Refusal::RowWidth);
-    }
-    None
-}
-
-// The value of a column.
-fn value_in(values: &Values, column: u32) -> Value {
-    match values.get(column as usize) {
-        Some(value) => *value,
-        None => Value::Missing,
+    if !fits {
+        Some(Refusal::WrongKind)
+    } else if width != COLUMNS {
+        Some(Refusal::RowWidth)
+    } else {
+        None
     }
 }
 
-// The texts of a row group, measured: how many there are, whether some are missing, and how many bytes the others have.
-#[derive(Clone, Copy)]
-struct Measure {
-    count: u32,
-    missing: bool,
-    bytes: u32,
+// How many bytes a value has in the far form of texts: those of its end and its own.
+fn len_in_form(value: Value) -> u32 {
+    match value {
+        Value::Text(letters) => u32::try_from(letters.len())
+            .unwrap_or(PLACES)
+            .saturating_add(4),
+        _ => 4,
+    }
 }
 
-impl Measure {
-    fn with(self, value: Value) -> Measure {
-        let bytes = match value {
-            Value::Text(letters) => u32::try_from(letters.len()).unwrap_or(PLACES),
-            _ => 0,
-        };
-        Measure {
-            count: self.count.saturating_add(1),
-            missing: self.missing || value == Value::Missing,
-            bytes: self.bytes.saturating_add(bytes),
-        }
-    }
-
-    // The length of their far form: a head, an end for each, a bit for each where some are missing, and the bytes.
-    fn len(self) -> u32 {
-        let mask = if self.missing {
-            self.count.div_ceil(8)
-        } else {
-            0
-        };
-        let ends = self.count.saturating_mul(4).saturating_add(6);
-        ends.saturating_add(mask).saturating_add(self.bytes)
+fn is_missing(value: Value) -> bool {
+    match value {
+        Value::Missing => true,
+        _ => false,
     }
 }
 
 impl Plain {
-    /// How long the object of a row group of a column is, once a place of it has this value; as it is, where the place is another's.
-    pub fn list_len(&self, column: u32, group: u32, place: u32, value: Value) -> u32 {
-        if kind_of(column) == Kind::Int {
-            return SIZE;
-        }
-        let mut measure = Measure {
-            count: 0,
-            missing: false,
-            bytes: 0,
-        };
-        let first = group.saturating_mul(SIZE);
-        for p in first..first.saturating_add(SIZE) {
-            if p == place {
-                measure = measure.with(value);
-            } else if let Some(row) = self.place(p) {
-                measure = measure.with(value_in(&row.values, column));
-            }
-        }
-        measure.len()
-    }
-
-    // Why some text object is too long for a segment, once a place has these values.
-    fn long_refusal(&self, place: u32, values: &Values) -> Option<Refusal> {
-        for column in 0..COLUMNS {
-            let len = self.list_len(column, place / SIZE, place, value_in(values, column));
-            if len > self.limits.text_size {
-                return Some(Refusal::ChunkFull);
-            }
-        }
-        None
-    }
-
-    // Why one more edit is not accepted.
-    fn count_refusal(&self) -> Option<Refusal> {
-        if self.edits >= self.limits.edits {
-            Some(Refusal::EditsUsedUp)
+    // The value of a column at a place, once one of the places has this value; none where there is no such place.
+    fn value_then(&self, column: u32, p: u32, place: u32, value: Value) -> Option<Value> {
+        if p == place {
+            Some(value)
+        } else if p < self.len {
+            Some(self.rows[p as usize % 18].values[column as usize % 4])
         } else {
             None
         }
     }
 
-    // Whether the lists that an object of a row group gets, once a place has these values, find room beside all that is there.
-    fn reserve_all(&mut self, place: u32, values: &Values, begins: bool) -> bool {
-        for (column, kind) in (0..COLUMNS).zip(KINDS) {
-            if begins || kind == Kind::Text {
-                let len = self.list_len(column, place / SIZE, place, value_in(values, column));
-                if !self.reserve(index(column, place / SIZE), kind, len) {
-                    return false;
-                }
+    // How long the far form of a row group's texts is, once a place of it has this value: a head, what each value has, and a byte with a bit
+    // for each where some are missing.
+    fn form_len(&self, column: u32, group: u32, place: u32, value: Value) -> u32 {
+        let first = group.saturating_mul(SIZE);
+        let (mut len, mut mask) = (6u32, 0u32);
+        for p in first..first.saturating_add(SIZE) {
+            if let Some(value) = self.value_then(column, p, place, value) {
+                len = len.saturating_add(len_in_form(value));
+                mask = mask.max(u32::from(is_missing(value)));
             }
         }
-        true
+        len.saturating_add(mask)
+    }
+
+    /// How long the object of a row group of a column is, once a place of it has this value; as it is, where the place is another's.
+    pub fn list_len(&self, column: u32, group: u32, place: u32, value: Value) -> u32 {
+        match kind_of(column) {
+            Kind::Int => SIZE,
+            Kind::Text => self.form_len(column, group, place, value),
+        }
+    }
+
+    // Why some text object is too long for a segment, once a place has these values.
+    fn long_refusal(&self, place: u32, values: &Values) -> Option<Refusal> {
+        let mut len = 0;
+        for column in 0..COLUMNS {
+            let value = values[column as usize];
+            len = self.list_len(column, place / SIZE, place, value).max(len);
+        }
+        let is_long = len > self.limits.text_size;
+        is_long.then_some(Refusal::ChunkFull)
+    }
+
+    // Why one more edit is not accepted: its objects find no room, or the edits are used up.
+    fn last_refusal(&self, fits: bool) -> Option<Refusal> {
+        let is_last = self.edits >= self.limits.edits;
+        (!fits)
+            .then_some(Refusal::RegionFull)
+            .or(is_last.then_some(Refusal::EditsUsedUp))
+    }
+
+    // Whether the list that an object gets, once a place has this value, finds room beside all that is there. Numbers get one only where
+    // their row group begins.
+    fn reserve_one(&mut self, place: u32, column: u32, value: Value, begins: bool) -> bool {
+        let (kind, group) = (kind_of(column), place / SIZE);
+        if begins || kind == Kind::Text {
+            let len = self.list_len(column, group, place, value);
+            self.reserve(index(column, group), kind, len)
+        } else {
+            true
+        }
+    }
+
+    // The same of all objects of a row group, once a place has these values.
+    fn reserve_all(&mut self, place: u32, values: &Values) -> bool {
+        let mut fits = true;
+        for column in 0..COLUMNS {
+            let value = values[column as usize];
+            fits = self.reserve_one(place, column, value, place % SIZE == 0) && fits;
+        }
+        fits
     }
 
     // A row is there, and its objects have it.
-    fn append(&mut self, place: u32, values: &Values, begins: bool) {
-        if let Some(row) = self.rows.get_mut(place as usize) {
-            *row = Place {
-                values: *values,
-                alive: true,
-            };
-        }
+    fn append(&mut self, place: u32, values: &Values) {
+        self.rows[place as usize % 18] = Place {
+            values: *values,
+            alive: true,
+        };
         self.len = place.saturating_add(1);
         self.edits = self.edits.wrapping_add(1);
         for column in 0..COLUMNS {
-            if begins {
-                self.make(index(column, place / SIZE));
-            } else {
-                self.write(index(column, place / SIZE));
-            }
+            self.write(index(column, place / SIZE));
+        }
+    }
+
+    // Why some object of the row group of the next place is not local. One that the place begins is.
+    fn next_away(&self) -> Option<Refusal> {
+        if self.len % SIZE == 0 {
+            None
+        } else {
+            self.some_away(ALL, self.len / SIZE)
         }
     }
 
     // Why a row is not inserted, whatever room there is.
     fn insert_refusal(&self, values: &Values, width: u32) -> Option<Refusal> {
-        let refusal = row_refusal(values, width);
-        if refusal.is_some() {
-            return refusal;
-        }
-        if self.len >= PLACES {
-            return Some(Refusal::TableFull);
-        }
-        let away = self.here(self.len / SIZE);
-        if away.is_some() {
-            return away;
-        }
-        self.long_refusal(self.len, values)
+        let is_full = self.len >= PLACES;
+        row_refusal(values, width)
+            .or(is_full.then_some(Refusal::TableFull))
+            .or(self.next_away())
+            .or(self.long_refusal(self.len, values))
     }
 
     /// A row more. It finds room, where it begins a row group for objects that have no list yet, and is appended.
     pub fn insert(&mut self, values: &Values, width: u32) -> Due<'static> {
-        if let Some(refusal) = self.insert_refusal(values, width) {
-            return Due::Refused(refusal);
-        }
-        let (place, made) = (self.len, self.made);
-        let begins = place % SIZE == 0;
-        if begins {
-            self.made = made.saturating_add(COLUMNS as usize);
-        }
-        let refusal = if self.reserve_all(place, values, begins) {
-            self.count_refusal()
-        } else {
-            Some(Refusal::RegionFull)
-        };
-        match refusal {
+        let place = self.len;
+        let refusal = self.insert_refusal(values, width);
+        let fits = self.reserve_all(place, values);
+        let due = match refusal.or(self.last_refusal(fits)) {
             None => {
-                self.append(place, values, begins);
+                self.append(place, values);
                 Due::Place(place)
             }
-            Some(refusal) => {
-                self.give_up();
-                self.made = made;
-                Due::Refused(refusal)
-            }
-        }
+            Some(refusal) => Due::Refused(refusal),
+        };
+        self.give_up();
+        due
+    }
+
+    /// Whether a place is alive, if there is one.
+    pub fn alive(&self, place: u32) -> Option<bool> {
+        let is_there = place < self.len;
+        is_there.then_some(self.rows[place as usize % 18].alive)
     }
 
     /// Why a place is not alive.
     pub fn dead(&self, place: u32) -> Option<Refusal> {
-        match self.place(place) {
+        match self.alive(place) {
             None => Some(Refusal::NoRow),
-            Some(row) if !row.alive => Some(Refusal::RemovedRow),
-            Some(_) => None,
+            Some(false) => Some(Refusal::RemovedRow),
+            Some(true) => None,
         }
     }
 
     // Why a place is not edited.
     fn edit_refusal(&self, place: u32) -> Option<Refusal> {
-        match self.dead(place) {
-            None => self.here(place / SIZE),
-            refusal => refusal,
-        }
+        self.dead(place).or(self.some_away(ALL, place / SIZE))
     }
 
-    // Why a text finds no room, or one more edit is not accepted.
-    fn place_refusal(&mut self, o: usize, kind: Kind, len: u32) -> Option<Refusal> {
-        if kind == Kind::Text && len > self.limits.text_size {
-            return Some(Refusal::ChunkFull);
-        }
-        if kind == Kind::Text && !self.reserve(o, kind, len) {
-            return Some(Refusal::RegionFull);
-        }
-        self.count_refusal()
+    // Why a value is not set, whatever room there is.
+    fn set_refusal(&self, place: u32, column: u32, value: Value) -> Option<Refusal> {
+        let is_wrong = !is_of_kind(value, kind_of(column));
+        let len = self.list_len(column, place / SIZE, place, value);
+        let is_long = len > self.limits.text_size;
+        (column >= COLUMNS)
+            .then_some(Refusal::NoColumn)
+            .or(is_wrong.then_some(Refusal::WrongKind))
+            .or(self.edit_refusal(place))
+            .or(is_long.then_some(Refusal::ChunkFull))
     }
 
     /// Another value of a column at a place.
     pub fn set(&mut self, place: u32, column: u32, value: Value) -> Option<Refusal> {
-        let Some(kind) = KINDS.get(column as usize).copied() else {
-            return Some(Refusal::NoColumn);
-        };
-        if !is_of_kind(value, kind) {
-            return Some(Refusal::WrongKind);
+        let refusal = self.set_refusal(place, column, value);
+        let fits = self.reserve_one(place, column, value, false);
+        let refusal = refusal.or(self.last_refusal(fits));
+        if refusal.is_none() {
+            self.edits = self.edits.wrapping_add(1);
+            self.rows[place as usize % 18].values[column as usize % 4] = value;
+            self.write(index(column, place / SIZE));
         }
-        let refusal = self.edit_refusal(place);
-        if refusal.is_some() {
-            return refusal;
-        }
-        self.set_at(place, column, kind, value)
-    }
-
-    fn set_at(&mut self, place: u32, column: u32, kind: Kind, value: Value) -> Option<Refusal> {
-        let o = index(column, place / SIZE);
-        let len = self.list_len(column, place / SIZE, place, value);
-        let refusal = self.place_refusal(o, kind, len);
-        if refusal.is_some() {
-            self.give_up();
-        } else {
-            self.put(place, column, value);
-            self.write(o);
-        }
+        self.give_up();
         refusal
-    }
-
-    // A place has this value, and an edit more was accepted.
-    fn put(&mut self, place: u32, column: u32, value: Value) {
-        self.edits = self.edits.wrapping_add(1);
-        if let Some(row) = self.rows.get_mut(place as usize) {
-            if let Some(old) = row.values.get_mut(column as usize) {
-                *old = value;
-            }
-        }
     }
 
     /// A place is dead from now on.
     pub fn remove(&mut self, place: u32) -> Option<Refusal> {
-        let refusal = self.edit_refusal(place);
-        if refusal.is_some() {
-            return refusal;
-        }
-        let refusal = self.count_refusal();
+        let refusal = self.edit_refusal(place).or(self.last_refusal(true));
         if refusal.is_none() {
             self.edits = self.edits.wrapping_add(1);
-            if let Some(row) = self.rows.get_mut(place as usize) {
-                row.alive = false;
-            }
+            self.rows[place as usize % 18].alive = false;
         }
         refusal
     }

@@ -1,6 +1,6 @@
 //! The jobs of a plain world.
 use super::drawing::{COLUMNS, PLACES, SIZE, kind_of};
-use super::objects::{Object, index};
+use super::objects::{OBJECTS, Object, has, index};
 use super::plain::Plain;
 use crate::answers::Due;
 use crate::call::{Call, Value};
@@ -12,6 +12,7 @@ use far_types::Refusal;
 #[derive(Clone, Copy)]
 pub struct Job {
     pub kind: JobKind,
+    /// Whether it is spent, or cannot be begun.
     pub spent: bool,
     pub carried: bool,
     pub column: u32,
@@ -48,20 +49,6 @@ pub const SPENT: Job = Job {
 /// How many of the last jobs are kept. No step names one before them.
 const KEPT: u64 = 8;
 
-// A job on an object.
-fn on(object: &Object, kind: JobKind, column: u32, group: u32) -> Job {
-    Job {
-        kind,
-        spent: false,
-        column,
-        group,
-        version: object.version,
-        leavings: object.leavings,
-        ticket: object.ticket,
-        ..SPENT
-    }
-}
-
 impl Plain {
     /// The step that ends the job of a number by its kind.
     pub fn end_of(&self, n: u64) -> Call {
@@ -72,74 +59,59 @@ impl Plain {
         }
     }
 
-    // Whether the job of a number is kept.
-    fn is_kept(&self, n: u64) -> bool {
-        n < self.begun && self.begun.wrapping_sub(n) <= KEPT
-    }
-
     // The job of a number.
     fn job(&self, n: u64) -> Job {
-        match self.jobs.get((n % KEPT) as usize) {
-            Some(job) if self.is_kept(n) => *job,
-            _ => SPENT,
+        if n < self.begun {
+            self.jobs[(n % KEPT) as usize]
+        } else {
+            SPENT
         }
     }
 
-    fn put_job(&mut self, n: u64, job: Job) {
-        if !self.is_kept(n) {
-            return;
-        }
-        if let Some(old) = self.jobs.get_mut((n % KEPT) as usize) {
-            *old = job;
-        }
-    }
-
-    // One job more.
-    fn add(&mut self, job: Job) -> Due<'static> {
+    // One job more, unless it is refused.
+    fn add(&mut self, refusal: Option<Refusal>, job: Job) -> Due<'static> {
         let n = self.begun;
-        if n >= self.limits.edits {
-            return Due::Refused(Refusal::EditsUsedUp);
+        let is_last = n >= self.limits.edits;
+        match refusal.or(is_last.then_some(Refusal::EditsUsedUp)) {
+            Some(refusal) => Due::Refused(refusal),
+            None => {
+                self.begun = n.wrapping_add(1);
+                self.jobs[(n % KEPT) as usize] = job;
+                Due::Job(n)
+            }
         }
-        self.begun = n.wrapping_add(1);
-        self.put_job(n, job);
-        Due::Job(n)
+    }
+
+    // A job on an object.
+    fn job_on(&self, kind: JobKind, column: u32, group: u32) -> Job {
+        let object = self.object(column, group);
+        Job {
+            kind,
+            spent: false,
+            column,
+            group,
+            version: object.version,
+            leavings: object.leavings,
+            ticket: self.copy(column, group),
+            ..SPENT
+        }
     }
 
     /// An evacuation begins.
     pub fn evac(&mut self, column: u32, group: u32) -> Due<'static> {
-        if let Some(refusal) = self.away(column, group) {
-            return Due::Refused(refusal);
-        }
-        let object = self.object(column, group);
-        let mut job = on(&object, JobKind::Evac, column, group);
-        if object.dirty {
-            job.ticket = None;
-        }
-        self.add(job)
+        let refusal = self.away(column, group);
+        let job = self.job_on(JobKind::Evac, column, group);
+        self.add(refusal, job)
     }
 
     /// A fetch begins.
     pub fn fetch(&mut self, column: u32, group: u32) -> Due<'static> {
-        if let Some(refusal) = self.missing(column, group) {
-            return Due::Refused(refusal);
-        }
-        let object = self.object(column, group);
-        if object.part.is_some() {
-            return Due::Refused(Refusal::StaleJob);
-        }
-        self.add(on(&object, JobKind::Fetch, column, group))
-    }
-
-    // Whether each place of a row group is alive; none where there is no such place.
-    fn flags(&self, group: u32) -> [Option<bool>; 3] {
-        let mut flags = [None; 3];
-        let first = group.saturating_mul(SIZE);
-        for (flag, place) in flags.iter_mut().zip(first..first.saturating_add(SIZE)) {
-            if let Some(row) = self.place(place) {
-                *flag = Some(row.alive);
-            }
-        }
-        flags
+        let is_local = self.object(column, group).part.is_some();
+        let refusal = self
+            .missing(column, group)
+            .or(is_local.then_some(Refusal::StaleJob));
+        let job = self.job_on(JobKind::Fetch, column, group);
+        self.add(refusal, job)
     }
 
     // The number under which the store has a row group of a column as it is now.
@@ -148,73 +120,64 @@ impl Plain {
         if object.dirty { None } else { object.ticket }
     }
 
-    /// Why a build is not offloaded.
-    pub fn offload_refusal(&self, a: u32, group: u32) -> Option<Refusal> {
-        let refusal = self.build_refusal(a, group);
-        if refusal.is_some() {
-            return refusal;
-        }
-        let watched = self.aggregate(a).watched;
-        for column in 0..COLUMNS {
-            if watched.needs(column) && self.copy(column, group).is_none() {
-                return Some(Refusal::StaleJob);
-            }
-        }
-        None
-    }
-
-    // A build that may be offloaded.
+    // A build of a row group into an aggregate. It cannot be begun where the store has not all of what it needs.
     fn offload_job(&self, a: u32, group: u32) -> Job {
         let aggregate = self.aggregate(a);
+        let first = group.saturating_mul(SIZE);
         let mut job = SPENT;
         job.spent = false;
         job.kind = JobKind::Offload;
         job.aggregate = a;
         job.group = group;
         job.registration = aggregate.registration;
-        job.alive = self.flags(group);
-        for (ticket, column) in job.tickets.iter_mut().zip(0..COLUMNS) {
-            if aggregate.watched.needs(column) {
-                *ticket = self.copy(column, group);
+        job.alive = [
+            self.alive(first),
+            self.alive(first.saturating_add(1)),
+            self.alive(first.saturating_add(2)),
+        ];
+        for column in 0..COLUMNS {
+            if has(aggregate.columns, column) {
+                let copy = self.copy(column, group);
+                job.tickets[column as usize] = copy;
+                job.spent = job.spent || copy.is_none();
             }
         }
         job
     }
 
-    /// An offloaded build begins.
-    pub fn offload(&mut self, a: u32, group: u32) -> Due<'static> {
-        match self.offload_refusal(a, group) {
-            Some(refusal) => Due::Refused(refusal),
-            None => self.add(self.offload_job(a, group)),
-        }
+    /// Why a build is not offloaded.
+    pub fn offload_refusal(&self, a: u32, group: u32) -> Option<Refusal> {
+        let is_stale = self.offload_job(a, group).spent;
+        self.build_refusal(a, group)
+            .or(is_stale.then_some(Refusal::StaleJob))
     }
 
-    // Why a job is not carried. Its content is read or put.
-    fn carried(&mut self, job: &mut Job) -> Option<Refusal> {
+    /// An offloaded build begins.
+    pub fn offload(&mut self, a: u32, group: u32) -> Due<'static> {
+        let refusal = self.offload_refusal(a, group);
+        let job = self.offload_job(a, group);
+        self.add(refusal, job)
+    }
+
+    // The contents of a build are read, or why they are not.
+    fn read_all(&mut self, job: &Job) -> Option<Refusal> {
+        let mut refusal = None;
+        for column in 0..4usize {
+            if refusal.is_none() && job.tickets[column].is_some() {
+                refusal = self.store.get();
+            }
+        }
+        refusal
+    }
+
+    // The content of a job is read or put, or why it is not.
+    fn carried(&mut self, job: &Job) -> Option<Refusal> {
         match job.kind {
             JobKind::Evac if job.ticket.is_some() => None,
-            JobKind::Evac => match self.store.put() {
-                Ok(ticket) => {
-                    job.ticket = Some(ticket);
-                    None
-                }
-                Err(refusal) => Some(refusal),
-            },
+            JobKind::Evac => self.store.put(),
             JobKind::Fetch => self.store.get(),
             JobKind::Offload => self.read_all(job),
         }
-    }
-
-    fn read_all(&mut self, job: &Job) -> Option<Refusal> {
-        for ticket in job.tickets {
-            if ticket.is_some() {
-                let refusal = self.store.get();
-                if refusal.is_some() {
-                    return refusal;
-                }
-            }
-        }
-        None
     }
 
     /// The job of a number is carried.
@@ -223,118 +186,100 @@ impl Plain {
         if job.spent || job.carried {
             return Some(Refusal::StaleJob);
         }
-        let refusal = self.carried(&mut job);
+        let refusal = self.carried(&job);
         if refusal.is_none() {
             job.carried = true;
-            self.put_job(n, job);
+            job.ticket = job.ticket.or(self.store.newest);
+            self.jobs[(n % KEPT) as usize] = job;
         }
         refusal
     }
 
-    // Whether the job of a number is of this kind and was carried.
-    fn is_ready(&self, n: u64, kind: JobKind) -> bool {
+    /// The job of a number ends as one of this kind. It is spent once it was accepted or stale.
+    pub fn end(&mut self, n: u64, kind: JobKind) -> Option<Refusal> {
         let job = self.job(n);
-        !job.spent && job.kind == kind && job.carried
-    }
-
-    // The job of a number came to this end.
-    fn ended(&mut self, n: u64, refusal: Option<Refusal>) -> Option<Refusal> {
-        if refusal.is_none() || refusal == Some(Refusal::StaleJob) {
-            self.put_job(n, SPENT);
-        }
-        refusal
-    }
-
-    /// An evacuation ends.
-    pub fn commit(&mut self, n: u64) -> Option<Refusal> {
-        let refusal = self.commit_refusal(n);
-        if refusal.is_none() {
-            self.leave(self.job(n));
-        }
-        self.ended(n, refusal)
-    }
-
-    fn commit_refusal(&self, n: u64) -> Option<Refusal> {
-        let job = self.job(n);
-        let object = self.object(job.column, job.group);
-        let same = object.version == job.version && object.leavings == job.leavings;
-        if !self.is_ready(n, JobKind::Evac) || object.part.is_none() || !same {
-            return Some(Refusal::StaleJob);
-        }
-        if object.leavings >= self.limits.edits {
-            return Some(Refusal::StaleJob);
-        }
-        if object.pins > 0 {
-            return Some(Refusal::Pinned);
-        }
-        None
-    }
-
-    // The object of a job goes away.
-    fn leave(&mut self, job: Job) {
-        let mut object = self.object(job.column, job.group);
-        object.part = None;
-        object.dirty = false;
-        object.hot = false;
-        object.leavings = object.leavings.wrapping_add(1);
-        object.ticket = job.ticket;
-        self.keep(index(job.column, job.group), object);
-    }
-
-    /// A fetch ends.
-    pub fn install(&mut self, n: u64) -> Option<Refusal> {
-        let refusal = self.installed(n);
-        self.ended(n, refusal)
-    }
-
-    // Why it does not. Its object comes back.
-    fn installed(&mut self, n: u64) -> Option<Refusal> {
-        let job = self.job(n);
-        let mut object = self.object(job.column, job.group);
-        let same = object.part.is_none() && object.leavings == job.leavings;
-        if !self.is_ready(n, JobKind::Fetch) || !same {
-            return Some(Refusal::StaleJob);
-        }
-        let len = self.list_len(job.column, job.group, PLACES, Value::Missing);
-        let Some(part) = self.spot(kind_of(job.column), len) else {
-            return Some(Refusal::RegionFull);
+        let refusal = if job.spent || !job.carried || job.kind != kind {
+            Some(Refusal::StaleJob)
+        } else {
+            self.ended(&job)
         };
-        object.part = Some(part);
-        object.dirty = false;
-        object.hot = true;
-        object.used = self.now();
-        self.keep(index(job.column, job.group), object);
-        None
+        match refusal {
+            None | Some(Refusal::StaleJob) => self.jobs[(n % KEPT) as usize] = SPENT,
+            _ => {}
+        }
+        refusal
     }
 
-    /// An offloaded build ends.
-    pub fn merge(&mut self, n: u64) -> Option<Refusal> {
-        let refusal = self.merge_refusal(n);
-        if refusal.is_none() {
-            let job = self.job(n);
-            self.build(job.aggregate, job.group);
+    // A job that was carried ends, or why it does not.
+    fn ended(&mut self, job: &Job) -> Option<Refusal> {
+        match job.kind {
+            JobKind::Evac => self.commit(job),
+            JobKind::Fetch => self.install(job),
+            JobKind::Offload => self.merge(job),
         }
-        self.ended(n, refusal)
+    }
+
+    // The object of an evacuation goes away.
+    fn commit(&mut self, job: &Job) -> Option<Refusal> {
+        let o = index(job.column, job.group) % OBJECTS;
+        let object = self.objects[o];
+        let same = object.version == job.version && object.leavings == job.leavings;
+        if object.part.is_none() || !same || object.leavings >= self.limits.edits {
+            Some(Refusal::StaleJob)
+        } else if object.pins > 0 {
+            Some(Refusal::Pinned)
+        } else {
+            self.objects[o] = Object {
+                part: None,
+                dirty: false,
+                hot: false,
+                leavings: object.leavings.wrapping_add(1),
+                ticket: job.ticket,
+                ..object
+            };
+            None
+        }
+    }
+
+    // The object of a fetch comes back.
+    fn install(&mut self, job: &Job) -> Option<Refusal> {
+        let o = index(job.column, job.group) % OBJECTS;
+        let object = self.objects[o];
+        let len = self.list_len(job.column, job.group, PLACES, Value::Missing);
+        let part = self.spot(kind_of(job.column), len);
+        if object.part.is_some() || object.leavings != job.leavings {
+            Some(Refusal::StaleJob)
+        } else if part.is_none() {
+            Some(Refusal::RegionFull)
+        } else {
+            let used = self.now();
+            self.objects[o] = Object {
+                part,
+                dirty: false,
+                hot: true,
+                used,
+                ..object
+            };
+            None
+        }
     }
 
     // Whether what a build rests on holds still.
     fn holds(&self, job: &Job) -> bool {
-        if self.offload_refusal(job.aggregate, job.group).is_some() {
-            return false;
-        }
         let now = self.offload_job(job.aggregate, job.group);
-        now.registration == job.registration && now.tickets == job.tickets && now.alive == job.alive
+        let same = now.tickets == job.tickets && now.alive == job.alive;
+        same && now.registration == job.registration
+            && self.offload_refusal(job.aggregate, job.group).is_none()
     }
 
-    fn merge_refusal(&self, n: u64) -> Option<Refusal> {
-        let job = self.job(n);
-        if !self.is_ready(n, JobKind::Offload) {
-            Some(Refusal::StaleJob)
-        } else if !self.aggregate(job.aggregate).registered {
+    // The row group of a build is built in.
+    fn merge(&mut self, job: &Job) -> Option<Refusal> {
+        if !self.aggregate(job.aggregate).registered {
             Some(Refusal::NoAggregate)
-        } else if !self.holds(&job) {
+        } else if !self.holds(job) {
             Some(Refusal::StaleJob)
         } else {
+            self.build(job.aggregate, job.group);
             None
         }
     }

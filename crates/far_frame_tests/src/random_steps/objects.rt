@@ -1,8 +1,11 @@
 //! Objects of a plain table: where each lies, and what is known of it.
-use super::drawing::{COLUMNS, KINDS};
+use super::drawing::{COLUMNS, kind_of};
 use super::plain::Plain;
 use crate::answers::Due;
 use far_types::{Kind, Limits, Name, Refusal};
+
+/// How many objects there are at most. An index is taken modulo this, which leaves each index of an object as it is: so no look-up can fail.
+pub const OBJECTS: usize = 24;
 
 /// A part of a segment.
 #[derive(Clone, Copy)]
@@ -43,11 +46,27 @@ pub const NEW: Object = Object {
     ticket: None,
 };
 
-// Where the objects of a kind lie, and how many.
-fn segments(limits: &Limits, kind: Kind) -> (u32, u32) {
+/// The segments of a kind, and the bytes or numbers that each has room for. Those of texts are numbered behind all of numbers.
+#[derive(Clone, Copy)]
+struct Region {
+    first: u32,
+    end: u32,
+    size: u32,
+}
+
+// Where the objects of a kind lie.
+fn region_of(limits: &Limits, kind: Kind) -> Region {
     match kind {
-        Kind::Int => (limits.int_segments, limits.int_size),
-        Kind::Text => (limits.text_segments, limits.text_size),
+        Kind::Int => Region {
+            first: 0,
+            end: limits.int_segments,
+            size: limits.int_size,
+        },
+        Kind::Text => Region {
+            first: limits.int_segments,
+            end: limits.int_segments.saturating_add(limits.text_segments),
+            size: limits.text_size,
+        },
     }
 }
 
@@ -60,8 +79,8 @@ fn end_in(part: Option<Part>, segment: u32) -> u32 {
 }
 
 /// Whether an object is of a kind, by its index.
-pub fn is_of(o: usize, kind: Kind) -> bool {
-    KINDS.get(o % 4).copied() == Some(kind)
+pub fn is_of(o: u32, kind: Kind) -> bool {
+    kind_of(o % COLUMNS) == kind
 }
 
 /// The index of the object of a row group of a column.
@@ -69,77 +88,81 @@ pub fn index(column: u32, group: u32) -> usize {
     group.saturating_mul(COLUMNS).saturating_add(column) as usize
 }
 
+impl Object {
+    // When it goes away: before all for which this is more. One that is away or pinned does not.
+    fn turn(&self) -> u64 {
+        if self.part.is_none() || self.pins > 0 {
+            u64::MAX
+        } else if self.hot {
+            self.used.saturating_add(1_000_000)
+        } else {
+            self.used
+        }
+    }
+
+    // When it is moved out of a segment: before all for which this is more. One that lies elsewhere is not.
+    fn turn_in(&self, segment: u32) -> u32 {
+        match self.part {
+            Some(part) if part.segment == segment && self.hot => part.offset,
+            Some(part) if part.segment == segment => part.offset.saturating_add(1_000_000),
+            _ => u32::MAX,
+        }
+    }
+}
+
 impl Plain {
     /// Why there is no object of a row group of a column.
     pub fn missing(&self, column: u32, group: u32) -> Option<Refusal> {
         if column >= COLUMNS {
             Some(Refusal::NoColumn)
-        } else if index(column, group) >= self.made {
+        } else if group >= self.groups() {
             Some(Refusal::OutOfRange)
         } else {
             None
         }
     }
 
-    /// The object of a row group of a column; where there is none, what it will be.
+    /// The object of a row group of a column; where there is none, any.
     pub fn object(&self, column: u32, group: u32) -> Object {
-        match self.objects.get(index(column, group)) {
-            Some(object) => *object,
-            None => NEW,
-        }
+        self.objects[index(column, group) % OBJECTS]
     }
 
     /// Why it is not local.
     pub fn away(&self, column: u32, group: u32) -> Option<Refusal> {
-        let missing = self.missing(column, group);
-        if missing.is_some() {
-            return missing;
-        }
+        let refusal = self.missing(column, group);
         match self.object(column, group).part {
-            Some(_) => None,
-            None => Some(Refusal::Absent { column, group }),
+            Some(_) => refusal,
+            None => refusal.or(Some(Refusal::Absent { column, group })),
         }
     }
 
-    /// Why some object of a row group is not local; one that has no place yet is.
-    pub fn here(&self, group: u32) -> Option<Refusal> {
-        if index(0, group) >= self.made {
-            return None;
-        }
+    /// Why not all of these columns of a row group are local. Each has a bit.
+    pub fn some_away(&self, columns: u32, group: u32) -> Option<Refusal> {
+        let mut refusal = None;
         for column in 0..COLUMNS {
-            let away = self.away(column, group);
-            if away.is_some() {
-                return away;
+            if has(columns, column) {
+                refusal = refusal.or(self.away(column, group));
             }
         }
-        None
-    }
-
-    /// Other things are known of an object.
-    pub fn keep(&mut self, o: usize, object: Object) {
-        if let Some(old) = self.objects.get_mut(o) {
-            *old = object;
-        }
+        refusal
     }
 
     // Where the last part of a segment ends.
-    fn fill(&self, kind: Kind, segment: u32) -> u32 {
+    fn fill(&self, segment: u32) -> u32 {
         let mut fill = 0;
-        for (o, object) in self.objects.iter().enumerate() {
-            if is_of(o, kind) {
-                fill = end_in(object.part, segment).max(fill);
-                fill = end_in(object.next, segment).max(fill);
-            }
+        for object in self.objects.iter() {
+            fill = end_in(object.part, segment).max(fill);
+            fill = end_in(object.next, segment).max(fill);
         }
         fill
     }
 
     /// The lowest segment that takes a list behind all that it has.
     pub fn spot(&self, kind: Kind, len: u32) -> Option<Part> {
-        let (count, size) = segments(&self.limits, kind);
-        for segment in 0..count {
-            let offset = self.fill(kind, segment);
-            if size.saturating_sub(offset) >= len {
+        let region = region_of(&self.limits, kind);
+        for segment in region.first..region.end {
+            let offset = self.fill(segment);
+            if region.size.saturating_sub(offset) >= len {
                 return Some(Part {
                     segment,
                     offset,
@@ -153,16 +176,14 @@ impl Plain {
     /// Whether the next list of an object finds room, and if it does its room.
     pub fn reserve(&mut self, o: usize, kind: Kind, len: u32) -> bool {
         let part = self.spot(kind, len);
-        if let Some(object) = self.objects.get_mut(o) {
-            object.next = part;
-        }
+        self.objects[o % OBJECTS].next = part;
         part.is_some()
     }
 
     /// No object gets another list.
     pub fn give_up(&mut self) {
-        for object in self.objects.iter_mut() {
-            object.next = None;
+        for o in 0..OBJECTS {
+            self.objects[o].next = None;
         }
     }
 
@@ -175,43 +196,29 @@ impl Plain {
     /// An object is written: in its place, or where its next list lies.
     pub fn write(&mut self, o: usize) {
         let now = self.now();
-        if let Some(object) = self.objects.get_mut(o) {
-            object.part = object.next.or(object.part);
-            object.next = None;
-            object.dirty = true;
-            object.hot = true;
-            object.used = now;
-            object.version = object.version.wrapping_add(1);
-        }
+        let object = &mut self.objects[o % OBJECTS];
+        object.part = object.next.or(object.part);
+        object.next = None;
+        object.dirty = true;
+        object.hot = true;
+        object.used = now;
+        object.version = object.version.wrapping_add(1);
     }
 
-    /// A new object gets its list.
-    pub fn make(&mut self, o: usize) {
-        let now = self.now();
-        if let Some(object) = self.objects.get_mut(o) {
-            object.part = object.next;
-            object.next = None;
-            object.used = now;
+    /// An object has so many pins more, unless it is refused.
+    pub fn pin(&mut self, refusal: Option<Refusal>, o: usize, more: u32) -> Option<Refusal> {
+        if refusal.is_none() {
+            let object = &mut self.objects[o % OBJECTS];
+            object.pins = object.pins.wrapping_add(more);
         }
-    }
-
-    /// One pin more.
-    pub fn pin(&mut self, column: u32, group: u32) -> Option<Refusal> {
-        let away = self.away(column, group);
-        if away.is_none() {
-            let mut object = self.object(column, group);
-            object.pins = object.pins.wrapping_add(1);
-            self.keep(index(column, group), object);
-        }
-        away
+        refusal
     }
 
     /// Why a pin is not taken off.
     pub fn unpin_refusal(&self, column: u32, group: u32) -> Option<Refusal> {
-        match self.missing(column, group) {
-            None if self.object(column, group).pins == 0 => Some(Refusal::NotPinned),
-            refusal => refusal,
-        }
+        let is_free = self.object(column, group).pins == 0;
+        self.missing(column, group)
+            .or(is_free.then_some(Refusal::NotPinned))
     }
 
     /// How many pins an object has, told as a place is; or why none is taken off.
@@ -222,50 +229,34 @@ impl Plain {
         }
     }
 
-    /// One pin less.
-    pub fn unpin(&mut self, column: u32, group: u32) -> Option<Refusal> {
-        let refusal = self.unpin_refusal(column, group);
-        if refusal.is_none() {
-            let mut object = self.object(column, group);
-            object.pins = object.pins.wrapping_sub(1);
-            self.keep(index(column, group), object);
-        }
-        refusal
-    }
-
-    // The object of a kind that was used longest ago, of those that are local and not pinned, and are hot or are not.
-    fn used_first(&self, kind: Kind, hot: bool) -> Option<usize> {
+    // The object of a kind that goes away first: the one that was used longest ago, of those that are not hot if there is one.
+    fn coldest_of(&self, kind: Kind) -> Option<Name> {
         let mut found = None;
         let mut least = u64::MAX;
-        for (o, object) in self.objects.iter().enumerate() {
-            let may_leave = object.part.is_some() && object.pins == 0;
-            if is_of(o, kind) && may_leave && object.hot == hot && object.used < least {
-                found = Some(o);
-                least = object.used;
+        for o in 0..24u32 {
+            let object = self.objects[o as usize];
+            let turn = object.turn();
+            if is_of(o, kind) && turn < least {
+                found = Some(Name {
+                    column: o % COLUMNS,
+                    group: o / COLUMNS,
+                });
+                least = turn;
             }
         }
         found
     }
 
-    // The object of a kind that goes away first.
-    fn coldest_of(&self, kind: Kind) -> Option<Name> {
-        let cold = self.used_first(kind, false);
-        let o = u32::try_from(cold.or(self.used_first(kind, true))?).unwrap_or(0);
-        Some(Name {
-            column: o % COLUMNS,
-            group: o / COLUMNS,
-        })
-    }
-
     // How much space there is for objects of a kind behind the last parts of all segments, and how much there would be without parts.
     fn space(&self, kind: Kind) -> (u64, u64) {
-        let (count, size) = segments(&self.limits, kind);
-        let mut space: u64 = 0;
-        for segment in 0..count {
-            let behind = size.saturating_sub(self.fill(kind, segment));
-            space = space.saturating_add(u64::from(behind));
+        let region = region_of(&self.limits, kind);
+        let (mut space, mut all) = (0u64, 0u64);
+        for segment in region.first..region.end {
+            let left = region.size.saturating_sub(self.fill(segment));
+            space = space.saturating_add(u64::from(left));
+            all = all.saturating_add(u64::from(region.size));
         }
-        (space, u64::from(count).wrapping_mul(u64::from(size)))
+        (space, all)
     }
 
     /// The object that goes away first: of the kind that has less space, in proportion, if it has one.
@@ -280,70 +271,71 @@ impl Plain {
         }
     }
 
-    // The lowest segment without parts but this one.
-    fn empty_other(&self, kind: Kind, segment: u32) -> Option<u32> {
-        let (count, _) = segments(&self.limits, kind);
-        for other in 0..count {
-            if other != segment && self.fill(kind, other) == 0 {
+    // The lowest of these segments without parts but one.
+    fn empty_other(&self, region: Region, segment: u32) -> Option<u32> {
+        for other in region.first..region.end {
+            if other != segment && self.fill(other) == 0 {
                 return Some(other);
             }
         }
         None
     }
 
-    // The object of the lowest part of a segment, of those that are hot or of the others.
-    fn lowest(&self, kind: Kind, segment: u32, hot: bool) -> Option<usize> {
+    // The object that is moved out of a segment first: that of the lowest part, of those that are hot if there is one.
+    fn first_in(&self, segment: u32) -> Option<usize> {
         let mut found = None;
         let mut least = u32::MAX;
-        for (o, object) in self.objects.iter().enumerate() {
-            match object.part {
-                Some(part)
-                    if is_of(o, kind)
-                        && object.hot == hot
-                        && part.segment == segment
-                        && part.offset < least => {
-                    found = Some(o);
-                    least = part.offset;
-                }
-                _ => {}
+        for o in 0..OBJECTS {
+            let object = self.objects[o];
+            let turn = object.turn_in(segment);
+            if turn < least {
+                found = Some(o);
+                least = turn;
             }
         }
         found
     }
 
-    // An object is moved to the end of a segment, and is not hot.
-    fn move_to(&mut self, kind: Kind, o: usize, segment: u32) {
-        let offset = self.fill(kind, segment);
-        if let Some(object) = self.objects.get_mut(o) {
+    // The object that is moved out of a segment first, if there is one, is moved to the end of another, and is not hot.
+    fn move_first(&mut self, segment: u32, to: u32) {
+        let offset = self.fill(to);
+        if let Some(o) = self.first_in(segment) {
+            let object = &mut self.objects[o % OBJECTS];
             object.hot = false;
-            if let Some(part) = object.part.as_mut() {
-                part.segment = segment;
-                part.offset = offset;
-            }
+            object.part = moved(object.part, to, offset);
         }
     }
 
     /// A segment is compacted into the lowest other one without parts.
     pub fn compact(&mut self, kind: Kind, segment: u32) -> Option<Refusal> {
-        let (count, _) = segments(&self.limits, kind);
-        if segment >= count {
+        let region = region_of(&self.limits, kind);
+        let segment = region.first.saturating_add(segment);
+        if segment >= region.end {
             return Some(Refusal::OutOfRange);
         }
-        let Some(to) = self.empty_other(kind, segment) else {
+        let Some(to) = self.empty_other(region, segment) else {
             return Some(Refusal::RegionFull);
         };
-        self.move_all(kind, segment, to, true);
-        self.move_all(kind, segment, to, false);
+        for _ in 0..OBJECTS {
+            self.move_first(segment, to);
+        }
         None
     }
+}
 
-    // The objects of a segment are moved, the lowest first.
-    fn move_all(&mut self, kind: Kind, segment: u32, to: u32, hot: bool) {
-        for _ in 0..self.objects.len() {
-            let Some(o) = self.lowest(kind, segment, hot) else {
-                return;
-            };
-            self.move_to(kind, o, to);
-        }
+// A part, moved to a place in a segment.
+fn moved(part: Option<Part>, segment: u32, offset: u32) -> Option<Part> {
+    match part {
+        Some(part) => Some(Part {
+            segment,
+            offset,
+            ..part
+        }),
+        None => None,
     }
+}
+
+/// Whether a column is among others, each of which has a bit.
+pub fn has(columns: u32, column: u32) -> bool {
+    columns.wrapping_shr(column) % 2 == 1
 }

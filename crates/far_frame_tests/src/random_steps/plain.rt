@@ -1,11 +1,13 @@
 //! A world as plain values, and what its steps reply. It has no memory of its own.
-use super::aggregates::{Aggregate, FREE};
+use super::aggregates::{Aggregate, FREE, NUMBERS};
 use super::drawing::{COLUMNS, SIZE};
+use super::edits::ALL;
 use super::jobs::{Job, SPENT};
-use super::objects::{NEW, Object, index};
+use super::objects::{NEW, OBJECTS, Object, index};
 use super::store::Store;
 use crate::answers::{Due, Lent, Line};
 use crate::call::{Call, Value, Values};
+use far_frame::JobKind;
 use far_types::{Limits, Refusal};
 
 /// A row: its values, and whether its place is alive.
@@ -15,15 +17,17 @@ pub struct Place {
     pub alive: bool,
 }
 
-/// The last four row groups of a column that were lent, the last one first, and how many there are.
+/// The last row group of a column that was lent, how far it is from the one before, and how often in turn each was so far from the one
+/// before.
 #[derive(Clone, Copy)]
 pub struct Seen {
-    pub count: u32,
-    pub last: [i64; 4],
+    pub last: i64,
+    pub stride: i64,
+    pub times: u32,
 }
 
-/// All that a step can see or change: how many places there are and the rows, how many objects there are, how often some were used,
-/// and each, by row group and there by column, what was lent of each column, the aggregates by number, how many jobs were begun and the last of them, and the
+/// All that a step can see or change: how many places there are and the rows, how often objects were used, and each, by row group and
+/// there by column, what was lent of each column, the aggregates by number, how many jobs were begun and the last of them, and the
 /// store. The last three lists are what the last call answered.
 #[derive(Drop)]
 pub struct Plain {
@@ -31,11 +35,10 @@ pub struct Plain {
     pub len: u32,
     pub rows: [Place; 18],
     pub edits: u64,
-    pub made: usize,
     pub uses: u64,
-    pub objects: [Object; 24],
+    pub objects: [Object; OBJECTS],
     pub seen: [Seen; 4],
-    pub aggregates: [Aggregate; 32],
+    pub aggregates: [Aggregate; NUMBERS],
     pub registrations: u64,
     pub begun: u64,
     pub jobs: [Job; 8],
@@ -50,9 +53,11 @@ const NO_PLACE: Place = Place {
     alive: false,
 };
 
+/// No row group is so far from another.
 const UNSEEN: Seen = Seen {
-    count: 0,
-    last: [0; 4],
+    last: -1_000,
+    stride: 0,
+    times: 0,
 };
 
 impl Plain {
@@ -63,16 +68,15 @@ impl Plain {
             len: 0,
             rows: [NO_PLACE; 18],
             edits: 0,
-            made: 0,
             uses: 0,
-            objects: [NEW; 24],
+            objects: [NEW; OBJECTS],
             seen: [UNSEEN; 4],
-            aggregates: [FREE; 32],
+            aggregates: [FREE; NUMBERS],
             registrations: 0,
             begun: 0,
             jobs: [SPENT; 8],
             store,
-            lines: [(None, 0, 0); 10],
+            lines: [(Value::Missing, 0, 0); 10],
             lent: [(Value::Missing, false); 18],
             next: [0; 2],
         }
@@ -83,32 +87,18 @@ impl Plain {
         self.len.div_ceil(SIZE)
     }
 
-    /// The row of a place.
-    pub fn place(&self, place: u32) -> Option<Place> {
-        if place < self.len {
-            self.rows.get(place as usize).copied()
-        } else {
-            None
-        }
-    }
-
     // Why a part of a column is not lent.
     fn lend_refusal(&self, column: u32, from: u32, to: u32) -> Option<Refusal> {
-        if column >= COLUMNS {
-            return Some(Refusal::NoColumn);
-        }
-        if from > to || to > self.len {
-            return Some(Refusal::OutOfRange);
-        }
+        let is_wrong = from > to || to > self.len;
+        let mut refusal = (column >= COLUMNS)
+            .then_some(Refusal::NoColumn)
+            .or(is_wrong.then_some(Refusal::OutOfRange));
         for group in 0..self.groups() {
             if has_some(group, from, to) {
-                let away = self.away(column, group);
-                if away.is_some() {
-                    return away;
-                }
+                refusal = refusal.or(self.away(column, group));
             }
         }
-        None
+        refusal
     }
 
     /// A part of a column is lent.
@@ -128,89 +118,74 @@ impl Plain {
 
     // Writes down what is lent of some places.
     fn copy_out(&mut self, column: u32, from: u32, to: u32) {
-        for (n, place) in (from..to).enumerate() {
-            let Some(row) = self.place(place) else {
-                return;
-            };
-            let value = row.values.get(column as usize);
-            if let (Some(value), Some(lent)) = (value, self.lent.get_mut(n)) {
-                *lent = (*value, row.alive);
-            }
+        for place in from..to {
+            let row = self.rows[place as usize % 18];
+            let n = place.wrapping_sub(from) as usize;
+            self.lent[n % 18] = (row.values[column as usize % 4], row.alive);
         }
     }
 
     // A row group of a column is lent.
     fn see(&mut self, column: u32, group: u32) {
         let now = self.now();
-        if let Some(object) = self.objects.get_mut(index(column, group)) {
-            object.hot = true;
-            object.used = now;
-        }
-        if let Some(seen) = self.seen.get_mut(column as usize) {
-            let [a, b, c, _] = seen.last;
-            seen.last = [i64::from(group), a, b, c];
-            seen.count = seen.count.saturating_add(1);
-        }
+        let object = &mut self.objects[index(column, group) % OBJECTS];
+        object.hot = true;
+        object.used = now;
+        let seen = &mut self.seen[column as usize % 4];
+        *seen = seen_after(*seen, i64::from(group));
     }
 
-    // The row groups of a column to fetch next: the n-th of them, from 1 on, if there is one.
-    fn next(&self, column: u32, n: i64) -> Option<u32> {
-        let Some(seen) = self.seen.get(column as usize) else {
-            return None;
-        };
-        let [last, b, c, d] = seen.last;
-        let stride = last.wrapping_sub(b);
-        if seen.count < 4 || stride == 0 {
-            return None;
-        }
-        if b.wrapping_sub(c) != stride || c.wrapping_sub(d) != stride {
-            return None;
-        }
-        let group = last.wrapping_add(stride.wrapping_mul(n));
-        match u32::try_from(group) {
-            Ok(group) if group < self.groups() => Some(group),
-            _ => None,
-        }
+    // Whether a row group may be the next of a column: it is so far on as three in turn were from the one before.
+    fn may_come(&self, seen: Seen, group: i64) -> bool {
+        seen.times >= 3 && seen.stride != 0 && group >= 0 && group < i64::from(self.groups())
     }
 
-    /// What to fetch next of a column.
+    /// What to fetch next of a column: those of the next two row groups that are there.
     fn prefetch(&mut self, column: u32) -> Due<'_> {
         if column >= COLUMNS {
             return Due::Refused(Refusal::NoColumn);
         }
-        let mut count: usize = 0;
-        for n in 1..3 {
-            if let (Some(group), Some(next)) = (self.next(column, n), self.next.get_mut(count)) {
-                *next = group;
-                count = count.saturating_add(1);
-            }
-        }
+        let seen = self.seen[column as usize % 4];
+        let first = seen.last.wrapping_add(seen.stride);
+        let second = first.wrapping_add(seen.stride);
+        let (is_first, is_second) = (self.may_come(seen, first), self.may_come(seen, second));
+        let lowest = if is_first { first } else { second };
+        self.next = [number(lowest), number(second)];
+        let count = usize::from(is_first).saturating_add(usize::from(is_second));
         Due::Next(self.next.get(..count).unwrap_or(&[]))
     }
 
     // What a place shows.
     fn row(&self, place: u32) -> Due<'_> {
-        match (self.rows.get(place as usize), self.here(place / SIZE)) {
-            (Some(row), None) if place < self.len => Due::Row(&row.values),
-            (Some(_), Some(refusal)) if place < self.len => Due::Refused(refusal),
-            _ => Due::Refused(Refusal::NoRow),
+        let is_none = place >= self.len;
+        let away = self.some_away(ALL, place / SIZE);
+        match is_none.then_some(Refusal::NoRow).or(away) {
+            Some(refusal) => Due::Refused(refusal),
+            None => Due::Row(&self.rows[place as usize % 18].values),
         }
     }
 
     /// What a call answers.
     pub fn serve(&mut self, call: Call) -> Due<'_> {
         match call {
-            Call::InsertDrawn(row) => self.insert(&row.values(), row.width),
-            Call::Watch(watched) => self.watch(watched),
             Call::Ask(a) => self.ask(a),
             Call::Lend(column, from, to) => self.lend(column, from, to),
             Call::Prefetch(column) => self.prefetch(column),
+            Call::Row(place) => self.row(place),
+            Call::Recount(a, workers) => self.recount(a, workers),
+            call => self.serve_plainly(call),
+        }
+    }
+
+    // The same of a call that lends nothing.
+    fn serve_plainly(&mut self, call: Call) -> Due<'static> {
+        match call {
+            Call::InsertDrawn(row) => self.insert(&row.values(), row.width),
+            Call::Watch(watched) => self.watch(watched),
             Call::Evac(column, group) => self.evac(column, group),
             Call::Fetch(column, group) => self.fetch(column, group),
             Call::Offload(a, group) => self.offload(a, group),
-            Call::Row(place) => self.row(place),
             Call::Repin(column, group) => self.pins(column, group),
-            Call::Recount(a, workers) => self.recount(a, workers),
             Call::Coldest => Due::Coldest(self.coldest()),
             call => done(self.change(call)),
         }
@@ -223,13 +198,19 @@ impl Plain {
             Call::Remove(place) => self.remove(place),
             Call::Unwatch(a) => self.unwatch(a),
             Call::Scan(a, group) => self.scan(a, group),
-            Call::Pin(column, group) => self.pin(column, group),
-            Call::Unpin(column, group) => self.unpin(column, group),
+            Call::Pin(column, group) => {
+                let refusal = self.away(column, group);
+                self.pin(refusal, index(column, group), 1)
+            }
+            Call::Unpin(column, group) => {
+                let refusal = self.unpin_refusal(column, group);
+                self.pin(refusal, index(column, group), u32::MAX)
+            }
             Call::Compact(kind, segment) => self.compact(kind, segment),
             Call::Carry(n) => self.carry(n),
-            Call::Commit(n) => self.commit(n),
-            Call::Install(n) => self.install(n),
-            Call::Merge(n) => self.merge(n),
+            Call::Commit(n) => self.end(n, JobKind::Evac),
+            Call::Install(n) => self.end(n, JobKind::Fetch),
+            Call::Merge(n) => self.end(n, JobKind::Offload),
             call => self.look(call),
         }
     }
@@ -239,7 +220,10 @@ impl Plain {
         match call {
             Call::IsAlive(place) => self.dead(place),
             Call::MayEvac(column, group) => self.away(column, group),
-            Call::MayScan(a, group) if self.scan_refusal(a, group).is_none() => None,
+            Call::MayScan(a, group) => {
+                let refusal = self.scan_refusal(a, group);
+                refusal.and(Some(Refusal::StaleJob))
+            }
             Call::MayOffload(a, group) => self.offload_refusal(a, group),
             _ => Some(Refusal::StaleJob),
         }
@@ -258,4 +242,20 @@ fn done(refusal: Option<Refusal>) -> Due<'static> {
 fn has_some(group: u32, from: u32, to: u32) -> bool {
     let first = group.saturating_mul(SIZE);
     from < to && first < to && from < first.saturating_add(SIZE)
+}
+
+// What was seen of a column once one more row group of it is lent.
+fn seen_after(seen: Seen, group: i64) -> Seen {
+    let stride = group.wrapping_sub(seen.last);
+    let times = if stride == seen.stride { seen.times } else { 0 };
+    Seen {
+        last: group,
+        stride,
+        times: times.saturating_add(1),
+    }
+}
+
+// The number of a row group.
+fn number(group: i64) -> u32 {
+    u32::try_from(group).unwrap_or(0)
 }

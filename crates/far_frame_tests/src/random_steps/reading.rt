@@ -1,11 +1,10 @@
 //! What reads the store of a plain world but jobs: recounts, and a world that goes on with another store.
 use super::drawing::COLUMNS;
 use super::jobs::SPENT;
-use super::objects::is_of;
+use super::objects::{OBJECTS, has, is_of};
 use super::plain::Plain;
 use super::store::Store;
 use crate::answers::Due;
-use crate::call::Watched;
 use crate::opening::Plan;
 use far_types::{Kind, Refusal};
 
@@ -13,35 +12,30 @@ impl Plain {
     /// An aggregate is computed from scratch, by one worker or none.
     pub fn recount(&mut self, a: u32, workers: u32) -> Due<'_> {
         let aggregate = self.aggregate(a);
-        if !aggregate.registered {
-            return Due::Refused(Refusal::NoAggregate);
-        }
-        if workers == 0 {
-            return Due::Refused(Refusal::OutOfRange);
-        }
         // The world does not count the fault of a recount.
         let faults = self.store.faults;
-        let refusal = self.read_away(&aggregate.watched);
+        let refusal = if !aggregate.registered {
+            Some(Refusal::NoAggregate)
+        } else if workers == 0 {
+            Some(Refusal::OutOfRange)
+        } else {
+            self.read_away(aggregate.columns)
+        };
         self.store.faults = faults;
-        match refusal {
-            None => self.answer(&aggregate.watched),
-            Some(refusal) => Due::Refused(refusal),
-        }
+        self.answer_or(refusal, a)
     }
 
-    // The columns that an aggregate needs are read where they are away, one row group after the other.
-    fn read_away(&mut self, watched: &Watched) -> Option<Refusal> {
-        for group in 0..self.groups() {
-            for column in 0..COLUMNS {
-                if watched.needs(column) && self.away(column, group).is_some() {
-                    let refusal = self.store.get();
-                    if refusal.is_some() {
-                        return refusal;
-                    }
-                }
+    // Some columns are read where they are away, one row group after the other.
+    fn read_away(&mut self, columns: u32) -> Option<Refusal> {
+        let mut refusal = None;
+        for n in 0..self.groups().saturating_mul(COLUMNS) {
+            let (column, group) = (n % COLUMNS, n / COLUMNS);
+            let is_read = has(columns, column) && self.away(column, group).is_some();
+            if is_read && refusal.is_none() {
+                refusal = self.store.get();
             }
         }
-        None
+        refusal
     }
 
     /// What is away goes into another store, and all jobs are spent; or why not.
@@ -65,39 +59,34 @@ impl Plain {
 
     // The objects of a kind that are away are put into another store, and the others have no copy there.
     fn put_all(&mut self, kind: Kind, store: &mut Store) -> Option<Refusal> {
-        for o in 0..self.made {
-            if is_of(o, kind) {
-                let refusal = self.put_again(o, store);
-                if refusal.is_some() {
-                    return refusal;
-                }
+        let mut refusal = None;
+        for o in 0..self.groups().saturating_mul(COLUMNS) {
+            if is_of(o, kind) && refusal.is_none() {
+                refusal = self.put_again(o as usize, store);
             }
         }
-        None
+        refusal
     }
 
+    // An object has the copy that was put last, or none where it is local.
     fn put_again(&mut self, o: usize, store: &mut Store) -> Option<Refusal> {
-        let Some(mut object) = self.objects.get(o).copied() else {
-            return None;
-        };
-        if object.part.is_some() {
-            object.dirty = true;
-            object.ticket = None;
+        let is_local = self.objects[o % OBJECTS].part.is_some();
+        let refusal = if is_local {
+            None
         } else {
-            match self.copied_to(store) {
-                Ok(ticket) => object.ticket = Some(ticket),
-                Err(refusal) => return Some(refusal),
-            }
-        }
-        self.keep(o, object);
-        None
+            self.copied_to(store)
+        };
+        let object = &mut self.objects[o % OBJECTS];
+        object.dirty = is_local;
+        object.ticket = if is_local { None } else { store.newest };
+        refusal
     }
 
-    // The number under which another store has a content of this one.
-    fn copied_to(&mut self, store: &mut Store) -> Result<u64, Refusal> {
+    // Another store has a content of this one, or why not.
+    fn copied_to(&mut self, store: &mut Store) -> Option<Refusal> {
         match self.store.get() {
             None => store.put(),
-            Some(refusal) => Err(refusal),
+            refusal => refusal,
         }
     }
 }

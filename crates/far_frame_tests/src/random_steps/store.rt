@@ -8,6 +8,8 @@ pub struct Store {
     used: u64,
     puts: u64,
     gets: u64,
+    /// The number of the last content that was put.
+    pub newest: Option<u64>,
     pub faults: u64,
 }
 
@@ -19,23 +21,24 @@ impl Store {
             used: 0,
             puts: 0,
             gets: 0,
+            newest: None,
             faults: 0,
         }
     }
 
-    /// The number of a new content.
-    pub fn put(&mut self) -> Result<u64, Refusal> {
+    /// A content is put under the next number, or why it is not.
+    pub fn put(&mut self) -> Option<Refusal> {
         self.puts = self.puts.wrapping_add(1);
         if self.puts == self.plan.failing_put {
             self.faults = self.faults.wrapping_add(1);
-            return Err(Refusal::FarFault);
+            Some(Refusal::FarFault)
+        } else if self.used >= self.plan.capacity {
+            Some(Refusal::FarFull)
+        } else {
+            self.newest = Some(self.used);
+            self.used = self.used.wrapping_add(1);
+            None
         }
-        if self.used >= self.plan.capacity {
-            return Err(Refusal::FarFull);
-        }
-        let number = self.used;
-        self.used = number.wrapping_add(1);
-        Ok(number)
     }
 
     /// A content is read, or why it is not.
