@@ -21,3 +21,8 @@ made-of (Ok x) (Ok u) made holds follows = follows x u holds made
 made-of (Err e) (Ok u) made holds follows = absurd made
 made-of (Ok x) (Err f) made holds follows = tt
 made-of (Err e) (Err f) made holds follows = tt
+
+-- what holds of a result holds of what it gave
+pub of-ok : {T E : Type 0} (P : T → Type 0) (r : Result T E) (x : T) → IsOkAnd r (λ y. y ≡ x) → IfOk r P → P x
+of-ok P (Ok y) x same holds = subst P same holds
+of-ok P (Err e) x same holds = absurd same

@@ -71,6 +71,18 @@ fn both<A: Drop, B: Drop, T, F: FnOnce(A, B) -> T + Drop>(
     }
 }
 
+/// Both, or the refusal.
+fn beside<A: Drop, B: Drop>(one: A, other: Result<B, AllocError>) -> Result<(A, B), Refusal>
+    ensures one { IfOk result (λ both. both.0 ≡ one) }
+    ensures other { IfOk result (λ both. IsOkAnd other (λ y. y ≡ both.1)) }
+    ensures memory { IfErr result (λ e. e ≡ Refusal.NoMemory) }
+{
+    match other {
+        Ok(other) => Ok((one, other)),
+        Err(_) => Err(Refusal::NoMemory),
+    }
+}
+
 /// Four empty tables with their gauges, and four cells that have no name yet. Contracts see which cell each stripe has.
 #[derive(Drop)]
 pub struct Made<N: Naming, S: FarTickets> {
@@ -205,25 +217,14 @@ impl<N: Naming, S: FarTickets> Made<N, S> {
             cells,
             frames,
         } = self;
-        both(
-            Ok(frames),
-            cells.open::<B>(alloc, sessions),
-            |frames: Four<Frame<S>>, opened: Opened<N, B>| -> (Shared<N, B, S>, Vec<Session<B>>)
-                requires sessions { sessions ≡ N.plan.sessions }
-                requires columns { columns ≡ length N.plan.schema }
-                requires zero { IsEmpty S.is_of N.plan 0 frames.zero × (opened.keepers.zero ≡ []) }
-                requires one { IsEmpty S.is_of N.plan 1 frames.one × (opened.keepers.one ≡ []) }
-                requires two { IsEmpty S.is_of N.plan 2 frames.two × (opened.keepers.two ≡ []) }
-                requires three { IsEmpty S.is_of N.plan 3 frames.three × (opened.keepers.three ≡ []) }
-                ensures { result.1.items ≡ opened.sessions.items }
-            {
-                let count = Count {
-                    sessions,
-                    columns,
-                    of: PhantomData,
-                };
-                share(alloc, count, frames, opened)
-            },
-        )
+        let count = Count {
+            sessions,
+            columns,
+            of: PhantomData,
+        };
+        match beside(frames, cells.open::<B>(alloc, sessions)) {
+            Ok((frames, opened)) => Ok(share(alloc, count, frames, opened)),
+            Err(refusal) => Err(refusal),
+        }
     }
 }
