@@ -63,10 +63,18 @@ fn keeps_in(alloc: Global, taken: &mut NewRow) -> Result<bool, Refusal>
     Ok(is_empty && is_last && are_lent(&taken.lend(&slots), &SECOND))
 }
 
-fn keeps_the_last(alloc: Global) -> Result<bool, Refusal> {
+fn keeps_once(alloc: Global) -> Result<bool, Refusal> {
     match NewRow::new(alloc, 2, 2) {
         Ok(mut taken) => keeps_in(alloc, &mut taken),
         Err(refusal) => Err(refusal),
+    }
+}
+
+/// The same. The rows are made again where they find no memory.
+fn keeps_the_last(alloc: Global) -> Result<bool, Refusal> {
+    match keeps_once(alloc) {
+        Err(Refusal::NoMemory) => keeps_once(alloc),
+        reply => reply,
     }
 }
 
