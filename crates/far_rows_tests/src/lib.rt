@@ -3,6 +3,8 @@
 //! come out as they should.
 
 #[cfg(test)]
+mod cell;
+#[cfg(test)]
 mod columns;
 #[cfg(test)]
 mod rows;

@@ -1,11 +1,9 @@
 // Columns whose objects go away and come back, row group by row group. After each step every place whose object is local
 // reads as before, and every other answers the refusal that names its object.
-use crate::columns::cell::Cell;
-use crate::columns::script::Call;
-use crate::columns::stage::Stage;
-use far_store::FarStore;
+use crate::cell::Cell;
+use crate::columns::playing::last_reply;
+use crate::columns::script::{Answer, Call};
 use far_types::Refusal;
-use std::alloc::Global;
 
 /// What is done with the object of a row group of one of two columns.
 #[derive(Clone, Copy)]
@@ -63,17 +61,19 @@ fn call_of(step: Move) -> Call {
 
 /// Pushes these cells to two columns in row groups of three places and plays the steps: the first, counted from 1, after which
 /// something is not as it should be; 0 where that is so before them.
-pub fn first_wrong<S: FarStore>(
-    alloc: Global,
-    stage: &mut Stage<'_, S>,
+pub fn first_wrong<M, F: Fn(&mut M, Call) -> Answer>(
+    ask: &F,
+    columns: &mut M,
     cells: &[[Cell; 2]],
-) -> Option<usize> {
-    if !push_all(alloc, stage, cells) {
+) -> Option<usize>
+    requires { F.IsAlwaysCallable ask.now }
+{
+    if !push_all(ask, columns, cells) {
         return Some(0);
     }
     for (index, (step, local)) in STEPS.iter().enumerate() {
-        let reply = stage.last_reply(alloc, call_of(*step));
-        if reply != Ok(()) || !reads(alloc, stage, cells, *local) {
+        let reply = last_reply(ask, columns, call_of(*step));
+        if reply != Ok(()) || !reads(ask, columns, cells, *local) {
             return Some(index.saturating_add(1));
         }
     }
@@ -81,38 +81,44 @@ pub fn first_wrong<S: FarStore>(
 }
 
 // Pushes all cells, clears some places, and reads all: whether it went well.
-fn push_all<S: FarStore>(alloc: Global, stage: &mut Stage<'_, S>, cells: &[[Cell; 2]]) -> bool {
+fn push_all<M, F: Fn(&mut M, Call) -> Answer>(ask: &F, columns: &mut M, cells: &[[Cell; 2]]) -> bool
+    requires { F.IsAlwaysCallable ask.now }
+{
     for (place, pair) in cells.iter().enumerate() {
-        let reply = stage.last_reply(alloc, Call::PushAll(pair[0], pair[1]));
-        if reply != Ok(()) || !clear(alloc, stage, place) {
+        let reply = last_reply(ask, columns, Call::PushAll(pair[0], pair[1]));
+        if reply != Ok(()) || !clear(ask, columns, place) {
             return false;
         }
     }
-    reads(alloc, stage, cells, ["+++", "+++"])
+    reads(ask, columns, cells, ["+++", "+++"])
 }
 
 // Clears a place in both columns, if it is one of those that are cleared.
-fn clear<S: FarStore>(alloc: Global, stage: &mut Stage<'_, S>, place: usize) -> bool {
+fn clear<M, F: Fn(&mut M, Call) -> Answer>(ask: &F, columns: &mut M, place: usize) -> bool
+    requires { F.IsAlwaysCallable ask.now }
+{
     !CLEARED.contains(&place)
-        || (stage.last_reply(alloc, Call::Clear(0, place)) == Ok(())
-            && stage.last_reply(alloc, Call::Clear(1, place)) == Ok(()))
+        || (last_reply(ask, columns, Call::Clear(0, place)) == Ok(())
+            && last_reply(ask, columns, Call::Clear(1, place)) == Ok(()))
 }
 
 // Reads both columns, of which these objects are local, place by place, and lends each whole.
-fn reads<S: FarStore>(
-    alloc: Global,
-    stage: &mut Stage<'_, S>,
+fn reads<M, F: Fn(&mut M, Call) -> Answer>(
+    ask: &F,
+    columns: &mut M,
     cells: &[[Cell; 2]],
     local: [&str; 2],
-) -> bool {
+) -> bool
+    requires { F.IsAlwaysCallable ask.now }
+{
     for k in 0..2usize {
         for (place, pair) in cells.iter().enumerate() {
-            let reply = stage.last_reply(alloc, Call::Find(k, place, pair[k]));
+            let reply = last_reply(ask, columns, Call::Find(k, place, pair[k]));
             if reply != here(k, place / 3, local[k]) {
                 return false;
             }
         }
-        let reply = stage.last_reply(alloc, Call::Lend(k, 0, cells.len()));
+        let reply = last_reply(ask, columns, Call::Lend(k, 0, cells.len()));
         if reply != all_here(k, local[k]) {
             return false;
         }

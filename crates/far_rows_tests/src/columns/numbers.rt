@@ -1,5 +1,5 @@
 // Columns of numbers of one table with their objects, and calls on them.
-ghost use Rattle.std.specs.Prelude.{◌≡◌, ◌<◌, ℕ, List, [], Option, All, IfOk, IfSome};
+ghost use Rattle.std.specs.Prelude.{◌≡◌, ◌<◌, ◌≤◌, ℕ, List, [], Option, All, IfOk, IfSome};
 ghost use Rattle.far_vector.specs.Vector.{IsVector};
 ghost use Rattle.far_vector.specs.Vectors.{AreVectors};
 ghost use Rattle.far_columns.specs.Numbers.{Numbers, number_lists};
@@ -7,12 +7,12 @@ ghost use Rattle.far_columns.specs.Numbers.{Numbers, number_lists};
 mod all;
 mod one;
 
-use crate::columns::cell::Cell;
+use crate::columns::flags::{answer, keep_up, no_flags, with_columns};
 use crate::columns::lending::lend_numbers;
-use crate::columns::script::{Call, Layout, WRONG, found};
+use crate::columns::script::{Answer, Call, Layout, WRONG, found};
 use all::{may_push_all, push_all, push_and_unpush};
 use far_columns::{Alive, IntColumn};
-use far_fixtures::no_objects;
+use far_fixtures::{digest_of, no_objects};
 use far_scopes::Objects;
 use far_store::{FarStore, FarTickets};
 use far_types::Refusal;
@@ -21,16 +21,17 @@ use one::change;
 use std::alloc::Global;
 use std::marker::Model;
 
-/// Columns of numbers with their objects.
+/// Columns of numbers with their objects, a store for these, and the flags of their places.
 #[derive(Drop)]
-pub struct NumberColumns<'a, S: FarStore> {
-    store: &'a S,
+pub struct NumberColumns<S: FarStore> {
+    store: S,
     size: u32,
     objects: Objects<Option<i64>, S>,
     columns: Vec<IntColumn>,
+    alive: Vec<Alive>,
 }
 
-impl<'a, S: FarStore> Model for NumberColumns<'a, S> {
+impl<S: FarStore> Model for NumberColumns<S> {
     ghost use Rattle.std.specs.Prelude.{◌≡◌, ℤ, Option, All};
     ghost use Rattle.far_scopes.specs.Movement.{Movement, AreHere};
     ghost use Rattle.far_vector.specs.Vectors.{AreVectors};
@@ -40,7 +41,7 @@ impl<'a, S: FarStore> Model for NumberColumns<'a, S> {
 
     ghost view = { λ fixture. fixture.objects };
 
-    ghost invariant = { λ fixture. AreVectors (number_lists S.content fixture.objects) fixture.columns.items × All (λ c. c.size ≡ fixture.size) fixture.columns.items × AreHere S.is_of (S.name fixture.store.now) fixture.objects };
+    ghost invariant = { λ fixture. AreVectors (number_lists S.content fixture.objects) fixture.columns.items × All (λ c. c.size ≡ fixture.size) fixture.columns.items × AreHere S.is_of (S.name fixture.store) fixture.objects };
 }
 
 // Columns without a number.
@@ -73,43 +74,107 @@ fn column_of<'a, S: FarTickets>(
     Ok(&columns[k])
 }
 
-impl<'a, S: FarStore> NumberColumns<'a, S> {
+// What a call answers that changes nothing.
+fn find<S: FarTickets>(
+    objects: &Objects<Option<i64>, S>,
+    column: &IntColumn,
+    alive: &[Alive],
+    size: u32,
+    call: Call,
+) -> Result<(), Refusal>
+    requires { IsVector (number_lists S.content objects.now) column.now }
+{
+    match call {
+        Call::Find(_, place, cell) => match column.get(objects, place) {
+            Ok(number) => found(number == cell.number()),
+            Err(refusal) => Err(refusal),
+        },
+        Call::Lend(k, from, to) => match alive.get(k) {
+            Some(alive) => lend_numbers(objects, column, alive, size as usize, (from, to)),
+            None => Err(Refusal::NoColumn),
+        },
+        _ => Err(WRONG),
+    }
+}
+
+// What a call answers that changes no number.
+fn tell<S: FarTickets>(
+    objects: &Objects<Option<i64>, S>,
+    columns: &[IntColumn],
+    alive: &mut [Alive],
+    size: u32,
+    call: Call,
+) -> Result<(), Refusal>
+    requires are { AreVectors (number_lists S.content objects.now) columns.now }
+    requires sized { All (λ c. c.size ≡ size) columns.now }
+{
+    match call {
+        Call::Objects(count) => found(objects.count() == count),
+        Call::MayPushAll(_, _) => may_push_all(objects, columns, size),
+        Call::Find(k, _, _) | Call::Lend(k, _, _) => match column_of(objects, columns, k) {
+            Ok(column) => find(objects, column, alive, size, call),
+            Err(refusal) => Err(refusal),
+        },
+        call => answer(columns, alive, call),
+    }
+}
+
+impl<S: FarStore> NumberColumns<S> {
     /// No number.
     pub fn new(
         alloc: Global,
-        store: &'a S,
+        store: Result<S, Refusal>,
         layout: Layout,
-    ) -> Result<NumberColumns<'a, S>, Refusal> {
-        let Ok(()) = layout.check() else {
-            return Err(WRONG);
-        };
-        let Ok(columns) = no_numbers(alloc, layout) else {
-            return Err(Refusal::NoMemory);
-        };
-        let Ok(objects) = no_objects(alloc, store, layout.limits()) else {
-            return Err(Refusal::NoMemory);
-        };
-        Ok(NumberColumns {
-            store,
-            size: layout.group,
-            objects,
-            columns,
-        })
-    }
-
-    fn find(&self, k: usize, place: usize, cell: Cell) -> Result<(), Refusal> {
-        let column = column_of(&self.objects, &self.columns, k)?;
-        match column.get(&self.objects, place) {
-            Ok(number) => found(number == cell.number()),
+    ) -> Result<NumberColumns<S>, Refusal>
+        requires some { 0 < layout.group }
+        requires few { layout.segments ≤ 8 }
+    {
+        let store = store?;
+        let columns = no_numbers(alloc, layout)?;
+        let alive = no_flags(alloc, layout.columns)?;
+        match no_objects(alloc, &store, layout.limits()) {
+            Ok(objects) => Ok(NumberColumns {
+                store,
+                size: layout.group,
+                objects,
+                columns,
+                alive,
+            }),
             Err(refusal) => Err(refusal),
         }
     }
 
-    /// What a call answers that is not about flags.
-    pub fn reply(&mut self, alloc: Global, call: Call) -> Result<(), Refusal> {
+    /// What a call answers, and the digest after it. Before it each column has a flag for each of its places, whatever the call
+    /// before did.
+    pub fn answer(&mut self, alloc: Global, call: Call) -> Answer {
+        let kept = keep_up(&self.columns, &mut self.alive);
+        let reply = self.reply(alloc, call, kept);
+        let digest = with_columns(digest_of(&self.objects), &self.columns);
+        (reply, digest)
+    }
+
+    // What a call answers, once each column has its flags, if there was memory for them.
+    fn reply(
+        &mut self,
+        alloc: Global,
+        call: Call,
+        kept: Result<(), Refusal>,
+    ) -> Result<(), Refusal> {
         match call {
-            Call::Find(k, place, cell) => self.find(k, place, cell),
-            Call::MayPushAll(_, _) => may_push_all(&self.objects, &self.columns, self.size),
+            _ if kept.is_err() => kept,
+            Call::Push(k, _)
+            | Call::Set(k, _, _)
+            | Call::Unpush(k)
+            | Call::Away(k, _)
+            | Call::Back(k, _) => change(
+                alloc,
+                &mut self.objects,
+                &self.store,
+                &mut self.columns,
+                self.size,
+                k,
+                call,
+            ),
             Call::PushAll(first, second) => push_all(
                 &mut self.objects,
                 &mut self.columns,
@@ -122,40 +187,13 @@ impl<'a, S: FarStore> NumberColumns<'a, S> {
                 self.size,
                 &[first.number(), second.number()],
             ),
-            call => change(
-                alloc,
-                &mut self.objects,
-                self.store,
-                &mut self.columns,
+            call => tell(
+                &self.objects,
+                &self.columns,
+                &mut self.alive,
                 self.size,
                 call,
             ),
         }
-    }
-
-    /// Lends the places `from` to `to` of a column with their flags.
-    pub fn lend(&self, alive: &Alive, k: usize, from: usize, to: usize) -> Result<(), Refusal> {
-        let column = column_of(&self.objects, &self.columns, k)?;
-        lend_numbers(&self.objects, column, alive, self.size as usize, (from, to))
-    }
-
-    /// How many numbers a column has; 0 where there is no such column.
-    pub fn len(&self, k: usize) -> usize {
-        match self.columns.get(k) {
-            Some(column) => column.len(),
-            None => 0,
-        }
-    }
-
-    /// The object of a column's row group.
-    pub fn object(&self, k: usize, group: u32) -> Option<u32> {
-        match self.columns.get(k) {
-            Some(column) => column.object(group),
-            None => None,
-        }
-    }
-
-    pub fn objects(&self) -> &Objects<Option<i64>, S> {
-        &self.objects
     }
 }

@@ -1,7 +1,7 @@
 // Scripts: calls on columns, and their replies.
 ghost use Rattle.std.specs.Prelude.{◌≡◌, ◌<◌, ◌≤◌, ⊤, OnOk};
 
-use crate::columns::cell::Cell;
+use crate::cell::Cell;
 use far_scopes::ObjectLimits;
 use far_types::Refusal;
 use std::alloc::AllocError;
@@ -26,6 +26,24 @@ pub enum Script {
     Lines(&'static [Line]),
     /// The objects of two columns of such cells go away and come back.
     Moves(&'static [[Cell; 2]]),
+}
+
+impl Script {
+    /// Its calls with their replies; none where objects go away and come back.
+    pub fn lines(self) -> &'static [Line] {
+        match self {
+            Script::Lines(lines) => lines,
+            Script::Moves(_) => &[],
+        }
+    }
+
+    /// The cells whose objects go away and come back.
+    pub fn cells(self) -> &'static [[Cell; 2]] {
+        match self {
+            Script::Lines(_) => &[],
+            Script::Moves(cells) => cells,
+        }
+    }
 }
 
 /// What a call answers that found something else than it should, or was refused and yet changed something.
@@ -92,13 +110,8 @@ impl Layout {
     }
 }
 
-/// Whether a reply is the one that is due. Nothing can be said where memory is wanting.
-pub fn is_due(reply: Result<(), Refusal>, due: Result<(), Refusal>) -> Result<bool, Refusal> {
-    match reply {
-        Err(Refusal::NoMemory) => Err(Refusal::NoMemory),
-        reply => Ok(reply == due),
-    }
-}
+/// What a call answers, and a number that all goes into that is known of the columns and of their objects after it.
+pub type Answer = (Result<(), Refusal>, u64);
 
 /// A call on columns. A column is named by its index.
 pub enum Call {
@@ -139,10 +152,52 @@ pub enum Call {
     /// Finds a column's flag at a place.
     Flag(usize, usize, Option<bool>),
     /// Finds a column's flags from a place on.
-    Flags(usize, usize, &'static [bool]),
+    Flags(usize, usize, Few),
+    /// Asks for the digest alone.
+    Digest,
 }
 
-// A derived `clone` copies call by call, and costs its proof more than all else here.
+/// A few flags.
+pub enum Few {
+    One(bool),
+    Two(bool, bool),
+    Four(bool, bool, bool, bool),
+}
+
+impl Few {
+    pub fn len(self) -> usize {
+        match self {
+            Few::One(_) => 1,
+            Few::Two(_, _) => 2,
+            Few::Four(_, _, _, _) => 4,
+        }
+    }
+
+    /// Whether these are they.
+    pub fn are(self, flags: &[bool]) -> bool {
+        match (self, flags) {
+            (Few::One(first), [one]) => *one == first,
+            (Few::Two(first, second), [one, two]) => *one == first && *two == second,
+            (Few::Four(first, second, third, last), [one, two, three, four]) => {
+                *one == first && *two == second && *three == third && *four == last
+            }
+            _ => false,
+        }
+    }
+}
+
+impl Clone for Few {
+    ghost is_clone = { λ x y. y ≡ x };
+
+    ghost is_infallible = { λ _. ⊤ };
+
+    fn clone(&self) -> Result<Few, AllocError> {
+        Ok(*self)
+    }
+}
+
+impl Copy for Few {}
+
 impl Clone for Call {
     ghost is_clone = { λ x y. y ≡ x };
 
@@ -154,17 +209,3 @@ impl Clone for Call {
 }
 
 impl Copy for Call {}
-
-impl Call {
-    /// The column that a call changes, if it is one.
-    pub fn column(self) -> Option<usize> {
-        match self {
-            Call::Push(k, _) => Some(k),
-            Call::Set(k, _, _) => Some(k),
-            Call::Unpush(k) => Some(k),
-            Call::Away(k, _) => Some(k),
-            Call::Back(k, _) => Some(k),
-            _ => None,
-        }
-    }
-}

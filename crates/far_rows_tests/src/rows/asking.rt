@@ -1,19 +1,20 @@
 // Callers that know why an edit is refused by the clauses in the plain table's words alone.
 ghost use Rattle.std.specs.Prelude.{◌≡◌, ◌<◌, [], ◌∷◌, false, None, Some, length, option_map, slice_get, OnOk, IfOk, IfErr};
 ghost use Rattle.far_types.specs.Bounds.{AreLimits};
+ghost use Rattle.far_types.specs.declared.cell.Kind.TheVariants.{Int, Text};
 ghost use Rattle.far_types.specs.Cells.{is_too_long};
 ghost use Rattle.far_rows.specs.declared.slot.Slot.TheVariants as slot;
+ghost use Rattle.far_rows.specs.Opening.{empty_rows};
 ghost use Rattle.far_rows.specs.Places.{AreOf};
 ghost use Rattle.far_rows.specs.Plain.{cell_set_refusal, insert_refusal};
 ghost use Rattle.far_rows.specs.Setting.{cell_of, kind_in};
 ghost use Rattle.far_rows.specs.Slots.{kind_of};
 
-use crate::rows::fixture::LIMITS;
+use crate::rows::telling::{Told, tells_at_last};
 use far_rows::{NewCell, NewRow, Rows};
 use far_store::{AgentStore, FarTickets};
 use far_types::{Kind, Limits, Refusal, Schema};
 use std::alloc::Global;
-use std::test::Fail;
 
 // Whether a row may be appended to the rows of a table with these limits.
 fn may_insert<S: FarTickets>(rows: &Rows<S>, limits: &Limits, row: &NewRow) -> Result<(), Refusal>
@@ -29,7 +30,7 @@ fn may_insert<S: FarTickets>(rows: &Rows<S>, limits: &Limits, row: &NewRow) -> R
 }
 
 // Whether a value may be put in a column of a place, likewise.
-fn may_put<S: FarTickets>(
+pub fn may_put<S: FarTickets>(
     rows: &Rows<S>,
     limits: &Limits,
     column: usize,
@@ -48,35 +49,34 @@ fn may_put<S: FarTickets>(
     rows.may_set(column, place, value)
 }
 
-/// A table of a column of texts and one of numbers, with one row, which has no value.
-pub fn one_row<S: FarTickets>(alloc: Global, limits: &Limits) -> Result<Rows<S>, Refusal>
+/// A table of a column of texts and one of numbers, without a row.
+pub fn no_row<S: FarTickets>(alloc: Global, limits: &Limits) -> Result<Rows<S>, Refusal>
     requires { AreLimits limits.now }
-    ensures of { IfOk result (AreOf limits.now) }
-    ensures slots { IfOk result (λ rows. rows.slots ≡ slot.Text 0 ∷ slot.Number 0 ∷ []) }
-    ensures place { IfOk result (λ rows. length rows.alive ≡ 1) }
+    ensures { IfOk result (λ rows. rows ≡ empty_rows (Text ∷ Int ∷ []) limits.now 7) }
 {
     let schema = Schema::new(Vec::from_array(alloc, [Kind::Text, Kind::Int])?)?;
-    let mut rows = Rows::new(alloc, &schema, limits, 7)?;
-    let row = NewRow::new(alloc, 1, 1)?;
-    may_insert(&rows, limits, &row)?;
-    rows.may_push(&row)?;
-    rows.push(alloc, &row)?;
-    Ok(rows)
+    Rows::new(alloc, &schema, limits, 7)
 }
 
-// What a table answers that is asked for a text, at the second call where the first finds no memory.
-fn answer<S: FarTickets>(alloc: Global) -> Result<(), Refusal> {
-    LIMITS.check()?;
-    let made = match one_row::<S>(alloc, &LIMITS) {
-        Err(Refusal::NoMemory) => one_row::<S>(alloc, &LIMITS),
-        reply => reply,
-    };
-    may_put(&made?, &LIMITS, 0, 0, &NewCell::Text(None))
+/// Pushes a row, which has no value.
+pub fn push_one<S: FarTickets>(
+    alloc: Global,
+    rows: &mut Rows<S>,
+    limits: &Limits,
+) -> Result<(), Refusal>
+    requires { rows.old ≡ empty_rows (Text ∷ Int ∷ []) limits.now 7 }
+    ensures of { OnOk result (AreOf limits.now rows.new) }
+    ensures slots { OnOk result (rows.new.slots ≡ slot.Text 0 ∷ slot.Number 0 ∷ []) }
+    ensures place { OnOk result (length rows.new.alive ≡ 1) }
+{
+    let row = NewRow::new(alloc, 1, 1)?;
+    may_insert(rows, limits, &row)?;
+    rows.may_push(&row)?;
+    rows.push(alloc, &row)
 }
 
 /// The store of the table is not made, since an object that is here asks it for nothing.
 #[test]
-fn an_edit_is_asked_for_in_plain_words(rt: HostRuntime) -> Result<(), Fail> {
-    answer::<AgentStore<&'_ HostRuntime>>(rt.alloc())?;
-    Ok(())
+fn an_edit_is_asked_for_in_plain_words(rt: HostRuntime) {
+    assert!(rt; tells_at_last::<AgentStore<&'_ HostRuntime>>(rt.alloc(), &Told::Put) == Ok(true));
 }

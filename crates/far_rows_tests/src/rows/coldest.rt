@@ -1,10 +1,12 @@
 // The object that goes away first: worked examples.
+use crate::cell::Cell;
+use crate::cell::Cell::{Number, Text};
+use crate::cell::Word::A;
 use crate::rows::fixture::{LIMITS, Values};
 use crate::rows::look::Look;
 use crate::rows::pushing::FIRST;
 use crate::rows::script::{CASE, Call, Case, Step, play};
-use far_types::CellRef::{Int, Text};
-use far_types::{CellRef, Limits, Name};
+use far_types::{Limits, Name};
 use std::test::Fail;
 
 // The objects of the first row group.
@@ -69,10 +71,10 @@ const TWO_SEGMENTS: Limits = Limits {
 };
 
 /// A text of 22 letters, whose form has 32 bytes.
-const SHORT: CellRef<'static> = Text("aaaaaaaaaaaaaaaaaaaaaa");
+const SHORT: Cell = Text(A, 22);
 
 /// Both kinds take half of their memory.
-const AS_MUCH: Values<'static> = (SHORT, Int(1), SHORT, Int(2));
+const AS_MUCH: Values = (SHORT, Number(1), SHORT, Number(2));
 
 const NUMBERS_FIRST: &[Step] = &[
     Step::Does(Call::Push(AS_MUCH)),
@@ -80,10 +82,10 @@ const NUMBERS_FIRST: &[Step] = &[
 ];
 
 /// A letter more.
-const LONG: CellRef<'static> = Text("aaaaaaaaaaaaaaaaaaaaaaa");
+const LONG: Cell = Text(A, 23);
 
 /// The texts take more than half of it.
-const MORE: Values<'static> = (SHORT, Int(1), LONG, Int(2));
+const MORE: Values = (SHORT, Number(1), LONG, Number(2));
 
 /// The numbers go where all texts are pinned.
 const TEXTS_FIRST: &[Step] = &[

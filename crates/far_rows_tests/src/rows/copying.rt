@@ -1,8 +1,9 @@
 // The far store's copies of row groups, and the objects that are found by their names: worked examples.
+use crate::cell::Cell::{Number, Text};
+use crate::cell::Word::Drei;
 use crate::rows::look::Look;
 use crate::rows::pushing::{HAS_THREE, THREE_ROWS};
 use crate::rows::script::{CASE, Call, Case, Step, play};
-use far_types::CellRef::{Int, Text};
 use std::test::Fail;
 
 /// A column of texts, of which an object comes and goes, and one of numbers likewise. A set makes the copy an old one.
@@ -22,10 +23,10 @@ const COPIES: &[Step] = &[
     Step::Is(Look::Copy(0, 1, true)),
     Step::Is(Look::Copy(1, 1, true)),
     HAS_THREE,
-    Step::Does(Call::Set(0, 2, Text("drei"))),
+    Step::Does(Call::Set(0, 2, Text(Drei, 1))),
     Step::Is(Look::Copy(0, 1, false)),
     Step::Is(Look::Copy(1, 1, true)),
-    Step::Does(Call::Set(1, 2, Int(3))),
+    Step::Does(Call::Set(1, 2, Number(3))),
     Step::Is(Look::Copy(1, 1, false)),
 ];
 

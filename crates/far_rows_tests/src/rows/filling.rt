@@ -1,26 +1,20 @@
 // Rows and values that are to come: worked examples.
-ghost use Rattle.std.specs.Prelude.{◌≡◌, length};
+ghost use Rattle.std.specs.Prelude.{◌≡◌, length, true};
+ghost use Rattle.far_types.specs.Cells.{is_of_kind};
 
+use crate::cell::Cell as Given;
+use crate::cell::Cell::{Missing, Number, Text};
+use crate::cell::Word::{One, Two};
 use crate::rows::fixture::{Values, row};
 use crate::rows::look::{is_cell, value_in};
 use far_rows::{NewCell, NewRow, Slot};
-use far_types::{Cell, CellRef, Kind, LentRow, Refusal, Text};
+use far_types::{Cell, Kind, LentRow, Refusal};
 use std::alloc::Global;
 
 /// The values of two rows.
-static FIRST: Values<'static> = (
-    CellRef::Text("one"),
-    CellRef::Int(1),
-    CellRef::Missing,
-    CellRef::Missing,
-);
+static FIRST: Values = (Text(One, 1), Number(1), Missing, Missing);
 
-static SECOND: Values<'static> = (
-    CellRef::Text("two"),
-    CellRef::Missing,
-    CellRef::Missing,
-    CellRef::Int(2),
-);
+static SECOND: Values = (Text(Two, 1), Missing, Missing, Number(2));
 
 /// Whether a row of two columns of texts and two of numbers has these values.
 fn has(row: &NewRow, texts: [Option<&str>; 2], numbers: [Option<i64>; 2]) -> bool
@@ -32,7 +26,7 @@ fn has(row: &NewRow, texts: [Option<&str>; 2], numbers: [Option<i64>; 2]) -> boo
 }
 
 /// Whether both are the same text, or none.
-fn is_text(text: &Option<Text>, due: Option<&str>) -> bool {
+fn is_text(text: &Option<far_types::Text>, due: Option<&str>) -> bool {
     match (text, due) {
         (Some(text), Some(due)) => text.as_str() == due,
         (None, None) => true,
@@ -41,7 +35,7 @@ fn is_text(text: &Option<Text>, due: Option<&str>) -> bool {
 }
 
 /// Whether a row is lent with these values, and no other.
-fn are_lent(lent: &LentRow<'_>, values: &Values<'_>) -> bool {
+fn are_lent(lent: &LentRow<'_>, values: &Values) -> bool {
     for column in 0..5 {
         if !is_cell(lent.get(column), value_in(values, column)) {
             return false;
@@ -52,36 +46,56 @@ fn are_lent(lent: &LentRow<'_>, values: &Values<'_>) -> bool {
 
 /// Whether a row has no value at first, and of two rows that it takes the cells of, one after the other, keeps and lends the
 /// last.
-fn keeps_the_last(alloc: Global) -> Result<bool, Refusal> {
+fn keeps_in(alloc: Global, taken: &mut NewRow) -> Result<bool, Refusal>
+    requires texts { length taken.old.texts ≡ 2 }
+    requires numbers { length taken.old.numbers ≡ 2 }
+{
     let slots = [
         Slot::Text(0),
         Slot::Number(0),
         Slot::Text(1),
         Slot::Number(1),
     ];
-    let taken = match NewRow::new(alloc, 2, 2) {
-        Err(Refusal::NoMemory) => NewRow::new(alloc, 2, 2),
-        reply => reply,
-    };
-    let mut taken = taken?;
-    let is_empty = has(&taken, [None, None], [None, None]);
+    let is_empty = has(taken, [None, None], [None, None]);
     taken.fill(&slots, row(alloc, &FIRST)?);
     taken.fill(&slots, row(alloc, &SECOND)?);
-    let is_last = has(&taken, [Some("two"), None], [None, Some(2)]);
+    let is_last = has(taken, [Some("two"), None], [None, Some(2)]);
     Ok(is_empty && is_last && are_lent(&taken.lend(&slots), &SECOND))
+}
+
+fn keeps_once(alloc: Global) -> Result<bool, Refusal> {
+    match NewRow::new(alloc, 2, 2) {
+        Ok(mut taken) => keeps_in(alloc, &mut taken),
+        Err(refusal) => Err(refusal),
+    }
+}
+
+/// The same. The rows are made again where they find no memory.
+fn keeps_the_last(alloc: Global) -> Result<bool, Refusal> {
+    match keeps_once(alloc) {
+        Err(Refusal::NoMemory) => keeps_once(alloc),
+        reply => reply,
+    }
+}
+
+/// Whether a value is lent as this cell.
+fn is_lent(kind: Kind, cell: Cell, due: Given) -> bool
+    requires { is_of_kind kind cell ≡ true }
+{
+    is_cell(Some(NewCell::new(kind, cell).lend()), Some(due))
 }
 
 /// Whether a value of either kind, and none, is lent as the cell that it was made of.
 fn lends_its_cell(alloc: Global) -> Result<bool, Refusal> {
-    let text = Text::new(String::from_str(alloc, "one")?);
-    let text = NewCell::new(Kind::Text, Cell::Text(text));
-    let number = NewCell::new(Kind::Int, Cell::Int(2));
-    let none = NewCell::new(Kind::Text, Cell::Missing);
-    Ok(
-        is_cell(Some(text.lend()), Some(CellRef::Text("one")))
-            && is_cell(Some(number.lend()), Some(CellRef::Int(2)))
-            && is_cell(Some(none.lend()), Some(CellRef::Missing)),
-    )
+    match Text(One, 1).text(alloc) {
+        Ok(Some(text)) => Ok(
+            is_lent(Kind::Text, Cell::Text(text), Text(One, 1))
+                && is_lent(Kind::Int, Cell::Int(2), Number(2))
+                && is_lent(Kind::Text, Cell::Missing, Missing),
+        ),
+        Ok(None) => Ok(false),
+        Err(refusal) => Err(refusal),
+    }
 }
 
 #[test]

@@ -1,20 +1,22 @@
 // A table with its store, and calls on it: a column of texts, one of numbers, and one more of each.
-ghost use Rattle.std.specs.Prelude.{◌≡◌, ℕ, List, length, IfOk};
+ghost use Rattle.std.specs.Prelude.{◌≡◌, [], ◌∷◌, ℕ, List, length, IfOk};
+ghost use Rattle.far_types.specs.declared.cell.Kind.TheVariants.{Int, Text};
 ghost use Rattle.far_scopes.specs.Movement.{AreHere};
 
 mod moving;
 mod writing;
 
+use crate::cell::Cell;
 use crate::rows::script::Call;
 use far_rows::Rows;
 use far_store::{FarStore, Meter};
-use far_types::{CellRef, Kind, Limits, Refusal, Schema};
+use far_types::{Kind, Limits, Refusal, Schema};
 use std::alloc::Global;
 use std::marker::Model;
 pub use writing::row;
 
 /// The values of a row, in the order of the columns.
-pub type Values<'a> = (CellRef<'a>, CellRef<'a>, CellRef<'a>, CellRef<'a>);
+pub type Values = (Cell, Cell, Cell, Cell);
 
 /// Row groups of two places, and room for the objects of two of them.
 pub const LIMITS: Limits = Limits {
@@ -55,11 +57,10 @@ impl<'a, S: FarStore> Fixture<'a, S> {
         other: &'a S,
         limits: &Limits,
     ) -> Result<Fixture<'a, S>, Refusal> {
-        Ok(Fixture {
-            store,
-            other,
-            rows: no_rows(alloc, limits)?,
-        })
+        match no_rows(alloc, limits) {
+            Ok(rows) => Ok(Fixture { store, other, rows }),
+            Err(refusal) => Err(refusal),
+        }
     }
 
     /// The rows, lent in place.
@@ -70,22 +71,30 @@ impl<'a, S: FarStore> Fixture<'a, S> {
     /// The same rows, whose far copies are in the other store. The call is made once.
     pub fn moved(self, alloc: Global) -> Result<Fixture<'a, S>, Refusal> {
         let rows = self.rows;
-        let renewal = rows.renewal(alloc, self.store, self.other, &mut Meter::new())?;
-        Ok(Fixture {
-            store: self.other,
-            other: self.store,
-            rows: rows.renew(renewal),
-        })
+        match rows.renewal(alloc, self.store, self.other, &mut Meter::new()) {
+            Ok(renewal) => Ok(Fixture {
+                store: self.other,
+                other: self.store,
+                rows: rows.renew(renewal),
+            }),
+            Err(refusal) => {
+                drop(rows);
+                Err(refusal)
+            }
+        }
     }
 
     // Puts what is away into the other store, and leaves the table where it is.
     fn put_again(&self, alloc: Global) -> Result<(), Refusal> {
-        let renewal = self
+        match self
             .rows
-            .renewal(alloc, self.store, self.other, &mut Meter::new());
-        match renewal {
+            .renewal(alloc, self.store, self.other, &mut Meter::new())
+        {
             Err(refusal) => Err(refusal),
-            Ok(_) => Ok(()),
+            Ok(renewal) => {
+                drop(renewal);
+                Ok(())
+            }
         }
     }
 
@@ -116,6 +125,13 @@ impl<'a, S: FarStore> Fixture<'a, S> {
     }
 }
 
+fn four_columns(alloc: Global) -> Result<Schema, Refusal>
+    ensures { IfOk result (λ kinds. kinds ≡ Text ∷ Int ∷ Text ∷ Int ∷ []) }
+{
+    let kinds = [Kind::Text, Kind::Int, Kind::Text, Kind::Int];
+    Schema::new(Vec::from_array(alloc, kinds)?)
+}
+
 // A table without a row.
 fn no_rows<S: FarStore>(alloc: Global, limits: &Limits) -> Result<Rows<S>, Refusal>
     ensures numbers { IfOk result (λ rows. length rows.numbers ≡ 2) }
@@ -123,11 +139,9 @@ fn no_rows<S: FarStore>(alloc: Global, limits: &Limits) -> Result<Rows<S>, Refus
     ensures number_store { IfOk result (λ rows. (name : List ℕ) → AreHere S.is_of name rows.number_objects) }
     ensures text_store { IfOk result (λ rows. (name : List ℕ) → AreHere S.is_of name rows.text_objects) }
 {
-    let kinds = [Kind::Text, Kind::Int, Kind::Text, Kind::Int];
-    let schema = Schema::new(Vec::from_array(alloc, kinds)?)?;
     limits.check()?;
-    match Rows::new(alloc, &schema, limits, 7) {
-        Err(Refusal::NoMemory) => Rows::new(alloc, &schema, limits, 7),
-        reply => reply,
+    match four_columns(alloc) {
+        Ok(schema) => Rows::new(alloc, &schema, limits, 7),
+        Err(refusal) => Err(refusal),
     }
 }

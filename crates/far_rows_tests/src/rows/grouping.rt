@@ -1,4 +1,6 @@
 // Row groups that are lent: worked examples.
+use crate::cell::Cell::{Missing, Text};
+use crate::cell::Word::{Empty, One, Three, Zwei};
 use crate::rows::look::Look;
 use crate::rows::pushing::THREE_ROWS;
 use crate::rows::script::{CASE, Call, Case, Step, play};
@@ -17,8 +19,8 @@ const FLAGS: &[Step] = &[
 const COLUMNS: &[Step] = &[
     Step::Is(Look::Numbers(1, 0, &[Some(1), Some(-2)])),
     Step::Is(Look::Numbers(3, 1, &[Some(i64::MIN)])),
-    Step::Is(Look::Texts(2, 0, Some(""), Some("zwei"))),
-    Step::Is(Look::Texts(0, 1, Some("three"), None)),
+    Step::Is(Look::Texts(2, 0, Text(Empty, 1), Text(Zwei, 1))),
+    Step::Is(Look::Texts(0, 1, Text(Three, 1), Missing)),
     Step::Is(Look::Lent(4, 9, Some(Refusal::NoColumn))),
     Step::Is(Look::Lent(3, 2, Some(Refusal::OutOfRange))),
     Step::Is(Look::Lent(3, 1, None)),
@@ -36,7 +38,7 @@ const AWAY: &[Step] = &[
     Step::Is(Look::Lent(1, 0, ABSENT)),
     Step::Is(Look::Row(1, ABSENT)),
     Step::Is(Look::Row(2, None)),
-    Step::Is(Look::Texts(0, 0, Some("one"), None)),
+    Step::Is(Look::Texts(0, 0, Text(One, 1), Missing)),
 ];
 
 static CASES: [Case; 3] = [

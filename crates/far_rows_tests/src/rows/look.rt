@@ -1,7 +1,9 @@
 // What a table is, as far as one call tells.
 mod naming;
 
+use crate::cell::Cell;
 use crate::rows::fixture::Values;
+use crate::rows::pushing::ROWS;
 use far_codec::text_of;
 use far_rows::{LentColumn, Rows, Slot};
 use far_store::FarTickets;
@@ -11,9 +13,11 @@ use naming::{numbers_named, texts_named};
 /// What is due of a table. Where a refusal is due, `None` stands for none.
 pub enum Look {
     /// The table has these rows, which are all alive, and no other.
-    Rows(&'static [Values<'static>]),
+    Rows(&'static [Values]),
+    /// The table has so many of the rows that most begin with, likewise.
+    First(usize),
     /// A place has these values, read cell by cell, and as one row.
-    Values(usize, Values<'static>),
+    Values(usize, Values),
     /// How many places there are.
     Len(usize),
     /// Whether a place is alive; `None` where there is no such place.
@@ -47,7 +51,7 @@ pub enum Look {
     /// The numbers of a row group of a column.
     Numbers(usize, u32, &'static [Option<i64>]),
     /// The two texts of a row group of a column.
-    Texts(usize, u32, Option<&'static str>, Option<&'static str>),
+    Texts(usize, u32, Cell, Cell),
 }
 
 /// Which of these is the first that a table is not.
@@ -64,6 +68,7 @@ pub fn first_other<S: FarTickets>(rows: &Rows<S>, looks: &[Look]) -> Option<usiz
 pub fn is_so<S: FarTickets>(rows: &Rows<S>, look: &Look) -> bool {
     match look {
         Look::Rows(due) => has_rows(rows, due),
+        Look::First(count) => has_rows(rows, first_rows(*count)),
         Look::Values(place, values) => has_values(rows, *place, values),
         Look::Len(len) => rows.len() == *len,
         Look::Alive(place, alive) => rows.is_alive(*place) == *alive,
@@ -115,7 +120,7 @@ fn pieces<S: FarTickets>(
 }
 
 // Whether a table has these rows, which are all alive, and no other.
-fn has_rows<S: FarTickets>(rows: &Rows<S>, due: &[Values<'static>]) -> bool {
+fn has_rows<S: FarTickets>(rows: &Rows<S>, due: &[Values]) -> bool {
     for place in 0..=4 {
         if !has_row(rows, place, due.get(place)) {
             return false;
@@ -124,7 +129,7 @@ fn has_rows<S: FarTickets>(rows: &Rows<S>, due: &[Values<'static>]) -> bool {
     rows.len() == due.len()
 }
 
-fn has_row<S: FarTickets>(rows: &Rows<S>, place: usize, row: Option<&Values<'static>>) -> bool {
+fn has_row<S: FarTickets>(rows: &Rows<S>, place: usize, row: Option<&Values>) -> bool {
     let alive = rows.is_alive(place);
     match row {
         Some(values) => alive == Some(true) && has_values(rows, place, values),
@@ -133,7 +138,7 @@ fn has_row<S: FarTickets>(rows: &Rows<S>, place: usize, row: Option<&Values<'sta
 }
 
 // Whether a place has these values, read cell by cell, and as one row, and no other.
-fn has_values<S: FarTickets>(rows: &Rows<S>, place: usize, values: &Values<'_>) -> bool {
+fn has_values<S: FarTickets>(rows: &Rows<S>, place: usize, values: &Values) -> bool {
     if place >= rows.len() {
         return false;
     }
@@ -150,7 +155,7 @@ fn has_values<S: FarTickets>(rows: &Rows<S>, place: usize, values: &Values<'_>) 
 }
 
 /// The value for a column.
-pub fn value_in<'a>(values: &Values<'a>, column: usize) -> Option<CellRef<'a>> {
+pub fn value_in(values: &Values, column: usize) -> Option<Cell> {
     match column {
         0 => Some(values.0),
         1 => Some(values.1),
@@ -161,13 +166,18 @@ pub fn value_in<'a>(values: &Values<'a>, column: usize) -> Option<CellRef<'a>> {
 }
 
 /// Whether both are the same cell, or none.
-pub fn is_cell(one: Option<CellRef<'_>>, other: Option<CellRef<'_>>) -> bool {
+pub fn is_cell(one: Option<CellRef<'_>>, other: Option<Cell>) -> bool {
     match (one, other) {
-        (Some(CellRef::Int(one)), Some(CellRef::Int(other))) => one == other,
-        (Some(CellRef::Text(one)), Some(CellRef::Text(other))) => one == other,
-        (Some(CellRef::Missing), Some(CellRef::Missing)) | (None, None) => true,
+        (Some(CellRef::Int(one)), Some(Cell::Number(other))) => one == other,
+        (Some(CellRef::Text(one)), Some(other)) => other.is_text(Some(one)),
+        (Some(CellRef::Missing), Some(Cell::Missing)) | (None, None) => true,
         _ => false,
     }
+}
+
+// So many of the rows that most cases begin with.
+fn first_rows(count: usize) -> &'static [Values] {
+    &ROWS[..count.min(ROWS.len())]
 }
 
 // Whether a row group of a column is lent with these numbers.
@@ -188,11 +198,13 @@ fn has_texts<S: FarTickets>(
     rows: &Rows<S>,
     column: usize,
     group: u32,
-    first: Option<&str>,
-    second: Option<&str>,
+    first: Cell,
+    second: Cell,
 ) -> bool {
     match rows.group_column(column, group) {
-        Ok(LentColumn::Form(form)) => text_of(form, 0) == first && text_of(form, 1) == second,
+        Ok(LentColumn::Form(form)) => {
+            first.is_text(text_of(form, 0)) && second.is_text(text_of(form, 1))
+        }
         _ => false,
     }
 }

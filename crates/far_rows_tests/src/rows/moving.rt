@@ -1,9 +1,9 @@
 // Objects that are pinned, go away, come back and are compacted: worked examples.
+use crate::cell::Cell::{Missing, Number};
 use crate::rows::fixture::LIMITS;
 use crate::rows::look::Look;
 use crate::rows::pushing::{FIRST, FOUR_ROWS, FOURTH, HAS_FOUR, HAS_THREE, THREE_ROWS};
 use crate::rows::script::{CASE, Call, Case, Step, play};
-use far_types::CellRef::{Int, Missing};
 use far_types::{Limits, Refusal};
 use std::test::Fail;
 
@@ -25,11 +25,11 @@ macro_rules! while_away {
             Step::Is(Look::Here(1, Some(absent!($column)))),
             Step::Is(Look::Cell($column, 2, Some(absent!($column)))),
             Step::Refuses(Call::MayPush(FIRST), absent!($column)),
-            Step::Refuses(Call::MaySet(3, 2, Int(1)), absent!($column)),
+            Step::Refuses(Call::MaySet(3, 2, Number(1)), absent!($column)),
             Step::Refuses(Call::MaySet(0, 2, Missing), absent!($column)),
             Step::Is(Look::Here(0, None)),
             Step::Is(Look::Values(0, FIRST)),
-            Step::Does(Call::MaySet(3, 1, Int(1))),
+            Step::Does(Call::MaySet(3, 1, Number(1))),
         ]
     };
 }

@@ -6,10 +6,13 @@ use far_types::{Kind, Limits, Refusal, Schema};
 use std::alloc::Global;
 use std::test::Fail;
 
-/// An empty table of a column of numbers, one of texts and another of numbers, at the second call where the first finds no
-/// memory.
+/// A column of numbers, one of texts and another of numbers.
+fn three_columns(alloc: Global) -> Result<Schema, Refusal> {
+    Schema::new(Vec::from_array(alloc, [Kind::Int, Kind::Text, Kind::Int])?)
+}
+
+/// An empty table of them.
 fn opened<S: FarTickets>(alloc: Global) -> Result<Rows<S>, Refusal> {
-    let schema = Schema::new(Vec::from_array(alloc, [Kind::Int, Kind::Text, Kind::Int])?)?;
     let limits = Limits {
         group: 4,
         places: 100,
@@ -20,9 +23,9 @@ fn opened<S: FarTickets>(alloc: Global) -> Result<Rows<S>, Refusal> {
         text_size: 64,
     };
     limits.check()?;
-    match Rows::new(alloc, &schema, &limits, 7) {
-        Err(Refusal::NoMemory) => Rows::new(alloc, &schema, &limits, 7),
-        reply => reply,
+    match three_columns(alloc) {
+        Ok(schema) => Rows::new(alloc, &schema, &limits, 7),
+        Err(refusal) => Err(refusal),
     }
 }
 
@@ -54,9 +57,23 @@ static OPENED: [Look; 18] = [
 ];
 
 /// The first of these that it is not.
+fn first_other_once<S: FarTickets>(alloc: Global) -> Result<Option<usize>, Refusal> {
+    match opened::<S>(alloc) {
+        Ok(rows) => {
+            let other = first_other(&rows, &OPENED);
+            drop(rows);
+            Ok(other)
+        }
+        Err(refusal) => Err(refusal),
+    }
+}
+
+/// The same. The table is opened again where it finds no memory.
 fn first_other_opened<S: FarTickets>(alloc: Global) -> Result<Option<usize>, Refusal> {
-    let rows = opened::<S>(alloc)?;
-    Ok(first_other(&rows, &OPENED))
+    match first_other_once::<S>(alloc) {
+        Err(Refusal::NoMemory) => first_other_once::<S>(alloc),
+        reply => reply,
+    }
 }
 
 /// The store of the table is not made, since an empty table asks it for nothing.

@@ -1,19 +1,21 @@
 // Rows that are pushed: worked examples.
+use crate::cell::Cell;
+use crate::cell::Cell::{Missing, Number, Text};
+use crate::cell::Word::{A, Empty, One, Three, Zwei};
 use crate::rows::fixture::{LIMITS, Values};
 use crate::rows::look::Look;
 use crate::rows::script::{CASE, Call, Case, Step, play};
-use far_types::CellRef::{Int, Missing, Text};
-use far_types::{CellRef, Limits, Refusal};
+use far_types::{Limits, Refusal};
 use std::test::Fail;
 
 /// The values of two row groups.
-pub const FIRST: Values<'static> = (Text("one"), Int(1), Text(""), Missing);
+pub const FIRST: Values = (Text(One, 1), Number(1), Text(Empty, 1), Missing);
 
-pub const SECOND: Values<'static> = (Missing, Int(-2), Text("zwei"), Int(20));
+pub const SECOND: Values = (Missing, Number(-2), Text(Zwei, 1), Number(20));
 
-pub const THIRD: Values<'static> = (Text("three"), Missing, Missing, Int(i64::MIN));
+pub const THIRD: Values = (Text(Three, 1), Missing, Missing, Number(i64::MIN));
 
-pub const FOURTH: Values<'static> = (Missing, Missing, Missing, Missing);
+pub const FOURTH: Values = (Missing, Missing, Missing, Missing);
 
 /// The first of them are pushed.
 pub const ONE_ROW: &[Step] = &[Step::Does(Call::Push(FIRST))];
@@ -32,13 +34,16 @@ pub const FOUR_ROWS: &[Step] = &[
 ];
 
 /// The table has the first of them, all alive, and no other.
-pub const HAS_ONE: Step = Step::Is(Look::Rows(&[FIRST]));
+pub const HAS_ONE: Step = Step::Is(Look::First(1));
 
-pub const HAS_TWO: Step = Step::Is(Look::Rows(&[FIRST, SECOND]));
+pub const HAS_TWO: Step = Step::Is(Look::First(2));
 
-pub const HAS_THREE: Step = Step::Is(Look::Rows(&[FIRST, SECOND, THIRD]));
+pub const HAS_THREE: Step = Step::Is(Look::First(3));
 
-pub const HAS_FOUR: Step = Step::Is(Look::Rows(&[FIRST, SECOND, THIRD, FOURTH]));
+pub const HAS_FOUR: Step = Step::Is(Look::First(4));
+
+/// All of them.
+pub static ROWS: [Values; 4] = [FIRST, SECOND, THIRD, FOURTH];
 
 /// Each row is asked for, pushed and read back.
 const PUSHED: &[Step] = &[
@@ -64,7 +69,7 @@ const NO_NUMBERS: &[Step] = &[
 ];
 
 /// A text of thirty letters, of which two make a form too long.
-const LONG: CellRef<'static> = Text("aaaaaaaaaaaaaaaaaaaaaaaaaaaaaa");
+const LONG: Cell = Text(A, 30);
 
 /// One segment for the texts of two columns.
 const ONE_SEGMENT: Limits = Limits {
@@ -72,9 +77,9 @@ const ONE_SEGMENT: Limits = Limits {
     ..LIMITS
 };
 
-const TWO_LONG: Values<'static> = (LONG, Missing, LONG, Missing);
+const TWO_LONG: Values = (LONG, Missing, LONG, Missing);
 
-const ONE_LONG: Values<'static> = (Missing, Int(1), LONG, Int(2));
+const ONE_LONG: Values = (Missing, Number(1), LONG, Number(2));
 
 /// A row with one long text fits in it, and neither two such texts do nor another such row.
 const NO_TEXTS: &[Step] = &[
@@ -86,43 +91,17 @@ const NO_TEXTS: &[Step] = &[
     Step::Is(Look::Values(0, ONE_LONG)),
 ];
 
-// A text, 64 times.
-macro_rules! eight_times {
-    ($text:tt) => {
-        eight_times_all!($text, $text, $text, $text, $text, $text, $text, $text)
-    };
-}
-
-macro_rules! eight_times_all {
-    ($($text:tt),*) => {
-        concat!(
-            $($text),*, $($text),*, $($text),*, $($text),*, $($text),*, $($text),*, $($text),*, $($text),*
-        )
-    };
-}
-
-/// Texts of so many letters, of which one alone fills a form.
-const LETTERS_64: &str = "aaaaaaaaaaaaaaaaaaaaaaaaaaaaaaaaaaaaaaaaaaaaaaaaaaaaaaaaaaaaaaaa";
-
-const LETTERS_100: &str = concat!(
-    "aaaaaaaaaaaaaaaaaaaaaaaaaaaaaaaaaaaaaaaaaaaaaaaaaa",
-    "aaaaaaaaaaaaaaaaaaaaaaaaaaaaaaaaaaaaaaaaaaaaaaaaaa"
-);
-
-const LETTERS_4096: &str = eight_times!(
-    "aaaaaaaaaaaaaaaaaaaaaaaaaaaaaaaaaaaaaaaaaaaaaaaaaaaaaaaaaaaaaaaa"
-);
-
-// A row with a text is refused, be it in the first column of texts or in the second.
+// A row with a text of so many letters, of which one alone fills a form, is refused, be it in the first column of texts or in the
+// second.
 macro_rules! is_too_long {
-    ($text:expr) => {
+    ($letters:literal) => {
         &[
             Step::Refuses(
-                Call::MayPush((Text($text), Int(1), Missing, Int(2))),
+                Call::MayPush((Text(A, $letters), Number(1), Missing, Number(2))),
                 Refusal::ChunkFull,
             ),
             Step::Refuses(
-                Call::MayPush((Missing, Int(1), Text($text), Int(2))),
+                Call::MayPush((Missing, Number(1), Text(A, $letters), Number(2))),
                 Refusal::ChunkFull,
             ),
         ]
@@ -153,9 +132,9 @@ static CASES: [Case; 4] = [
         name: "a text that is too long for a form is refused",
         parts: &[
             ONE_ROW,
-            is_too_long!(LETTERS_64),
-            is_too_long!(LETTERS_100),
-            is_too_long!(LETTERS_4096),
+            is_too_long!(64),
+            is_too_long!(100),
+            is_too_long!(4096),
             ONLY_SHORT,
         ],
         ..CASE

@@ -1,9 +1,11 @@
 // Scripts: calls on a table with their replies, and what the table is between them. They are data, since the proof of a test
 // grows with its steps: one player makes the stores and the table of all of them.
+use crate::cell::Cell;
 use crate::rows::fixture::{Fixture, LIMITS, Values};
 use crate::rows::look::{Look, is_so};
-use far_store::{AgentStore, FarStore, FaultyStore};
-use far_types::{CellRef, Limits, Refusal};
+use far_fixtures::agent;
+use far_store::{FarStore, FaultyStore};
+use far_types::{Limits, Refusal};
 use std::alloc::Global;
 use std::sync::Wait;
 use std::test::Fail;
@@ -11,11 +13,11 @@ use std::test::Fail;
 /// A call on a table. `Set` asks beforehand whether it may be made, and so does `Push`.
 #[derive(Drop)]
 pub enum Call {
-    MayPush(Values<'static>),
-    Push(Values<'static>),
+    MayPush(Values),
+    Push(Values),
     /// The column, the place and the value.
-    MaySet(usize, usize, CellRef<'static>),
-    Set(usize, usize, CellRef<'static>),
+    MaySet(usize, usize, Cell),
+    Set(usize, usize, Cell),
     Clear(usize),
     /// The column and the row group.
     Pin(usize, u32),
@@ -71,25 +73,24 @@ pub fn play<R: Wait + Sync + Drop + Copy>(
     cases: &[Case],
 ) -> Result<(), Fail> {
     for case in cases {
-        if let Some((part, step)) = first_wrong(rt, alloc, case)? {
+        // Once more where the making of the stores or of the table finds no memory.
+        let wrong = match first_wrong(rt, alloc, case) {
+            Err(Refusal::NoMemory) => first_wrong(rt, alloc, case),
+            reply => reply,
+        };
+        if let Some((part, step)) = wrong? {
             return Err(Fail::new(format_args!("{}: {part}, {step}", case.name)));
         }
     }
     Ok(())
 }
 
-/// A store of so many contents, at the second call where the first finds no memory. One get from it is a fault.
-pub fn store<R: Wait + Sync + Drop + Copy>(
-    rt: R,
-    alloc: Global,
-    capacity: u64,
-    fault: u64,
-) -> Result<FaultyStore<AgentStore<R>>, Refusal> {
-    let store = match AgentStore::new(rt, alloc, capacity) {
-        Err(Refusal::NoMemory) => AgentStore::new(rt, alloc, capacity),
-        reply => reply,
-    };
-    Ok(FaultyStore::new(store?, 0, fault))
+// The store, if it was made, of which one get is a fault.
+fn faulty<S: FarStore>(store: Result<S, Refusal>, get: u64) -> Result<FaultyStore<S>, Refusal> {
+    match store {
+        Ok(store) => Ok(FaultyStore::new(store, 0, get)),
+        Err(refusal) => Err(refusal),
+    }
 }
 
 // The part and the step of a case that do not come out as they should.
@@ -98,18 +99,19 @@ fn first_wrong<R: Wait + Sync + Drop + Copy>(
     alloc: Global,
     case: &Case,
 ) -> Result<Option<(usize, usize)>, Refusal> {
-    let store = store(rt, alloc, 16, case.fault)?;
-    first_wrong_over(rt, alloc, &store, case)
+    let first = faulty(agent(rt, alloc, 16), case.fault);
+    let other = faulty(agent(rt, alloc, case.capacity), 0);
+    first_wrong_over(alloc, first, other, case)
 }
 
-fn first_wrong_over<R: Wait + Sync + Drop + Copy>(
-    rt: R,
+// The same over two stores, if they were made. It knows no store, so to take them out of their results costs it little.
+fn first_wrong_over<S: FarStore>(
     alloc: Global,
-    first: &FaultyStore<AgentStore<R>>,
+    first: Result<S, Refusal>,
+    other: Result<S, Refusal>,
     case: &Case,
 ) -> Result<Option<(usize, usize)>, Refusal> {
-    let other = store(rt, alloc, case.capacity, 0)?;
-    first_wrong_between(alloc, first, &other, case)
+    first_wrong_between(alloc, &first?, &other?, case)
 }
 
 fn first_wrong_between<S: FarStore>(
@@ -118,12 +120,25 @@ fn first_wrong_between<S: FarStore>(
     other: &S,
     case: &Case,
 ) -> Result<Option<(usize, usize)>, Refusal> {
-    let mut fixture = Fixture::new(alloc, store, other, &case.limits)?;
-    let wrong = first_wrong_part(alloc, &mut fixture, case.parts);
-    if wrong.is_some() || case.moved.is_empty() {
-        return Ok(wrong);
+    match Fixture::new(alloc, store, other, &case.limits) {
+        Ok(fixture) => first_wrong_in(alloc, fixture, case),
+        Err(refusal) => Err(refusal),
     }
-    first_wrong_moved(alloc, fixture, case.moved)
+}
+
+fn first_wrong_in<S: FarStore>(
+    alloc: Global,
+    fixture: Fixture<'_, S>,
+    case: &Case,
+) -> Result<Option<(usize, usize)>, Refusal> {
+    let mut fixture = fixture;
+    match first_wrong_step(alloc, &mut fixture, case.parts) {
+        None if !case.moved.is_empty() => first_wrong_moved(alloc, fixture, case.moved),
+        wrong => {
+            drop(fixture);
+            Ok(wrong)
+        }
+    }
 }
 
 // The same of the parts that come once the table is in the other store.
@@ -132,32 +147,48 @@ fn first_wrong_moved<S: FarStore>(
     fixture: Fixture<'_, S>,
     parts: &[&[Step]],
 ) -> Result<Option<(usize, usize)>, Refusal> {
-    let mut fixture = fixture.moved(alloc)?;
-    Ok(first_wrong_part(alloc, &mut fixture, parts))
+    match fixture.moved(alloc) {
+        Ok(mut fixture) => {
+            let wrong = first_wrong_step(alloc, &mut fixture, parts);
+            drop(fixture);
+            Ok(wrong)
+        }
+        Err(refusal) => Err(refusal),
+    }
 }
 
-// The part of a script and its step that do not come out as they should.
-fn first_wrong_part<S: FarStore>(
-    alloc: Global,
-    fixture: &mut Fixture<'_, S>,
-    parts: &[&[Step]],
-) -> Option<(usize, usize)> {
-    for (index, part) in parts.iter().enumerate() {
-        if let Some(step) = first_wrong_step(alloc, fixture, part) {
-            return Some((index, step));
+// How many steps parts have.
+fn count_steps(parts: &[&[Step]]) -> usize {
+    let mut count = 0usize;
+    for part in parts {
+        count = count.saturating_add(part.len());
+    }
+    count
+}
+
+// A step of parts, with the number of its part and its own in that, if there are so many.
+fn step_at<'a>(parts: &[&'a [Step]], index: usize) -> Option<(usize, usize, &'a Step)> {
+    let mut index = index;
+    for (number, part) in parts.iter().enumerate() {
+        match part.get(index) {
+            Some(step) => return Some((number, index, step)),
+            None => index = index.saturating_sub(part.len()),
         }
     }
     None
 }
 
+// The part of a script and its step that do not come out as they should.
 fn first_wrong_step<S: FarStore>(
     alloc: Global,
     fixture: &mut Fixture<'_, S>,
-    part: &[Step],
-) -> Option<usize> {
-    for (index, step) in part.iter().enumerate() {
-        if !comes_out(alloc, fixture, step) {
-            return Some(index);
+    parts: &[&[Step]],
+) -> Option<(usize, usize)> {
+    for index in 0..count_steps(parts) {
+        match step_at(parts, index) {
+            Some((_, _, step)) if comes_out(alloc, fixture, step) => {}
+            Some((part, index, _)) => return Some((part, index)),
+            None => return Some((parts.len(), 0)),
         }
     }
     None

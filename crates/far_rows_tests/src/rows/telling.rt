@@ -1,13 +1,15 @@
 // Callers that know something of the objects of rows by what a call of theirs tells, and by nothing else.
-ghost use Rattle.std.specs.Prelude.{◌≡◌, ◌*◌, ◌<◌, Err, IfOk, IsOk, Some, length, option_map};
+ghost use Rattle.std.specs.Prelude.{◌≡◌, ◌*◌, ◌<◌, [], ◌∷◌, Err, IfOk, IsOk, Some, length, option_map};
+ghost use Rattle.far_types.specs.declared.cell.Kind.TheVariants.{Int, Text};
 ghost use Rattle.far_scopes.specs.Memory.{list_in};
+ghost use Rattle.far_rows.specs.Opening.{empty_rows};
 
-use crate::rows::asking::one_row;
+use crate::rows::asking::{may_put, no_row, push_one};
 use crate::rows::fixture::LIMITS;
 use far_codec::kind_of;
-use far_rows::{Object, Rows};
+use far_rows::{NewCell, Object, Rows};
 use far_store::{AgentStore, FarTickets};
-use far_types::{Kind, Refusal};
+use far_types::{Kind, Limits, Refusal};
 use std::alloc::Global;
 
 // The kind of the column that an object of numbers is named by.
@@ -73,40 +75,66 @@ fn unpin_coldest<S: FarTickets>(rows: &mut Rows<S>) -> Result<(), Refusal>
 
 // Whether the first two columns of a table, one of texts and one of numbers, have their first objects, each of them local.
 fn are_told<S: FarTickets>(rows: &Rows<S>) -> bool {
-    if rows.len() == 0 || rows.slots().len() < 2 {
-        return false;
-    }
-    let begun = object_begun(rows, 0, 0).is_ok() && object_begun(rows, 1, 0).is_ok();
-    begun && numbers_are_told(rows) && texts_are_told(rows)
-}
-
-fn numbers_are_told<S: FarTickets>(rows: &Rows<S>) -> bool {
-    rows.number_objects().count() > 0
+    rows.len() > 0
+        && rows.slots().len() >= 2
+        && rows.number_objects().count() > 0
+        && rows.text_objects().count() > 0
+        && object_begun(rows, 0, 0).is_ok()
+        && object_begun(rows, 1, 0).is_ok()
         && number_owner(rows, 0) == Some(Kind::Int)
         && number_len(rows, 0) == Ok(LIMITS.group)
-}
-
-fn texts_are_told<S: FarTickets>(rows: &Rows<S>) -> bool {
-    rows.text_objects().count() > 0
         && text_owner(rows, 0) == Some(Kind::Text)
         && text_kind(rows, 0) == Ok(Some(Kind::Text))
 }
 
-// The same of a table with one row, which is made again where it finds no memory.
-fn one_row_tells<S: FarTickets>(alloc: Global) -> Result<bool, Refusal> {
+/// What a table with one row tells.
+pub enum Told {
+    /// A text may be put in its first column.
+    Put,
+    /// Its objects are known, and the coldest has no pin.
+    Objects,
+}
+
+// Whether a table tells so, once it has a row.
+fn tells_with_one<S: FarTickets>(
+    alloc: Global,
+    rows: &mut Rows<S>,
+    limits: &Limits,
+    told: &Told,
+) -> Result<bool, Refusal>
+    requires { rows.old ≡ empty_rows (Text ∷ Int ∷ []) limits.now 7 }
+{
+    push_one(alloc, rows, limits)?;
+    match told {
+        Told::Put => Ok(may_put(rows, limits, 0, 0, &NewCell::Text(None)) == Ok(())),
+        Told::Objects => Ok(are_told(rows) && unpin_coldest(rows) == Err(Refusal::NotPinned)),
+    }
+}
+
+fn tells<S: FarTickets>(alloc: Global, told: &Told) -> Result<bool, Refusal> {
     LIMITS.check()?;
-    let made = match one_row::<S>(alloc, &LIMITS) {
-        Err(Refusal::NoMemory) => one_row::<S>(alloc, &LIMITS),
+    match no_row::<S>(alloc, &LIMITS) {
+        Ok(mut rows) => {
+            let told = tells_with_one(alloc, &mut rows, &LIMITS, told);
+            drop(rows);
+            told
+        }
+        Err(refusal) => Err(refusal),
+    }
+}
+
+/// Whether a table with one row tells so. It is made again where it finds no memory.
+pub fn tells_at_last<S: FarTickets>(alloc: Global, told: &Told) -> Result<bool, Refusal> {
+    match tells::<S>(alloc, told) {
+        Err(Refusal::NoMemory) => tells::<S>(alloc, told),
         reply => reply,
-    };
-    let mut rows = made?;
-    let are_told = are_told(&rows);
-    Ok(are_told && unpin_coldest(&mut rows) == Err(Refusal::NotPinned))
+    }
 }
 
 /// The store of the table is not made, since an object that is here asks it for nothing.
 #[test]
 fn rows_tell_what_their_objects_are(rt: HostRuntime) {
-    let told = one_row_tells::<AgentStore<&'_ HostRuntime>>(rt.alloc());
-    assert_eq!(rt; told, Ok(true));
+    assert!(rt;
+        tells_at_last::<AgentStore<&'_ HostRuntime>>(rt.alloc(), &Told::Objects) == Ok(true)
+    );
 }

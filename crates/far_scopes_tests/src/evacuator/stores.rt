@@ -1,6 +1,6 @@
 // The stores that cases are played over.
 use far_byte_log::ByteLog;
-use far_store::{EngineStore, FaultyStore};
+use far_store::{EngineStore, FarStore, FaultyStore};
 use far_types::Refusal;
 use std::alloc::Global;
 
@@ -16,11 +16,25 @@ pub struct Plan {
     pub failing_get: u64,
 }
 
-pub type Logged<R> = FaultyStore<EngineStore<ByteLog, R>>;
+/// A store over a log as it is planned, which does not fail.
+pub fn sound<R: Drop>(
+    rt: R,
+    alloc: Global,
+    plan: Plan,
+) -> Result<EngineStore<ByteLog, R>, Refusal> {
+    match ByteLog::new(alloc, plan.bytes) {
+        Ok(log) => EngineStore::new(rt, alloc, log, plan.capacity),
+        Err(_) => Err(Refusal::NoMemory),
+    }
+}
 
-/// A store as it is planned.
-pub fn logged<R: Drop>(rt: R, alloc: Global, plan: Plan) -> Result<Logged<R>, Refusal> {
-    let log = ByteLog::new(alloc, plan.bytes)?;
-    let store = EngineStore::new(rt, alloc, log, plan.capacity)?;
-    Ok(FaultyStore::new(store, plan.failing_put, plan.failing_get))
+/// The store, if it was made, which fails as it is planned.
+pub fn failing<S: FarStore>(
+    store: Result<S, Refusal>,
+    plan: Plan,
+) -> Result<FaultyStore<S>, Refusal> {
+    match store {
+        Ok(store) => Ok(FaultyStore::new(store, plan.failing_put, plan.failing_get)),
+        Err(refusal) => Err(refusal),
+    }
 }

@@ -33,8 +33,19 @@ fn first_wrong<R: Wait + Sync + Copy + Drop>(
     alloc: Global,
     script: &Script,
 ) -> Result<Option<usize>, Refusal> {
-    let store = FaultyStore::new(agent(rt, alloc, 4)?, 0, script.failing_get);
-    play_over(alloc, &store, &agent(rt, alloc, script.room)?, script)
+    let store = agent(rt, alloc, 4);
+    play_between(alloc, store, agent(rt, alloc, script.room), script)
+}
+
+// The same over two stores, if they were made. It knows no store, so to take them out of their results costs it little.
+fn play_between<S: FarStore, N: FarStore>(
+    alloc: Global,
+    store: Result<S, Refusal>,
+    next: Result<N, Refusal>,
+    script: &Script,
+) -> Result<Option<usize>, Refusal> {
+    let store = FaultyStore::new(store?, 0, script.failing_get);
+    play_over(alloc, &store, &next?, script)
 }
 
 fn play_over<S: FarStore, N: FarStore>(
@@ -46,10 +57,15 @@ fn play_over<S: FarStore, N: FarStore>(
     if script.limits.segments > 8 {
         return Err(WRONG);
     }
-    let mut objects = no_objects(alloc, store, script.limits)?;
-    match play(alloc, store, &mut objects, script.lines, 0) {
-        None => play_on(alloc, store, objects, next, script),
-        wrong => Ok(wrong),
+    match no_objects(alloc, store, script.limits) {
+        Ok(mut objects) => match play(alloc, store, &mut objects, script.lines, 0) {
+            None => play_on(alloc, store, objects, next, script),
+            wrong => {
+                drop(objects);
+                Ok(wrong)
+            }
+        },
+        Err(refusal) => Err(refusal),
     }
 }
 
@@ -83,18 +99,22 @@ fn play_on<S: FarStore, N: FarStore>(
     requires { AreHere S.is_of (S.name store.now) objects }
 {
     let before = script.lines.len();
-    if !are_refused(alloc, store, &objects, next, script.refused) {
-        return Ok(Some(before));
-    }
-    if script.after.is_empty() {
-        return Ok(None);
+    let are_refused = are_refused(alloc, store, &objects, next, script.refused);
+    if !are_refused || script.after.is_empty() {
+        drop(objects);
+        return Ok(if are_refused { None } else { Some(before) });
     }
     match renewal(alloc, store, &objects, next) {
         Ok(renewal) => {
             let mut objects = renewed(objects, next, renewal);
-            Ok(play(alloc, next, &mut objects, script.after, before))
+            let wrong = play(alloc, next, &mut objects, script.after, before);
+            drop(objects);
+            Ok(wrong)
         }
-        Err(refusal) => Err(refusal),
+        Err(refusal) => {
+            drop(objects);
+            Err(refusal)
+        }
     }
 }
 

@@ -36,21 +36,30 @@ fn first_wrong<R: Wait + Sync + Copy + Drop>(
     alloc: Global,
     script: &Script,
 ) -> Result<Option<usize>, Refusal> {
-    play_over(alloc, &agent(rt, alloc, 4)?, script)
+    play_over(alloc, agent(rt, alloc, 4), script)
 }
 
+// The same over a store, if it was made. It knows no store, so to take it out of its result costs it little.
 fn play_over<S: FarStore>(
     alloc: Global,
-    store: &S,
+    store: Result<S, Refusal>,
     script: &Script,
 ) -> Result<Option<usize>, Refusal> {
+    let store = store?;
     let limits = ObjectLimits {
         segments: 4,
         size: 4,
         changes: script.changes,
         leavings: 1,
     };
-    play_in(alloc, store, &mut no_objects(alloc, store, limits)?, script)
+    match no_objects(alloc, &store, limits) {
+        Ok(mut objects) => {
+            let wrong = play_in(alloc, &store, &mut objects, script);
+            drop(objects);
+            wrong
+        }
+        Err(refusal) => Err(refusal),
+    }
 }
 
 fn play_in<S: FarStore>(

@@ -1,6 +1,7 @@
 // A column of numbers: worked examples, and why calls are refused. The flags of its places too.
-use crate::columns::cell::Cell::{Missing, Number};
+use crate::cell::Cell::{Missing, Number};
 use crate::columns::script::Call::{Away, Clear, Find, Flag, Flags, Len, Lend, Push, Set, Unpush};
+use crate::columns::script::Few::{Four, One, Two};
 use crate::columns::script::{Case, Layout, Script};
 use far_types::Refusal;
 
@@ -158,8 +159,8 @@ pub static CASES: [Case; 10] = [
             (Push(0, Number(3)), Ok(())),
             (Clear(0, 1), Ok(())),
             (Len(0, 3), Ok(())),
-            (Flags(0, 0, &[true, false]), Ok(())),
-            (Flags(0, 2, &[true]), Ok(())),
+            (Flags(0, 0, Two(true, false)), Ok(())),
+            (Flags(0, 2, One(true)), Ok(())),
             (Flag(0, 3, None), Ok(())),
         ]),
     },
@@ -176,7 +177,7 @@ pub static CASES: [Case; 10] = [
             (Push(0, Number(5)), Ok(())),
             (Clear(0, 1), Ok(())),
             (Unpush(0), Ok(())),
-            (Flags(0, 0, &[true, false, true, true]), Ok(())),
+            (Flags(0, 0, Four(true, false, true, true)), Ok(())),
             (Flag(0, 4, None), Ok(())),
             (Len(0, 4), Ok(())),
             (Find(0, 4, Missing), OUT_OF_RANGE),

@@ -1,5 +1,5 @@
 // Two columns of numbers at once: worked examples.
-use crate::columns::cell::Cell::{Missing, Number};
+use crate::cell::Cell::{Missing, Number};
 use crate::columns::script::Call::{
     Away, Find, Len, MayPushAll, Object, Objects, PushAll, PushAndUnpush,
 };

@@ -1,5 +1,6 @@
 // A column of texts: worked examples, and why calls are refused.
-use crate::columns::cell::Cell::{Missing, Text};
+use crate::cell::Cell::{Missing, Text};
+use crate::cell::Word::{A, Acute, B, C, Fig, Pear};
 use crate::columns::script::Call::{
     Away, Clear, Find, Flag, Len, LenWith, LenWithNext, Lend, MaySet, Object, Push, Set,
 };
@@ -82,14 +83,14 @@ pub static CASES: [Case; 14] = [
         layout: PAIRS,
         count: 0,
         script: Script::Lines(&[
-            (Push(0, Text("pear", 1)), Ok(())),
+            (Push(0, Text(Pear, 1)), Ok(())),
             (Push(0, Missing), Ok(())),
-            (Push(0, Text("fig", 1)), Ok(())),
+            (Push(0, Text(Fig, 1)), Ok(())),
             (Clear(0, 2), Ok(())),
             (Lend(0, 1, 4), OUT_OF_RANGE),
             (Lend(0, 1, 3), Ok(())),
             (Find(0, 1, Missing), Ok(())),
-            (Find(0, 2, Text("fig", 1)), Ok(())),
+            (Find(0, 2, Text(Fig, 1)), Ok(())),
             (Flag(0, 1, Some(true)), Ok(())),
             (Flag(0, 2, Some(false)), Ok(())),
             (Flag(0, 3, None), Ok(())),
@@ -101,12 +102,12 @@ pub static CASES: [Case; 14] = [
         layout: PAIRS,
         count: 0,
         script: Script::Lines(&[
-            (Push(0, Text("pear", 1)), Ok(())),
+            (Push(0, Text(Pear, 1)), Ok(())),
             (Push(0, Missing), Ok(())),
-            (Push(0, Text("fig", 1)), Ok(())),
-            (Find(0, 0, Text("pear", 1)), Ok(())),
+            (Push(0, Text(Fig, 1)), Ok(())),
+            (Find(0, 0, Text(Pear, 1)), Ok(())),
             (Find(0, 1, Missing), Ok(())),
-            (Find(0, 2, Text("fig", 1)), Ok(())),
+            (Find(0, 2, Text(Fig, 1)), Ok(())),
             (Find(0, 3, Missing), Err(Refusal::NoRow)),
         ]),
     },
@@ -115,9 +116,9 @@ pub static CASES: [Case; 14] = [
         layout: LARGE,
         count: 0,
         script: Script::Lines(&[
-            (Push(0, Text("a", 4096)), Ok(())),
-            (Push(0, Text("a", 4097)), TOO_LONG),
-            (Set(0, 0, Text("a", 4097)), TOO_LONG),
+            (Push(0, Text(A, 4096)), Ok(())),
+            (Push(0, Text(A, 4097)), TOO_LONG),
+            (Set(0, 0, Text(A, 4097)), TOO_LONG),
         ]),
     },
     // 54 letters fill a form, `b` in their place makes room, `c` comes behind it, and then 45 letters are one too many, and 44
@@ -127,14 +128,14 @@ pub static CASES: [Case; 14] = [
         layout: TWO_SEGMENTS,
         count: 0,
         script: Script::Lines(&[
-            (Push(0, Text("a", 54)), Ok(())),
-            (Set(0, 0, Text("b", 1)), Ok(())),
-            (Push(0, Text("c", 1)), Ok(())),
-            (Push(0, Text("a", 45)), CHUNK_FULL),
-            (Push(0, Text("a", 44)), Ok(())),
+            (Push(0, Text(A, 54)), Ok(())),
+            (Set(0, 0, Text(B, 1)), Ok(())),
+            (Push(0, Text(C, 1)), Ok(())),
+            (Push(0, Text(A, 45)), CHUNK_FULL),
+            (Push(0, Text(A, 44)), Ok(())),
             (Len(0, 3), Ok(())),
-            (Find(0, 0, Text("b", 1)), Ok(())),
-            (Find(0, 1, Text("c", 1)), Ok(())),
+            (Find(0, 0, Text(B, 1)), Ok(())),
+            (Find(0, 1, Text(C, 1)), Ok(())),
         ]),
     },
     // A form that is full has no room for a missing text.
@@ -143,9 +144,9 @@ pub static CASES: [Case; 14] = [
         layout: TWO_SEGMENTS,
         count: 0,
         script: Script::Lines(&[
-            (Push(0, Text("a", 1)), Ok(())),
-            (LenWith(0, 0, Text("a", 54), 64), Ok(())),
-            (Set(0, 0, Text("a", 54)), Ok(())),
+            (Push(0, Text(A, 1)), Ok(())),
+            (LenWith(0, 0, Text(A, 54), 64), Ok(())),
+            (Set(0, 0, Text(A, 54)), Ok(())),
             (LenWithNext(0, Missing, 69), Ok(())),
             (Push(0, Missing), CHUNK_FULL),
             (Set(0, 1, Missing), OUT_OF_RANGE),
@@ -158,10 +159,10 @@ pub static CASES: [Case; 14] = [
         layout: TWO_SEGMENTS,
         count: 0,
         script: Script::Lines(&[
-            (Push(0, Text("a", 1)), Ok(())),
-            (MaySet(0, 0, Text("a", 54)), Ok(())),
-            (MaySet(0, 0, Text("a", 55)), CHUNK_FULL),
-            (Find(0, 0, Text("a", 1)), Ok(())),
+            (Push(0, Text(A, 1)), Ok(())),
+            (MaySet(0, 0, Text(A, 54)), Ok(())),
+            (MaySet(0, 0, Text(A, 55)), CHUNK_FULL),
+            (Find(0, 0, Text(A, 1)), Ok(())),
         ]),
     },
     // There is no sixth of five texts.
@@ -199,10 +200,10 @@ pub static CASES: [Case; 14] = [
         layout: FOURS,
         count: 2,
         script: Script::Lines(&[
-            (Set(0, 0, Text("é", 2049)), TOO_LONG),
-            (Push(0, Text("é", 2049)), TOO_LONG),
-            (Set(0, 0, Text("é", 2048)), CHUNK_FULL),
-            (Push(0, Text("é", 2048)), CHUNK_FULL),
+            (Set(0, 0, Text(Acute, 2049)), TOO_LONG),
+            (Push(0, Text(Acute, 2049)), TOO_LONG),
+            (Set(0, 0, Text(Acute, 2048)), CHUNK_FULL),
+            (Push(0, Text(Acute, 2048)), CHUNK_FULL),
         ]),
     },
     // A text that fills its form is cleared: there is room behind it once it is missing.
@@ -211,7 +212,7 @@ pub static CASES: [Case; 14] = [
         layout: FOURS,
         count: 1,
         script: Script::Lines(&[
-            (Set(0, 0, Text("a", 54)), Ok(())),
+            (Set(0, 0, Text(A, 54)), Ok(())),
             (Clear(0, 0), Ok(())),
             (Push(0, Missing), CHUNK_FULL),
             (Set(0, 0, Missing), Ok(())),
@@ -225,10 +226,10 @@ pub static CASES: [Case; 14] = [
         layout: WRITTEN_OUT,
         count: 2,
         script: Script::Lines(&[
-            (Set(0, 0, Text("a", 50)), CHUNK_FULL),
-            (Push(0, Text("a", 50)), CHUNK_FULL),
-            (Set(0, 0, Text("a", 44)), REGION_FULL),
-            (Push(0, Text("a", 44)), REGION_FULL),
+            (Set(0, 0, Text(A, 50)), CHUNK_FULL),
+            (Push(0, Text(A, 50)), CHUNK_FULL),
+            (Set(0, 0, Text(A, 44)), REGION_FULL),
+            (Push(0, Text(A, 44)), REGION_FULL),
         ]),
     },
     // While the row group is away.
@@ -238,12 +239,12 @@ pub static CASES: [Case; 14] = [
         count: 2,
         script: Script::Lines(&[
             (Away(0, 0), Ok(())),
-            (Set(0, 2, Text("a", 4097)), TOO_LONG),
-            (Push(0, Text("a", 4097)), TOO_LONG),
-            (Set(0, 2, Text("a", 50)), OUT_OF_RANGE),
-            (Push(0, Text("a", 50)), FIRST_AWAY),
-            (Set(0, 0, Text("a", 50)), FIRST_AWAY),
-            (Push(0, Text("a", 50)), FIRST_AWAY),
+            (Set(0, 2, Text(A, 4097)), TOO_LONG),
+            (Push(0, Text(A, 4097)), TOO_LONG),
+            (Set(0, 2, Text(A, 50)), OUT_OF_RANGE),
+            (Push(0, Text(A, 50)), FIRST_AWAY),
+            (Set(0, 0, Text(A, 50)), FIRST_AWAY),
+            (Push(0, Text(A, 50)), FIRST_AWAY),
         ]),
     },
     // While there is room for another form.
@@ -252,8 +253,8 @@ pub static CASES: [Case; 14] = [
         layout: WRITTEN_OUT_WITH_ROOM,
         count: 2,
         script: Script::Lines(&[
-            (Set(0, 0, Text("a", 44)), USED_UP),
-            (Push(0, Text("a", 44)), USED_UP),
+            (Set(0, 0, Text(A, 44)), USED_UP),
+            (Push(0, Text(A, 44)), USED_UP),
         ]),
     },
     Case {
@@ -261,13 +262,13 @@ pub static CASES: [Case; 14] = [
         layout: ONE_SEGMENT,
         count: 4,
         script: Script::Lines(&[
-            (Set(0, 4, Text("a", 54)), OUT_OF_RANGE),
-            (Push(0, Text("a", 54)), REGION_FULL),
-            (Set(0, 4, Text("a", 55)), OUT_OF_RANGE),
-            (Push(0, Text("a", 55)), CHUNK_FULL),
+            (Set(0, 4, Text(A, 54)), OUT_OF_RANGE),
+            (Push(0, Text(A, 54)), REGION_FULL),
+            (Set(0, 4, Text(A, 55)), OUT_OF_RANGE),
+            (Push(0, Text(A, 55)), CHUNK_FULL),
             (Away(0, 0), Ok(())),
-            (Set(0, 4, Text("a", 54)), OUT_OF_RANGE),
-            (Push(0, Text("a", 54)), Ok(())),
+            (Set(0, 4, Text(A, 54)), OUT_OF_RANGE),
+            (Push(0, Text(A, 54)), Ok(())),
         ]),
     },
 ];

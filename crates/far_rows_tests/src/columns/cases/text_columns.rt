@@ -1,6 +1,7 @@
 // Two columns of texts at once: worked examples.
-use crate::columns::cell::Cell;
-use crate::columns::cell::Cell::{Missing, Text};
+use crate::cell::Cell;
+use crate::cell::Cell::{Missing, Text};
+use crate::cell::Word::{A, Acute, B, Blue, D, Empty, Fig, Green, Pear, Plum, Quince, Red, X};
 use crate::columns::script::Call::{Away, FillAll, Find, Len, MayPushAll, Objects, PushAll, Set};
 use crate::columns::script::{Case, Layout, Script};
 use far_types::Refusal;
@@ -38,20 +39,20 @@ const SECOND_AWAY: Result<(), Refusal> = Err(Refusal::Absent {
     group: 0,
 });
 
-const PEAR: Cell = Text("pear", 1);
+const PEAR: Cell = Text(Pear, 1);
 
-const RED: Cell = Text("red", 1);
+const RED: Cell = Text(Red, 1);
 
-const FIG: Cell = Text("fig", 1);
+const FIG: Cell = Text(Fig, 1);
 
-const PLUM: Cell = Text("plum", 1);
+const PLUM: Cell = Text(Plum, 1);
 
-const BLUE: Cell = Text("blue", 1);
+const BLUE: Cell = Text(Blue, 1);
 
-const EMPTY: Cell = Text("", 1);
+const EMPTY: Cell = Text(Empty, 1);
 
 /// Fifty letters, whose form has 60 bytes.
-const LONG: Cell = Text("a", 50);
+const LONG: Cell = Text(A, 50);
 
 /// Objects that may not be written, in three segments.
 const UNWRITABLE: Layout = Layout {
@@ -89,7 +90,7 @@ const THREE_ONES: Layout = Layout {
 };
 
 /// What the other column gets beside texts of many letters.
-const SHORT: Cell = Text("d", 1);
+const SHORT: Cell = Text(D, 1);
 
 /// Objects that may be written once.
 const ONE_WRITE: Layout = Layout {
@@ -180,11 +181,11 @@ pub static CASES: [Case; 17] = [
         count: 0,
         script: Script::Lines(&[
             (PushAll(LONG, LONG), Ok(())),
-            (MayPushAll(Text("a", 0), LONG), CHUNK_FULL),
-            (MayPushAll(Text("a", 0), Text("a", 0)), REGION_FULL),
+            (MayPushAll(Text(A, 0), LONG), CHUNK_FULL),
+            (MayPushAll(Text(A, 0), Text(A, 0)), REGION_FULL),
             (Away(1, 0), Ok(())),
-            (MayPushAll(Text("a", 0), Text("a", 4097)), TOO_LONG),
-            (MayPushAll(Text("a", 0), LONG), SECOND_AWAY),
+            (MayPushAll(Text(A, 0), Text(A, 4097)), TOO_LONG),
+            (MayPushAll(Text(A, 0), LONG), SECOND_AWAY),
         ]),
     },
     Case {
@@ -193,7 +194,7 @@ pub static CASES: [Case; 17] = [
         count: 0,
         script: Script::Lines(&[
             (PushAll(LONG, LONG), Ok(())),
-            (MayPushAll(Text("a", 0), Text("a", 0)), USED_UP),
+            (MayPushAll(Text(A, 0), Text(A, 0)), USED_UP),
         ]),
     },
     Case {
@@ -202,7 +203,7 @@ pub static CASES: [Case; 17] = [
         count: 0,
         script: Script::Lines(&[
             (PushAll(LONG, LONG), Ok(())),
-            (MayPushAll(Text("a", 0), Text("a", 0)), Ok(())),
+            (MayPushAll(Text(A, 0), Text(A, 0)), Ok(())),
         ]),
     },
     // Row groups that begin, before an object of those before them is away, and while one is.
@@ -214,8 +215,8 @@ pub static CASES: [Case; 17] = [
             (PushAll(LONG, LONG), Ok(())),
             (MayPushAll(LONG, LONG), REGION_FULL),
             (Away(1, 0), Ok(())),
-            (MayPushAll(Text("a", 0), Text("a", 4097)), TOO_LONG),
-            (MayPushAll(Text("a", 0), Text("a", 55)), CHUNK_FULL),
+            (MayPushAll(Text(A, 0), Text(A, 4097)), TOO_LONG),
+            (MayPushAll(Text(A, 0), Text(A, 55)), CHUNK_FULL),
         ]),
     },
     Case {
@@ -251,8 +252,8 @@ pub static CASES: [Case; 17] = [
             (Len(1, 1), Ok(())),
             (Find(0, 0, LONG), Ok(())),
             (Find(1, 0, LONG), Ok(())),
-            (Set(0, 0, Text("x", 1)), Ok(())),
-            (Find(0, 0, Text("x", 1)), Ok(())),
+            (Set(0, 0, Text(X, 1)), Ok(())),
+            (Find(0, 0, Text(X, 1)), Ok(())),
         ]),
     },
     // Of two long texts more the first would find room; two short ones find it.
@@ -282,12 +283,12 @@ pub static CASES: [Case; 17] = [
         count: 0,
         script: Script::Lines(&[
             (PushAll(PEAR, LONG), Ok(())),
-            (PushAll(FIG, Text("b", 1)), CHUNK_FULL),
+            (PushAll(FIG, Text(B, 1)), CHUNK_FULL),
             (Len(0, 1), Ok(())),
             (Len(1, 1), Ok(())),
             (Find(0, 0, PEAR), Ok(())),
             (Find(1, 0, LONG), Ok(())),
-            (PushAll(PEAR, Text("a", 4097)), TOO_LONG),
+            (PushAll(PEAR, Text(A, 4097)), TOO_LONG),
         ]),
     },
     // In the first of two columns 55 letters are one too many for a form and 54 fill it, one in their place makes room, another
@@ -297,12 +298,12 @@ pub static CASES: [Case; 17] = [
         layout: FOURS,
         count: 0,
         script: Script::Lines(&[
-            (PushAll(Text("a", 55), SHORT), CHUNK_FULL),
-            (PushAll(Text("a", 54), SHORT), Ok(())),
-            (Set(0, 0, Text("a", 1)), Ok(())),
-            (PushAll(Text("a", 1), SHORT), Ok(())),
-            (PushAll(Text("a", 45), SHORT), CHUNK_FULL),
-            (PushAll(Text("a", 44), SHORT), Ok(())),
+            (PushAll(Text(A, 55), SHORT), CHUNK_FULL),
+            (PushAll(Text(A, 54), SHORT), Ok(())),
+            (Set(0, 0, Text(A, 1)), Ok(())),
+            (PushAll(Text(A, 1), SHORT), Ok(())),
+            (PushAll(Text(A, 45), SHORT), CHUNK_FULL),
+            (PushAll(Text(A, 44), SHORT), Ok(())),
             (Len(0, 3), Ok(())),
             (Len(1, 3), Ok(())),
         ]),
@@ -313,12 +314,12 @@ pub static CASES: [Case; 17] = [
         layout: FOURS,
         count: 0,
         script: Script::Lines(&[
-            (PushAll(SHORT, Text("a", 55)), CHUNK_FULL),
-            (PushAll(SHORT, Text("a", 54)), Ok(())),
-            (Set(1, 0, Text("a", 1)), Ok(())),
-            (PushAll(SHORT, Text("a", 1)), Ok(())),
-            (PushAll(SHORT, Text("a", 45)), CHUNK_FULL),
-            (PushAll(SHORT, Text("a", 44)), Ok(())),
+            (PushAll(SHORT, Text(A, 55)), CHUNK_FULL),
+            (PushAll(SHORT, Text(A, 54)), Ok(())),
+            (Set(1, 0, Text(A, 1)), Ok(())),
+            (PushAll(SHORT, Text(A, 1)), Ok(())),
+            (PushAll(SHORT, Text(A, 45)), CHUNK_FULL),
+            (PushAll(SHORT, Text(A, 44)), Ok(())),
             (Len(0, 3), Ok(())),
             (Len(1, 3), Ok(())),
         ]),
@@ -347,10 +348,10 @@ pub static CASES: [Case; 17] = [
             [Missing, Missing],
             [EMPTY, Missing],
             [FIG, RED],
-            [Text("é", 1), Missing],
+            [Text(Acute, 1), Missing],
             [PLUM, EMPTY],
             [Missing, BLUE],
-            [Text("quince", 1), Text("green", 1)],
+            [Text(Quince, 1), Text(Green, 1)],
         ]),
     },
 ];

@@ -120,6 +120,7 @@ pub fn change<S: FarStore>(
     store: &S,
     columns: &mut [IntColumn],
     size: u32,
+    k: usize,
     call: Call,
 ) -> Result<(), Refusal>
     requires are { AreVectors (number_lists S.content objects.old) columns.old }
@@ -130,9 +131,6 @@ pub fn change<S: FarStore>(
     ensures here { AreHere S.is_of (S.name store.now) objects.new }
 {
     vectors_stay_together::<Option<i64>>();
-    let Some(k) = call.column() else {
-        return Err(WRONG);
-    };
     if k >= columns.len() {
         return Err(Refusal::NoColumn);
     }

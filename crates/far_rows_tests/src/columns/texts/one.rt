@@ -82,6 +82,7 @@ pub fn change<S: FarStore>(
     store: &S,
     columns: &mut [TextColumn],
     _size: u32,
+    k: usize,
     call: Call,
     text: &Option<Text>,
 ) -> Result<(), Refusal>
@@ -93,9 +94,6 @@ pub fn change<S: FarStore>(
     ensures here { AreHere S.is_of (S.name store.now) objects.new }
 {
     columns_stay_together();
-    let Some(k) = call.column() else {
-        return Err(WRONG);
-    };
     if k >= columns.len() {
         return Err(Refusal::NoColumn);
     }

@@ -1,0 +1,134 @@
+// Cells of scripts.
+ghost use Rattle.std.specs.Prelude.{◌≡◌, ⊤};
+
+use far_types::{Refusal, Text};
+use std::alloc::{AllocError, Global};
+
+/// The letters of a text. They are named, since what knows columns by their answers alone is handed no reference, and since a
+/// proof of a test goes through each letter of its data.
+pub enum Word {
+    Empty,
+    A,
+    B,
+    C,
+    D,
+    X,
+    Acute,
+    Blue,
+    Drei,
+    Fig,
+    Four,
+    Green,
+    One,
+    Pear,
+    Plum,
+    Quince,
+    Red,
+    Three,
+    Two,
+    Uno,
+    Zwei,
+}
+
+impl Word {
+    fn letters(self) -> &'static str {
+        match self {
+            Word::Empty => "",
+            Word::A => "a",
+            Word::B => "b",
+            Word::C => "c",
+            Word::D => "d",
+            Word::X => "x",
+            Word::Acute => "é",
+            Word::Blue => "blue",
+            Word::Drei => "drei",
+            Word::Fig => "fig",
+            Word::Four => "four",
+            Word::Green => "green",
+            Word::One => "one",
+            Word::Pear => "pear",
+            Word::Plum => "plum",
+            Word::Quince => "quince",
+            Word::Red => "red",
+            Word::Three => "three",
+            Word::Two => "two",
+            Word::Uno => "uno",
+            Word::Zwei => "zwei",
+        }
+    }
+}
+
+/// What a cell has: a number, or a text, by its letters and how often they are repeated.
+pub enum Cell {
+    Missing,
+    Number(i64),
+    Text(Word, usize),
+}
+
+// A derived `clone` goes through the variants, and its proof with it; so here and in `script`.
+impl Clone for Word {
+    ghost is_clone = { λ x y. y ≡ x };
+
+    ghost is_infallible = { λ _. ⊤ };
+
+    fn clone(&self) -> Result<Word, AllocError> {
+        Ok(*self)
+    }
+}
+
+impl Copy for Word {}
+
+impl Clone for Cell {
+    ghost is_clone = { λ x y. y ≡ x };
+
+    ghost is_infallible = { λ _. ⊤ };
+
+    fn clone(&self) -> Result<Cell, AllocError> {
+        Ok(*self)
+    }
+}
+
+impl Copy for Cell {}
+
+impl Cell {
+    /// The number, where it is one.
+    pub fn number(self) -> Option<i64> {
+        match self {
+            Cell::Number(number) => Some(number),
+            _ => None,
+        }
+    }
+
+    /// The text, where it is one.
+    pub fn text(self, alloc: Global) -> Result<Option<Text>, Refusal> {
+        let Cell::Text(word, times) = self else {
+            return Ok(None);
+        };
+        let mut string = String::new(alloc);
+        for _ in 0..times {
+            string.push_str(word.letters())?;
+        }
+        Ok(Some(Text::new(string)))
+    }
+
+    /// Whether this is its text.
+    pub fn is_text(self, text: Option<&str>) -> bool {
+        match (text, self) {
+            (Some(text), Cell::Text(word, times)) => {
+                are_repeated(text.as_bytes(), word.letters().as_bytes(), times)
+            }
+            (None, Cell::Missing) => true,
+            _ => false,
+        }
+    }
+}
+
+// Whether bytes are so many times these letters.
+fn are_repeated(bytes: &[u8], letters: &[u8], times: usize) -> bool {
+    for (index, byte) in bytes.iter().enumerate() {
+        if letters.get(index % letters.len().max(1)) != Some(byte) {
+            return false;
+        }
+    }
+    bytes.len() == letters.len().saturating_mul(times)
+}
