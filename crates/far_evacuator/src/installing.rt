@@ -1,5 +1,5 @@
 // Fetches that end.
-ghost use Rattle.std.specs.Prelude.{◌≡◌, ℕ, ◌<◌, ◌↔◌, ◌⊎◌, length, false, Some, IsTrue, OnOk, OnErr, IfErr, IsErrOf, IsSomeAnd, option_map};
+ghost use Rattle.std.specs.Prelude.{◌≡◌, ℕ, List, ◌<◌, ◌↔◌, ◌⊎◌, length, false, Some, IsTrue, OnOk, OnErr, IfOk, IfErr, IsErrOf, IsSomeAnd, option_map};
 ghost use Rattle.far_log.specs.Room.{fits_in};
 ghost use Rattle.far_codec.specs.Spelling.{IsSpelled};
 ghost use Rattle.far_scopes.specs.Movement.{ChangesObject, list_of, ticket_of, AreClean, AreHere};
@@ -44,10 +44,23 @@ pub fn install<T: Elem, S: FarTickets>(
     if !objects.fits(len) {
         return Err(Refusal::RegionFull);
     }
-    // The object's ticket has these bytes as its content, so they are a far form of its kind and length. A store whose
-    // contents change would break that, and its bytes are refused here.
-    match T::unspell(alloc, &fetched.bytes)? {
-        Some(list) if list.len() == len => objects.arrive(o, &list),
+    let list = read_form(alloc, &fetched.bytes, len)?;
+    objects.arrive(o, &list)
+}
+
+// The list of so many elements whose far form these bytes are. Refused with `StaleJob` (20) where they are the form of none, else
+// with `NoMemory` (1) alone.
+//
+// An object's ticket has its form as content, so `install` meets no other bytes. A store whose contents change would break that, and
+// its bytes are refused here: nothing is asked of them.
+fn read_form<T: Elem>(alloc: Global, bytes: &[u8], len: usize) -> Result<Vec<T>, Refusal>
+    ensures list { IfOk result (λ list. (length list.items ≡ len) × IsSpelled T.in_range T.has_spelling T.spelling list.items bytes.now) }
+    ensures only { (list : List T) → length list ≡ len → IsSpelled T.in_range T.has_spelling T.spelling list bytes.now → IfOk result (λ found. found.items ≡ list) }
+    ensures stale { IsErrOf result Refusal.StaleJob → (list : List T) → length list ≡ len → ¬ IsSpelled T.in_range T.has_spelling T.spelling list bytes.now }
+    ensures refused { IfErr result (λ e. (e ≡ Refusal.StaleJob) ⊎ (e ≡ Refusal.NoMemory)) }
+{
+    match T::unspell(alloc, bytes)? {
+        Some(list) if list.len() == len => Ok(list),
         _ => Err(Refusal::StaleJob),
     }
 }

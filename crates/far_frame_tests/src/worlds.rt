@@ -1,11 +1,11 @@
 //! Lendings, jobs and offloaded builds as steps of a world, over stores that fail or are full. Scripts of the shell show how a world goes
 //! on with another store.
 use crate::answers::Due;
-use crate::call::Value::{Int, Missing};
+use crate::call::Value::{Int, Missing, Text};
 use crate::call::{Call, TOTALS};
 use crate::opening::{A_SEGMENT_EACH, NUMBERS, Opening, Plan, SOUND};
 use crate::script::{Calls, Script, answered, play_all};
-use far_types::{Kind, Refusal};
+use far_types::{Kind, Limits, Refusal};
 use std::test::Fail;
 
 /// Two full row groups of four numbers, with an aggregate of them.
@@ -43,6 +43,22 @@ const TWELVE: Opening = Opening {
         (Call::Insert(&[Int(10)]), Due::Place(9)),
         (Call::Insert(&[Int(11)]), Due::Place(10)),
         (Call::Insert(&[Int(12)]), Due::Place(11)),
+    ],
+};
+
+/// Two row groups of texts, of which the second has one.
+const TEXTS: Opening = Opening {
+    kinds: &[Kind::Text],
+    limits: Limits {
+        text_segments: 2,
+        ..A_SEGMENT_EACH
+    },
+    rows: &[
+        (Call::Insert(&[Text("bread")]), Due::Place(0)),
+        (Call::Insert(&[Missing]), Due::Place(1)),
+        (Call::Insert(&[Text("")]), Due::Place(2)),
+        (Call::Insert(&[Text("bread")]), Due::Place(3)),
+        (Call::Insert(&[Text("rye")]), Due::Place(4)),
     ],
 };
 
@@ -221,6 +237,17 @@ const FULL: Calls = &[
     (Call::Insert(&[Int(8)]), Due::Place(3)),
 ];
 
+/// A store of one content, which a text took: the second evacuation of a text is refused, and its object stays.
+const FULL_OF_TEXTS: Calls = &[
+    (Call::Evac(0, 0), Due::Job(0)),
+    (Call::Carry(0), Due::Done),
+    (Call::Commit(0), Due::Done),
+    (Call::Evac(0, 1), Due::Job(1)),
+    (Call::Carry(1), Due::Refused(Refusal::FarFull)),
+    (Call::Commit(1), Due::Refused(Refusal::StaleJob)),
+    (Call::Lend(0, 4, 5), Due::Lent(4, &[(Text("rye"), true)])),
+];
+
 /// The rows are lent in turn, so the row group behind them is proposed once it is there: of those behind the last that was lent one is.
 const STRIDE: Calls = &[
     (Call::Insert(&[Int(8)]), Due::Place(3)),
@@ -349,7 +376,7 @@ const SMALL: Plan = Plan {
     ..SOUND
 };
 
-static SCRIPTS: [Script; 11] = [
+static SCRIPTS: [Script; 12] = [
     Script {
         name: "all moved while the first put and the first get fail",
         opening: TWELVE,
@@ -409,6 +436,12 @@ static SCRIPTS: [Script; 11] = [
         opening: NUMBERS,
         plan: SMALL,
         calls: FULL,
+    },
+    Script {
+        name: "a text stays where the store is full",
+        opening: TEXTS,
+        plan: SMALL,
+        calls: FULL_OF_TEXTS,
     },
     Script {
         name: "parts are lent in turn and the next is proposed",

@@ -26,8 +26,8 @@ use std::marker::Model;
 
 /// The rows of a table under its limits, over objects that are local or away, and how many edits were accepted.
 ///
-/// An insert takes its row first, into values that are made once, when the table is opened; `coming` lends it until it is
-/// appended. Contracts see the places as the plain table has them (`specs/TableRows.antt`), and the rows that hold them.
+/// An insert takes its row first, into values that are made once, when the table is opened; `coming_ref` lends it until it
+/// is appended. Contracts see the places as the plain table has them (`specs/TableRows.antt`), and the rows that hold them.
 #[derive(Drop)]
 pub struct TableRows<S: FarTickets> {
     schema: Schema,
@@ -161,16 +161,6 @@ impl<S: FarTickets> TableRows<S> {
         // It tells what the rows are.
         let _len = self.rows.len();
         &self.rows
-    }
-
-    /// The row that was taken last, each cell lent in place. Takes no memory.
-    pub fn coming(&self) -> LentRow<'_>
-        ensures { result ≡ row_of self.now.held.slots self.now.coming }
-    {
-        // They tell how many slots there are, and that each is that of a column.
-        let _len = self.rows.len();
-        let _columns = self.schema.len();
-        self.coming.lend(self.rows.slots())
     }
 
     /// The row that was taken last, each cell lent in place once it is asked for. Takes no memory.

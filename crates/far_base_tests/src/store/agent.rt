@@ -5,7 +5,7 @@ use crate::store::script::Line::{
     Fill, FourThreads, FromShelf, Get, Put, StaysFull, TellsApart, ToShelf,
 };
 
-static CASES: [Case; 7] = [
+static CASES: [Case; 8] = [
     Case {
         name: "a store of capacity one takes one content and keeps it",
         capacity: 1,
@@ -28,6 +28,16 @@ static CASES: [Case; 7] = [
         name: "a full store takes no memory for what it refuses",
         capacity: 0,
         lines: &[StaysFull(1_000_000, 1 << 20)],
+        ..AGENT
+    },
+    Case {
+        name: "a full store with a content takes no memory for what it refuses",
+        capacity: 1,
+        lines: &[
+            Put(&[0x61], Ok(0)),
+            StaysFull(1_000_000, 1 << 20),
+            Get(Ok(&[0x61])),
+        ],
         ..AGENT
     },
     Case {
