@@ -137,8 +137,8 @@ fn add_if_long<W: Write>(output: &mut Output, writer: &mut W) -> Result<(), Shel
     Ok(())
 }
 
-/// `rows COUNT`, and the live rows in the order of their places, as the csv writer writes them. Or the refusal, if an object of them is
-/// away: it comes before any row.
+/// Prints `rows COUNT`, and the live rows in the order of their places, as the csv writer writes them. If an object of any row group is
+/// away, prints that refusal in place of all of this, also if no row of the group is alive.
 #[inline(never)]
 pub fn dump<S: FarTickets, W: Write>(
     frame: &Frame<S>,
