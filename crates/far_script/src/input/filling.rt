@@ -67,6 +67,7 @@ impl<R: Read + Drop> Input<R> {
         ensures read { OnOk result (Reads R.Read self.old [] self.new) }
         ensures fault { IfErr result (λ fault. fault ≢ ShellFault.BadStart) }
         ensures turns { IfErr result (λ fault. fault ≢ ShellFault.Turns) }
+        ensures unwritten { IfErr result (λ fault. fault ≢ ShellFault.Output) }
         ensures stopped { IfErr result (λ fault. IfInput fault ((self.new.source.bytes ≡ self.old.source.bytes) × (unread R.Read self.new ≡ unread R.Read self.old))) }
         ensures asked { self.new.source.reads ≤ self.old.source.reads }
         ensures ended { IfOk result (λ more. more ≡ false → (self.new.source.ended ≡ true) × (unread R.Read self.new ≡ unread R.Read self.old)) }

@@ -3,7 +3,7 @@ ghost use Rattle.std.specs.Prelude.{◌↔◌, ◌≡◌, ◌≢◌, ◌==◌, �
 ghost use Rattle.std.specs.Io.BufRead.{strip_last};
 ghost use Rattle.std.specs.List.{list_any};
 ghost use Rattle.far_script.specs.Faults.{IfInput};
-ghost use Rattle.far_script.specs.Flow.{Holds, Prints, Reads, Stops, TakesLine, span_of, spanned, unread};
+ghost use Rattle.far_script.specs.Flow.{Holds, Prints, Reads, Stops, TakesLine, has_failed, span_of, spanned, unread};
 ghost use Rattle.far_script.specs.Lines.{IsOneLine};
 
 use super::{Input, Line, Span};
@@ -49,6 +49,7 @@ impl<R: Read + Drop> Input<R> {
         ensures stopped { IfErr result (λ fault. IfInput fault (Stops R.Read IsOneLine self.old self.new)) }
         ensures asked { self.new.source.reads ≤ self.old.source.reads }
         ensures printed { Prints (W.contents writer.old) output.old.page [] (W.contents writer.new) output.new.page }
+        ensures failed { IfErr result (λ fault. fault ≡ ShellFault.Output → has_failed output.new ≡ true) }
         ensures end { IfOk result (λ found. IfSome found (λ end. (self.new.start ≤ end) × (end < length self.new.held) × (slice_index self.new.held end ≡ 10) × (list_any (λ c. c == 10) (slice_range self.new.held self.new.start end) ≡ false))) }
         ensures ended { IfOk result (λ found. IfNone found ((self.new.source.ended ≡ true) × (list_any (λ c. c == 10) (unread R.Read self.new) ≡ false))) }
     {
@@ -94,6 +95,7 @@ impl<R: Read + Drop> Input<R> {
         ensures stopped { IfErr result (λ fault. IfInput fault (Stops R.Read IsOneLine self.old self.new)) }
         ensures asked { self.new.source.reads ≤ self.old.source.reads }
         ensures printed { Prints (W.contents writer.old) output.old.page [] (W.contents writer.new) output.new.page }
+        ensures failed { IfErr result (λ fault. fault ≡ ShellFault.Output → has_failed output.new ≡ true) }
     {
         let found = self.seek_line(output, writer)?;
         let len = self.held.len();
@@ -121,6 +123,7 @@ impl<R: Read + Drop> Input<R> {
         ensures stopped { IfErr result (λ fault. IfInput fault (Stops R.Read (λ bytes. length bytes < count) self.old self.new)) }
         ensures asked { self.new.source.reads ≤ self.old.source.reads }
         ensures printed { Prints (W.contents writer.old) output.old.page [] (W.contents writer.new) output.new.page }
+        ensures failed { IfErr result (λ fault. fault ≡ ShellFault.Output → has_failed output.new ≡ true) }
     {
         for _ in 0..=MAX_READS {
             if self.held.len() - self.start >= count {

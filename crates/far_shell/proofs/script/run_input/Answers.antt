@@ -23,18 +23,18 @@ returns-in_err-flush-in-Ok-clause-err g c =
     (whole-unwritten _ (Gives g.R.Read fault.Output c.args.input.now new) (g.W.Write.contents c.args.writer.now) (g.W.Write.contents c.serve-outcome.new.writer) (g.W.Write.contents c.flush.new.writer)
     s.0 (coming g.R.Read new) s.1 c.serve-outcome.new.output.page c.flush.new.self.page (starts g.R.Read c.args.input.now new s.0 s.2, tt) s.3 (answered-then _ s.0 s.1 (IsSpent g.R.Read new) (coming g.R.Read new ≡ []) (spent-rest g.R.Read new) s.4) f.printed)
 
-pub returns-in_err-flush-in-Err-clause-err : goal.returns-in_err-flush-in-Err-clause-err
-returns-in_err-flush-in-Err-clause-err g c =
+pub returns-in_err-flush_at-in-Err-clause-err : goal.returns-in_err-flush_at-in-Err-clause-err
+returns-in_err-flush_at-in-Err-clause-err g c =
     let s = c.in-Err.ensures.err in
-    let f = c.in_err-flush-in-Err.ensures in
-    handed-on c.from_residual-in_err-flush-in-Err.result fault.Output _ (rw f.fault at c.from_residual-in_err-flush-in-Err.ensures.1)
-    (breaks-unwritten _ (Gives g.R.Read fault.Output c.args.input.now c.serve-outcome.new.input) (g.W.Write.contents c.args.writer.now) (g.W.Write.contents c.serve-outcome.new.writer) (g.W.Write.contents c.flush-in-Err.new.writer)
-    c.in-Err.fault s.0 s.1 s.2 c.serve-outcome.new.output.page c.flush-in-Err.new.self.page (s.3.0, tt) s.4 s.5 f.printed)
+    let f = c.in_err-flush_at-in-Err.ensures in
+    handed-on c.from_residual-in_err-flush_at-in-Err.result fault.Output _ (rw f.fault at c.from_residual-in_err-flush_at-in-Err.ensures.1)
+    (breaks-unwritten _ (Gives g.R.Read fault.Output c.args.input.now c.serve-outcome.new.input) (g.W.Write.contents c.args.writer.now) (g.W.Write.contents c.serve-outcome.new.writer) (g.W.Write.contents c.flush_at.new.writer)
+    c.in-Err.fault s.0 s.1 s.2 c.serve-outcome.new.output.page c.flush_at.new.output.page (s.3.0, tt) s.4 s.5 f.printed)
 
 pub returns-clause-err : goal.returns-clause-err
 returns-clause-err g c =
     let s = c.in-Err.ensures.err in
-    let f = c.in_ok-flush-in-Err.ensures in
-    let flushed = subst (λ t. Prints (g.W.Write.contents c.serve-outcome.new.writer) c.serve-outcome.new.output.page [] (g.W.Write.contents c.flush-in-Err.new.writer) t) f.ok f.printed in
-    breaks-written _ (Gives g.R.Read c.in-Err.fault c.args.input.now c.serve-outcome.new.input) (g.W.Write.contents c.args.writer.now) (g.W.Write.contents c.serve-outcome.new.writer) (g.W.Write.contents c.flush-in-Err.new.writer)
+    let f = c.in_ok-flush_at-in-Err.ensures in
+    let flushed = subst (λ t. Prints (g.W.Write.contents c.serve-outcome.new.writer) c.serve-outcome.new.output.page [] (g.W.Write.contents c.flush_at.new.writer) t) f.ok f.printed in
+    breaks-written _ (Gives g.R.Read c.in-Err.fault c.args.input.now c.serve-outcome.new.input) (g.W.Write.contents c.args.writer.now) (g.W.Write.contents c.serve-outcome.new.writer) (g.W.Write.contents c.flush_at.new.writer)
     c.in-Err.fault s.0 s.1 s.2 c.serve-outcome.new.output.page s.3 s.4 s.5 flushed
