@@ -51,6 +51,11 @@ pub no-input : {T : Type 0} (r : Result T ShellFault) (P : Type 0) → IfErr r (
 no-input (Ok x) P is = tt
 no-input (Err why) P is = rw is tt
 
+-- nor of the output
+pub no-output : {T : Type 0} (r : Result T ShellFault) (P : Type 0) → IfErr r (λ why. why ≡ fault.Memory) → IfErr r (λ why. why ≡ fault.Output → P)
+no-output (Ok x) P is = tt
+no-output (Err why) P is = rw is (λ e. absurd (cc e))
+
 take-all : (xs ys : List ℕ) → take (length xs) (xs ++ ys) ≡ xs
 take-all [] [] = refl
 take-all [] (y ∷ ys) = refl

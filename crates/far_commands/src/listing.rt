@@ -1,12 +1,12 @@
 // The rows of a table as text.
-ghost use Rattle.std.specs.Prelude.{◌≡◌, ◌≢◌, ℕ, List, map, drop, length, ◌++◌, OnOk, IfErr};
+ghost use Rattle.std.specs.Prelude.{◌≡◌, ◌≢◌, ℕ, List, map, drop, length, ◌++◌, true, OnOk, IfErr};
 ghost use Rattle.std.specs.Fmt.{signed_decimal};
 ghost use Rattle.far_types.specs.Lent.{lent_cell};
 ghost use Rattle.csv.specs.Writing.{default_writer, fields_text};
 ghost use Rattle.far_types.specs.Table.{rows_of};
 ghost use Rattle.far_frame.specs.State.{live};
 ghost use Rattle.far_commands.specs.Cuts.{PrintsCut};
-ghost use Rattle.far_script.specs.Flow.{Prints};
+ghost use Rattle.far_script.specs.Flow.{Prints, has_failed};
 ghost use Rattle.far_commands.specs.Listings.{IsHere, cell_text, cells_at, field_in_record, is_live, listing_of, row_line};
 
 use far_frame::{Frame, View};
@@ -127,6 +127,7 @@ fn add_if_long<W: Write>(output: &mut Output, writer: &mut W) -> Result<(), Shel
     ensures ok { OnOk result ((text : List ℕ) × Prints (W.contents writer.old) output.old.page text (W.contents writer.new) output.new.page × (output.old.reply ≡ text ++ output.new.reply)) }
     ensures err { IfErr result (λ fault. PrintsCut fault (λ said. said ≡ output.old.reply) (W.contents writer.old) output.old.page (W.contents writer.new) output.new.page) }
     ensures fault { IfErr result (λ fault. fault ≢ ShellFault.Input) }
+    ensures failed { IfErr result (λ fault. fault ≡ ShellFault.Output → has_failed output.new ≡ true) }
 {
     if output.reply.len() < GATHERED {
         return Ok(());
@@ -137,8 +138,8 @@ fn add_if_long<W: Write>(output: &mut Output, writer: &mut W) -> Result<(), Shel
     Ok(())
 }
 
-/// `rows COUNT`, and the live rows in the order of their places, as the csv writer writes them. Or the refusal, if an object of them is
-/// away: it comes before any row.
+/// Prints `rows COUNT`, and the live rows in the order of their places, as the csv writer writes them. If an object of any row group is
+/// away, prints that refusal in place of all of this, also if no row of the group is alive.
 #[inline(never)]
 pub fn dump<S: FarTickets, W: Write>(
     frame: &Frame<S>,
@@ -148,6 +149,7 @@ pub fn dump<S: FarTickets, W: Write>(
     ensures ok { OnOk result (Prints (W.contents writer.old) output.old.page (listing_of (live frame.now)) (W.contents writer.new) output.new.page) }
     ensures err { IfErr result (λ fault. PrintsCut fault (λ said. said ≡ listing_of (live frame.now)) (W.contents writer.old) output.old.page (W.contents writer.new) output.new.page) }
     ensures fault { IfErr result (λ fault. fault ≢ ShellFault.Input) }
+    ensures failed { IfErr result (λ fault. fault ≡ ShellFault.Output → has_failed output.new ≡ true) }
 {
     let view = frame.scope();
     match view.all() {

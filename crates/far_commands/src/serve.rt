@@ -4,7 +4,7 @@ ghost use Rattle.far_frame.specs.declared.step.Reply.{Reply};
 ghost use Rattle.far_frame.specs.State.{live};
 ghost use Rattle.far_commands.specs.Cuts.{Fails, FailsBy, Lists, PrintsCut};
 ghost use Rattle.far_script.specs.Faults.{IfInput};
-ghost use Rattle.far_script.specs.Flow.{Prints, Reads, Stops, Holds, spanned};
+ghost use Rattle.far_script.specs.Flow.{Prints, Reads, Stops, Holds, has_failed, spanned};
 ghost use Rattle.far_script.specs.Printing.{numbered_text};
 ghost use Rattle.far_commands.specs.Listings.{listing_of};
 ghost use Rattle.far_commands.specs.Replies.{Serves, Takes, done_text, reply_text, AnswersLine};
@@ -135,6 +135,7 @@ fn serve_load<S: FarStore, R: Read + Drop, W: Write>(
     ensures err { IfErr result (λ fault. PrintsCut fault (λ said. ⊥) (W.contents writer.old) output.old.page (W.contents writer.new) output.new.page) }
     ensures stopped { IfErr result (λ fault. IfInput fault (Stops R.Read (λ behind. FailsBy (Some (Command.Load count)) behind) input.old input.new)) }
     ensures faults { world.new.faults ≡ world.old.faults }
+    ensures failed { IfErr result (λ fault. fault ≡ ShellFault.Output → has_failed output.new ≡ true) }
     ensures asked { input.new.source.reads ≤ input.old.source.reads }
 {
     let rows = input.bytes(output, writer, count as usize)?;
@@ -156,6 +157,7 @@ fn serve_command<S: FarStore, A: Resources<S>, R: Read + Drop, W: Write>(
     ensures err { IfErr result (λ fault. PrintsCut fault (λ said. (command ≡ Command.Dump) × (said ≡ listing_of (live world.old.state))) (W.contents writer.old) output.old.page (W.contents writer.new) output.new.page) }
     ensures stopped { IfErr result (λ fault. IfInput fault (Stops R.Read (λ behind. FailsBy (Some command) behind) input.old input.new)) }
     ensures faults { world.new.faults ≤ world.old.faults + 1 }
+    ensures failed { IfErr result (λ fault. fault ≡ ShellFault.Output → has_failed output.new ≡ true) }
     ensures asked { input.new.source.reads ≤ input.old.source.reads }
 {
     match command {
@@ -201,6 +203,7 @@ pub fn answer_line<S: FarStore, A: Resources<S>, R: Read + Drop, W: Write>(
     ensures ok { OnOk result ((rows : List ℕ) × (text : List ℕ) × Reads R.Read input.old rows input.new × Prints (W.contents writer.old) output.old.page text (W.contents writer.new) output.new.page × AnswersLine S.FarTickets progress.old (spanned R.Read input.old line) rows text progress.new) }
     ensures err { IfErr result (λ fault. PrintsCut fault (λ said. Lists progress.old (spanned R.Read input.old line) said) (W.contents writer.old) output.old.page (W.contents writer.new) output.new.page) }
     ensures stopped { IfErr result (λ fault. IfInput fault (Stops R.Read (λ behind. Fails progress.old.world.state.table.schema (spanned R.Read input.old line) behind) input.old input.new)) }
+    ensures failed { IfErr result (λ fault. fault ≡ ShellFault.Output → has_failed output.new ≡ true) }
     ensures asked { input.new.source.reads ≤ input.old.source.reads }
 {
     if line.is_empty() {

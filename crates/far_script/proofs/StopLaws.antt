@@ -1,5 +1,5 @@
 -- What came of a script up to a fault.
-use Rattle.std.proofs.Common.{◌≡◌, ◌+◌, ℕ, List, [], ◌++◌, length, Option, Some, None, Result, Ok, Err, IfErr, IsErrAnd, IsOk, OnOk, append_assoc, length-append, ◌∙◌, refl, sym, ap, subst, arith}
+use Rattle.std.proofs.Common.{◌≡◌, ◌+◌, ◌≤◌, ℕ, List, [], ◌++◌, length, Option, Some, None, Result, Ok, Err, IfErr, IsErrAnd, IsOk, OnOk, append_assoc, length-append, ◌∙◌, refl, sym, ap, subst, arith}
 use Rattle.std.specs.Prelude.{IfNone, IfSome, unwrap_or}
 use Rattle.std.specs.Io.KnownBytes.{Consumes}
 use Rattle.std.specs.declared.io.traits.Read.{Ghosts}
@@ -7,7 +7,7 @@ use Rattle.far_script.specs.declared.fault.ShellFault.{ShellFault}
 use Rattle.far_script.specs.declared.fault.ShellFault.TheVariants as fault
 use Rattle.far_script.specs.declared.input.Input.{Input}
 use Rattle.far_script.specs.Faults.{IfInput}
-use Rattle.far_script.specs.Flow.{Counts, Gives, IsFrontOf, IsSpent, Reads, StartsWith, Stops, unread}
+use Rattle.far_script.specs.Flow.{Counts, Gives, IsFrontOf, IsSpent, IsUnseen, Reads, StartsWith, Stops, unread}
 use Rattle.far_script.proofs.FlowLaws.{few-bytes, spent-nothing, spent-stays}
 
 -- a fault that is handed on
@@ -123,6 +123,13 @@ module _ {R : Type 0} (read : Ghosts R) where
 
   pub stops-more : (old new : Input R read) (P Q : List ℕ → Type 0) → ((bytes : List ℕ) → P bytes → Q bytes) → Stops read P old new → Stops read Q old new
   stops-more old new P Q f s = (s.0, s.1, s.2, s.3, f s.0 s.4)
+
+  -- the end was not seen, also counted from an earlier read
+  pub unseen-later : (old mid new : Input R read) → mid.source.reads ≤ old.source.reads → IsUnseen read mid new → IsUnseen read old new
+  unseen-later old mid new low u = (u.0, λ left. let fell = u.1 left in omega (arith, low, fell))
+
+  pub if-unseen : (why : ShellFault) (old mid new : Input R read) → mid.source.reads ≤ old.source.reads → IfInput why (IsUnseen read mid new) → IfInput why (IsUnseen read old new)
+  if-unseen why old mid new low u = if-input why (IsUnseen read mid new) (IsUnseen read old new) (λ x. unseen-later old mid new low x) u
 
   -- nothing was taken
   pub stops-still : (old mid new : Input R read) (P : List ℕ → Type 0) → Reads read old [] mid → new.source.bytes ≡ mid.source.bytes → P (unread read mid) → Stops read P old new

@@ -1,5 +1,5 @@
 -- What goes through a reader and a writer, and what is held on the way.
-use Rattle.std.specs.Prelude.{◌≡◌, ℕ, ◌+◌, ◌==◌, List, [], ◌∷◌, ◌++◌, length, Option, true, false, slice_range, drop, ◌≤◌, IfSome}
+use Rattle.std.specs.Prelude.{◌≡◌, ℕ, ◌+◌, ◌==◌, Bool, List, [], ◌∷◌, ◌++◌, length, Option, true, false, slice_range, drop, ◌≤◌, ◌<◌, IfSome}
 use Rattle.std.specs.List.{list_any}
 use Rattle.std.specs.Io.BufRead.{strip_last}
 use Rattle.std.specs.Io.KnownBytes.{Appends, Consumes}
@@ -9,11 +9,16 @@ use Rattle.far_script.specs.declared.input.Input.{Input}
 use Rattle.far_script.specs.declared.input.Span.{Span}
 use Rattle.far_script.specs.declared.input.Line.{Line}
 use Rattle.far_script.specs.declared.input.Line.TheVariants as line
+use Rattle.far_script.specs.declared.output.Output.{Output}
 use Rattle.far_script.specs.Faults.{IfInput}
 
 -- a text was printed: what was held before it and the text went to the writer, or are held still
 abbrev pub Prints : Option (List ℕ) → List ℕ → List ℕ → Option (List ℕ) → List ℕ → Type 0
 Prints old held text new left = (sent : List ℕ) × Appends old new sent × (held ++ text ≡ sent ++ left)
+
+-- whether a write failed
+abbrev pub has_failed : Output → Bool
+has_failed output = output.failed
 
 -- the bytes of a script, where they are known, are these and the rest behind them; and these are within the bound
 abbrev pub IsFrontOf : Option (List ℕ) → List ℕ → List ℕ → Type 0
@@ -56,6 +61,10 @@ module _ {R : Type 0} (read : Ghosts R) where
   -- nothing comes any more
   abbrev pub IsSpent : Input R read → Type 0
   IsSpent input = (unread input ≡ []) × (input.source.ended ≡ true)
+
+  -- the end of a script was not seen, though the reader was asked, or may not be asked any more
+  abbrev pub IsUnseen : Input R read → Input R read → Type 0
+  IsUnseen old new = (new.source.ended ≡ false) × (0 < new.source.reads → new.source.reads < old.source.reads)
 
   -- what is left of a script, where it is known, is these bytes and the rest behind them
   abbrev pub StartsWith : Input R read → List ℕ → List ℕ → Type 0

@@ -48,8 +48,8 @@ impl<T: Drop> From<AllocFailed<T>> for ShellFault {
 impl ShellFault {
     ghost use Rattle.far_script.specs.Faults.{status_of};
 
-    /// The fault that ends a script if the shell itself is out of memory. Any other refusal is a reply and ends nothing, so it is
-    /// not to be passed here.
+    /// The fault of a script whose shell itself is out of memory. Takes `NoMemory` alone: any other refusal is printed as a reply, and
+    /// only a refused first line ends the script then, by `BadStart`.
     pub fn of_memory(refusal: Refusal) -> ShellFault
         requires { refusal ≡ Refusal.NoMemory }
         ensures { result ≡ ShellFault.Memory }

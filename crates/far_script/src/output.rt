@@ -1,7 +1,7 @@
 // Replies on their way out.
 ghost use Rattle.std.specs.Prelude.{◌≡◌, ◌≤◌, [], ◌++◌, length, take, true, OnOk, OnErr, IfErr, IsOk};
 ghost use Rattle.std.specs.Io.KnownBytes.{Appends, Keeps};
-ghost use Rattle.far_script.specs.Flow.{Prints};
+ghost use Rattle.far_script.specs.Flow.{Prints, has_failed};
 ghost use Rattle.far_script.specs.Printing.{refusal_text};
 
 use super::fault::ShellFault;
@@ -21,8 +21,8 @@ pub struct Output {
     pub page: Page,
     /// The reply at hand, which is added when it is whole.
     pub reply: Page,
-    /// Whether a write failed. Nothing is written after it.
-    pub failed: bool,
+    /// Whether a write failed. Nothing is written after it, and no other file can take it back.
+    failed: bool,
 }
 
 /// Writes bytes until they are all taken or a write fails, and says how many were taken.
@@ -64,7 +64,7 @@ impl Output {
     pub fn add(&mut self) -> Result<(), ShellFault>
         ensures ok { OnOk result (self.new.page ≡ self.old.page ++ self.old.reply) }
         ensures err { OnErr result (self.new.page ≡ self.old.page) }
-        ensures failed { self.new.failed ≡ self.old.failed }
+        ensures failed { has_failed self.new ≡ has_failed self.old }
         ensures memory { IfErr result (λ fault. fault ≡ ShellFault.Memory) }
     {
         match self.page.bytes(self.reply.as_slice()) {
@@ -81,6 +81,7 @@ impl Output {
         ensures printed { OnOk result (IsOk printed) }
         ensures ok { OnOk result (self.new.page ≡ self.old.page ++ self.old.reply) }
         ensures err { OnErr result (self.new.page ≡ self.old.page) }
+        ensures failed { has_failed self.new ≡ has_failed self.old }
         ensures memory { IfErr result (λ fault. fault ≡ ShellFault.Memory) }
     {
         match printed {
@@ -96,6 +97,7 @@ impl Output {
     pub fn add_text(&mut self, text: &str) -> Result<(), ShellFault>
         ensures ok { OnOk result (self.new.page ≡ self.old.page ++ text.now) }
         ensures err { OnErr result (self.new.page ≡ self.old.page) }
+        ensures failed { has_failed self.new ≡ has_failed self.old }
         ensures memory { IfErr result (λ fault. fault ≡ ShellFault.Memory) }
     {
         match self.page.text(text) {
@@ -108,6 +110,7 @@ impl Output {
     pub fn add_refusal(&mut self, refusal: &Refusal) -> Result<(), ShellFault>
         ensures ok { OnOk result (self.new.page ≡ self.old.page ++ refusal_text refusal.now) }
         ensures err { OnErr result (self.new.page ≡ self.old.page) }
+        ensures failed { has_failed self.new ≡ has_failed self.old }
         ensures memory { IfErr result (λ fault. fault ≡ ShellFault.Memory) }
     {
         self.reply.truncate(0);
@@ -125,8 +128,9 @@ impl Output {
     pub fn flush<W: Write>(&mut self, writer: &mut W) -> Result<(), ShellFault>
         ensures printed { Prints (W.contents writer.old) self.old.page [] (W.contents writer.new) self.new.page }
         ensures ok { OnOk result (self.new.page ≡ []) }
-        ensures failed { OnErr result (self.new.failed ≡ true) }
-        ensures stopped { self.old.failed ≡ true → Keeps (W.contents writer.old) (W.contents writer.new) }
+        ensures going { OnOk result (has_failed self.new ≡ has_failed self.old) }
+        ensures failed { OnErr result (has_failed self.new ≡ true) }
+        ensures stopped { has_failed self.old ≡ true → Keeps (W.contents writer.old) (W.contents writer.new) }
         ensures fault { IfErr result (λ fault. fault ≡ ShellFault.Output) }
     {
         if self.page.is_empty() {
@@ -147,6 +151,9 @@ impl Output {
     /// The same where much was gathered.
     pub fn flush_if_full<W: Write>(&mut self, writer: &mut W) -> Result<(), ShellFault>
         ensures printed { Prints (W.contents writer.old) self.old.page [] (W.contents writer.new) self.new.page }
+        ensures going { OnOk result (has_failed self.new ≡ has_failed self.old) }
+        ensures failed { OnErr result (has_failed self.new ≡ true) }
+        ensures stopped { has_failed self.old ≡ true → Keeps (W.contents writer.old) (W.contents writer.new) }
         ensures fault { IfErr result (λ fault. fault ≡ ShellFault.Output) }
     {
         if self.page.len() < FULL {

@@ -41,6 +41,11 @@ pub cut-stopped : (why : ShellFault) (sessions edits : ℕ) → (why ≡ fault.M
 cut-stopped why sessions edits (inl memory) = rw memory refl
 cut-stopped why sessions edits (inr turns) = rw turns refl
 
+-- it is no failed write
+pub stopped-unwritten : (why : ShellFault) (P : Type 0) → (why ≡ fault.Memory) ⊎ (why ≡ fault.Turns) → why ≡ fault.Output → P
+stopped-unwritten why P (inl memory) = rw memory (λ e. absurd (cc e))
+stopped-unwritten why P (inr turns) = rw turns (λ e. absurd (cc e))
+
 -- a write failed
 pub cut-unwritten : (old new : Option (List ℕ)) (sessions edits : ℕ) (text page left : List ℕ) → TellsOutcome sessions edits text → page ≡ text → Prints old page [] new left
     → (sent : List ℕ) × CutOutcome fault.Output sessions edits sent × Appends old new sent
@@ -70,12 +75,12 @@ module _ {R : Type 0} (read : Ghosts R) {S K : Type 0} (tickets : Tickets S K) w
   )
 
   -- or they were stopped
-  pub sessions-stopped : (old mid : Input R read) (u w : Option (List ℕ)) (held l left first line : List ℕ) (sessions edits : ℕ) (why : ShellFault) → held ≡ []
+  pub sessions-stopped : (old mid : Input R read) (u w : Option (List ℕ)) (held l left first line : List ℕ) (sessions edits : ℕ) (why : ShellFault) (unseen : Type 0) → held ≡ []
       → Reads read old first mid → Begins first (IsSpent read mid) line → start_in line ≡ Some (Threads sessions edits) → Prints u held [] w l → left ≡ l → (why ≡ fault.Memory) ⊎ (why ≡ fault.Turns)
-      → Breaking read tickets old mid u w left why
-  sessions-stopped old mid u w held l left first line sessions edits why empty p b asks q e (inl memory) =
+      → Breaking read tickets unseen old mid u w left why
+  sessions-stopped old mid u w held l left first line sessions edits why unseen empty p b asks q e (inl memory) =
       rw (memory, e) (first, coming read mid, [], (starts read old mid first p, tt), subst (λ (z : List ℕ). Prints u z [] w l) empty q, inl refl)
-  sessions-stopped old mid u w held l left first line sessions edits why empty p b asks q e (inr turns) =
+  sessions-stopped old mid u w held l left first line sessions edits why unseen empty p b asks q e (inr turns) =
       rw (turns, e) (
         first,
         coming read mid,

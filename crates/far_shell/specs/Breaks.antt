@@ -14,9 +14,10 @@ use Rattle.far_script.specs.Lines.{Blank, IsOneLine, without_return}
 use Rattle.far_shell.specs.Scripts.{Answers, Begins, Opens}
 use Rattle.far_shell.specs.Sessions.{AsksSessions, IsAnswered}
 
--- bytes that begin with no line that can be answered: none has its end, or the first is at fault
-abbrev pub HasNoTurn : (List ℕ → List ℕ → Type 0) → List ℕ → Type 0
-HasNoTurn fails bytes = IsOneLine bytes
+-- bytes that begin with no line that can be answered. Either none has its end, and why no more came is the first argument, or they are the
+-- last line and at fault. Or the first line is at fault
+abbrev pub HasNoTurn : Type 0 → (List ℕ → List ℕ → Type 0) → List ℕ → Type 0
+HasNoTurn unseen fails bytes = (IsOneLine bytes × (unseen ⊎ fails bytes []))
     ⊎ ((line : List ℕ) × (behind : List ℕ) × IsOneLine line × (bytes ≡ line ++ 10 ∷ behind) × fails (without_return line) behind)
 
 -- a line is no first line, and this is printed for it
@@ -48,21 +49,21 @@ abbrev pub Rejects : List ℕ → Type 0 → List ℕ → Type 0
 Rejects bytes spent text = ((line : List ℕ) × Begins bytes spent line × IsRejected line text) ⊎ (HasNoCommand bytes spent × (text ≡ []))
 
 -- no first command came: behind empty lines none has its end, or the first is no text
-pub record HasNoStart (bytes : List ℕ) : Type 0 where
+pub record HasNoStart (unseen : Type 0) (bytes : List ℕ) : Type 0 where
   pub blanks : List (List ℕ)
   pub blank : List ℕ
   pub empty : Blank blank blanks
   pub next : List ℕ
-  pub none : HasNoTurn (λ line behind. ¬ (IsUtf8 line)) next
+  pub none : HasNoTurn unseen (λ line behind. ¬ (IsUtf8 line)) next
   pub whole : bytes ≡ blank ++ next
 
 -- a fault comes before any first command was understood, and this is printed
-abbrev pub HasNotBegun : ShellFault → List ℕ → List ℕ → List ℕ → Type 0
-HasNotBegun fault.BadStart bytes rest text = Rejects bytes (rest ≡ []) text
-HasNotBegun fault.Input bytes rest text = HasNoStart bytes × (text ≡ [])
-HasNotBegun fault.Output bytes rest text = text ≡ []
-HasNotBegun fault.Memory bytes rest text = text ≡ []
-HasNotBegun fault.Turns bytes rest text = ⊥
+abbrev pub HasNotBegun : Type 0 → ShellFault → List ℕ → List ℕ → List ℕ → Type 0
+HasNotBegun unseen fault.BadStart bytes rest text = Rejects bytes (rest ≡ []) text
+HasNotBegun unseen fault.Input bytes rest text = HasNoStart unseen bytes × (text ≡ [])
+HasNotBegun unseen fault.Output bytes rest text = text ≡ []
+HasNotBegun unseen fault.Memory bytes rest text = text ≡ []
+HasNotBegun unseen fault.Turns bytes rest text = ⊥
 
 module _ {K : Type 0} where
   -- the same of a line that may have lost a carriage return
@@ -71,14 +72,15 @@ module _ {K : Type 0} where
 
   -- what follows the lines that were answered, and what is printed for it. Of an input at fault it is all that came: no whole
   -- turn. Else it is a line, and where it asks for a dump, a front of it may be printed
-  abbrev pub BreaksIn : ShellFault → At K → List ℕ → List ℕ → Type 0
-  BreaksIn fault.BadStart at next front = ⊥
-  BreaksIn fault.Input at next front = (front ≡ []) × HasNoTurn (Fails at.world.state.table.schema) next
-  BreaksIn fault.Output at next front = IsOneLine next × IsFront (ListsNext at next) front
-  BreaksIn fault.Memory at next front = IsOneLine next × IsFront (ListsNext at next) front
-  BreaksIn fault.Turns at next front = ⊥
+  abbrev pub BreaksIn : Type 0 → ShellFault → At K → List ℕ → List ℕ → Type 0
+  BreaksIn unseen fault.BadStart at next front = ⊥
+  BreaksIn unseen fault.Input at next front = (front ≡ []) × HasNoTurn unseen (Fails at.world.state.table.schema) next
+  BreaksIn unseen fault.Output at next front = IsOneLine next × IsFront (ListsNext at next) front
+  BreaksIn unseen fault.Memory at next front = IsOneLine next × IsFront (ListsNext at next) front
+  BreaksIn unseen fault.Turns at next front = ⊥
 
-module _ {S K : Type 0} (tickets : Tickets S K) where
+-- the second argument tells why no more came of a script whose end was not seen
+module _ {S K : Type 0} (tickets : Tickets S K) (unseen : Type 0) where
   -- behind the first command a script breaks off: whole lines are answered, and then no more
   pub record BreaksOff (old : At K) (why : ShellFault) (bytes text : List ℕ) : Type 0 where
     pub before : List ℕ
@@ -87,7 +89,7 @@ module _ {S K : Type 0} (tickets : Tickets S K) where
     pub answered : Answers tickets old before printed mid
     pub next : List ℕ
     pub front : List ℕ
-    pub cut : BreaksIn why mid next front
+    pub cut : BreaksIn unseen why mid next front
     pub whole : bytes ≡ before ++ next
     pub said : text ≡ printed ++ front
 
@@ -104,10 +106,10 @@ module _ {S K : Type 0} (tickets : Tickets S K) where
 
   -- what these first bytes of a script, with the rest behind them, are answered up to a fault
   abbrev pub IsBroken : ShellFault → List ℕ → List ℕ → List ℕ → Type 0
-  IsBroken fault.BadStart bytes rest text = HasNotBegun fault.BadStart bytes rest text
-  IsBroken fault.Input bytes rest text = HasNotBegun fault.Input bytes rest text ⊎ BreaksLater fault.Input bytes rest text
-  IsBroken fault.Output bytes rest text = HasNotBegun fault.Output bytes rest text ⊎ BreaksLater fault.Output bytes rest text
-  IsBroken fault.Memory bytes rest text = HasNotBegun fault.Memory bytes rest text ⊎ BreaksLater fault.Memory bytes rest text
+  IsBroken fault.BadStart bytes rest text = HasNotBegun unseen fault.BadStart bytes rest text
+  IsBroken fault.Input bytes rest text = HasNotBegun unseen fault.Input bytes rest text ⊎ BreaksLater fault.Input bytes rest text
+  IsBroken fault.Output bytes rest text = HasNotBegun unseen fault.Output bytes rest text ⊎ BreaksLater fault.Output bytes rest text
+  IsBroken fault.Memory bytes rest text = HasNotBegun unseen fault.Memory bytes rest text ⊎ BreaksLater fault.Memory bytes rest text
   IsBroken fault.Turns bytes rest text = (text ≡ []) × ((sessions : ℕ) × (edits : ℕ) × AsksSessions bytes (rest ≡ []) sessions edits)
 
   -- the same, with what the writer did not take: all was written, unless the fault is the writer's

@@ -1,8 +1,8 @@
 // Scripts, read as they are answered.
-ghost use Rattle.std.specs.Prelude.{◌≡◌, ◌⊎◌, ℕ, List, [], ◌++◌, ◌≤◌, codes, IfOk, IfErr, IfSome, OnOk, Some};
-ghost use Rattle.std.specs.Io.KnownBytes.{Appends};
+ghost use Rattle.std.specs.Prelude.{◌≡◌, ◌≢◌, ◌⊎◌, ℕ, List, [], ◌++◌, ◌≤◌, ⊤, true, codes, IfOk, IfErr, IfSome, OnOk, Some};
+ghost use Rattle.std.specs.Io.KnownBytes.{Appends, Keeps};
 ghost use Rattle.far_shell.specs.Breaks.{Breaks, BreaksOff, HasNotBegun, IsBroken, IsRefused, IsUnknown, Rejection};
-ghost use Rattle.far_script.specs.Flow.{Gives, IsFrontOf, IsSpent, Prints, Reads};
+ghost use Rattle.far_script.specs.Flow.{Gives, IsFrontOf, IsSpent, IsUnseen, Prints, Reads, has_failed};
 ghost use Rattle.far_script.specs.Openings.{IsWithin, start_in, start_of};
 ghost use Rattle.far_shell.specs.Scripts.{Begins, Ends, IsNew};
 ghost use Rattle.far_shell.specs.Sessions.{IsAnswered};
@@ -35,7 +35,8 @@ fn serve_lines<S: FarStore, A: Resources<S>, R: Read + Drop, W: Write>(
 ) -> Result<(), ShellFault>
     requires first { progress.old.number ≡ 1 }
     ensures ok { OnOk result ((bytes : List ℕ) × (text : List ℕ) × Reads R.Read input.old bytes input.new × Prints (W.contents writer.old) output.old.page text (W.contents writer.new) output.new.page × Ends S.FarTickets progress.old bytes text × IsSpent R.Read input.new) }
-    ensures err { IfErr result (λ fault. (bytes : List ℕ) × (rest : List ℕ) × (text : List ℕ) × Gives R.Read fault input.old input.new bytes rest × Prints (W.contents writer.old) output.old.page text (W.contents writer.new) output.new.page × BreaksOff S.FarTickets progress.old fault bytes text) }
+    ensures err { IfErr result (λ fault. (bytes : List ℕ) × (rest : List ℕ) × (text : List ℕ) × Gives R.Read fault input.old input.new bytes rest × Prints (W.contents writer.old) output.old.page text (W.contents writer.new) output.new.page × BreaksOff S.FarTickets (IsUnseen R.Read input.old input.new) progress.old fault bytes text) }
+    ensures failed { IfErr result (λ fault. fault ≡ ShellFault.Output → has_failed output.new ≡ true) }
     ensures asked { input.new.source.reads ≤ input.old.source.reads }
 {
     for turn in 0..MAX_LINES {
@@ -57,6 +58,7 @@ fn read_first(alloc: Global, line: &str, output: &mut Output) -> Result<FirstLin
     ensures within { IfOk result (λ first. IsWithin (start_of first)) }
     ensures quiet { OnOk result (output.new.page ≡ output.old.page) }
     ensures err { IfErr result (λ fault. (text : List ℕ) × (output.new.page ≡ output.old.page ++ text) × Rejection fault (IsUnknown line.now) text) }
+    ensures unwritten { IfErr result (λ fault. fault ≢ ShellFault.Output) }
 {
     match first_line(alloc, line) {
         Ok(Some(first)) => Ok(first),
@@ -78,7 +80,8 @@ fn first_command<R: Read + Drop, W: Write>(
     ensures ok { IfOk result (λ first. (bytes : List ℕ) × (line : List ℕ) × Reads R.Read input.old bytes input.new × Begins bytes (IsSpent R.Read input.new) line × (start_in line ≡ Some (start_of first))) }
     ensures within { IfOk result (λ first. IsWithin (start_of first)) }
     ensures printed { OnOk result (Prints (W.contents writer.old) output.old.page [] (W.contents writer.new) output.new.page) }
-    ensures err { IfErr result (λ fault. (bytes : List ℕ) × (rest : List ℕ) × (text : List ℕ) × Gives R.Read fault input.old input.new bytes rest × Prints (W.contents writer.old) output.old.page text (W.contents writer.new) output.new.page × HasNotBegun fault bytes rest text) }
+    ensures err { IfErr result (λ fault. (bytes : List ℕ) × (rest : List ℕ) × (text : List ℕ) × Gives R.Read fault input.old input.new bytes rest × Prints (W.contents writer.old) output.old.page text (W.contents writer.new) output.new.page × HasNotBegun (IsUnseen R.Read input.old input.new) fault bytes rest text) }
+    ensures failed { IfErr result (λ fault. fault ≡ ShellFault.Output → has_failed output.new ≡ true) }
     ensures asked { input.new.source.reads ≤ input.old.source.reads }
 {
     for turn in 0..MAX_LINES {
@@ -112,6 +115,7 @@ fn open<S: FarStore>(
     ensures ok { IfOk result (λ progress. IsNew (opening.kinds.items, opening.limits) progress) }
     ensures said { OnOk result (output.new.page ≡ output.old.page ++ codes "ok\n") }
     ensures err { IfErr result (λ fault. (text : List ℕ) × (output.new.page ≡ output.old.page ++ text) × Rejection fault (IsRefused (opening.kinds.items, opening.limits)) text) }
+    ensures unwritten { IfErr result (λ fault. fault ≢ ShellFault.Output) }
 {
     match open_table(alloc, store, opening) {
         Ok(world) => {
@@ -144,7 +148,8 @@ fn serve<
 ) -> Result<(), ShellFault>
     requires { output.old.page ≡ [] }
     ensures ok { OnOk result ((bytes : List ℕ) × (text : List ℕ) × Reads R.Read input.old bytes input.new × Prints (W.contents writer.old) [] text (W.contents writer.new) output.new.page × IsAnswered S.FarTickets bytes (IsSpent R.Read input.new) text) }
-    ensures err { IfErr result (λ fault. (bytes : List ℕ) × (rest : List ℕ) × (text : List ℕ) × Gives R.Read fault input.old input.new bytes rest × Prints (W.contents writer.old) [] text (W.contents writer.new) output.new.page × IsBroken S.FarTickets fault bytes rest text) }
+    ensures err { IfErr result (λ fault. (bytes : List ℕ) × (rest : List ℕ) × (text : List ℕ) × Gives R.Read fault input.old input.new bytes rest × Prints (W.contents writer.old) [] text (W.contents writer.new) output.new.page × IsBroken S.FarTickets (IsUnseen R.Read input.old input.new) fault bytes rest text) }
+    ensures failed { IfErr result (λ fault. fault ≡ ShellFault.Output → has_failed output.new ≡ true) }
     ensures asked { input.new.source.reads ≤ input.old.source.reads }
 {
     let first = first_command(rt.alloc(), input, output, writer)?;
@@ -165,19 +170,36 @@ fn serve<
     }
 }
 
+/// Writes the replies that are left where a fault ends a script. If the fault is a failed write, nothing is written.
+fn flush_at<W: Write>(
+    fault: ShellFault,
+    output: &mut Output,
+    writer: &mut W,
+) -> Result<(), ShellFault>
+    requires failed { fault ≡ ShellFault.Output → has_failed output.old ≡ true }
+    ensures printed { Prints (W.contents writer.old) output.old.page [] (W.contents writer.new) output.new.page }
+    ensures ok { OnOk result (output.new.page ≡ []) }
+    ensures stopped { fault ≡ ShellFault.Output → Keeps (W.contents writer.old) (W.contents writer.new) }
+    ensures fault { IfErr result (λ why. why ≡ ShellFault.Output) }
+{
+    output.flush(writer)
+}
+
 /// Runs a script that is lent: reads its commands and writes the replies, each before the reader is asked for more than was
 /// read. The objects of its table go to a store in this process, which takes 1,048,576 contents. Behind a first command that asks for
 /// sessions no line is read, though its bytes may have come with that command.
 ///
 /// The faults are those of `run_script`. What is left of the reads and bytes afterwards says how many were made: also of a
-/// reader whose bytes nobody knows, as standard input. At the fault `Input` all whole lines that came are answered.
+/// reader whose bytes nobody knows, as standard input. At the fault `Input` all whole lines that came are answered. If the end of the
+/// script was seen, a line or a load is no UTF-8, or the last load lacks bytes. If it was not seen, the same, or a line lacks its end;
+/// then the reader was asked for more, or no reads are left.
 pub fn run_input<T: AllocGlobal + Sync + Threads + Wait, R: Read + Drop, W: Write>(
     rt: &T,
     input: &mut Input<R>,
     writer: &mut W,
 ) -> Result<(), ShellFault>
     ensures ok { OnOk result ((bytes : List ℕ) × (text : List ℕ) × Reads R.Read input.old bytes input.new × Appends (W.contents writer.old) (W.contents writer.new) text × IsAnswered ⟦<AgentStore<&'static T> as FarTickets>⟧ bytes (IsSpent R.Read input.new) text) }
-    ensures err { IfErr result (λ fault. Breaks ⟦<AgentStore<&'static T> as FarTickets>⟧ (Gives R.Read fault input.old input.new) (W.contents writer.old) (W.contents writer.new) fault) }
+    ensures err { IfErr result (λ fault. Breaks ⟦<AgentStore<&'static T> as FarTickets>⟧ (IsUnseen R.Read input.old input.new) (Gives R.Read fault input.old input.new) (W.contents writer.old) (W.contents writer.new) fault) }
     ensures asked { input.new.source.reads ≤ input.old.source.reads }
 {
     let agents = Agents::new(rt, rt.alloc());
@@ -189,7 +211,7 @@ pub fn run_input<T: AllocGlobal + Sync + Threads + Wait, R: Read + Drop, W: Writ
             Ok(())
         }
         Err(fault) => {
-            output.flush(writer)?;
+            flush_at(fault, &mut output, writer)?;
             Err(fault)
         }
     }
@@ -209,7 +231,7 @@ pub fn run_script<T: AllocGlobal + Sync + Threads + Wait, R: Read + Drop, W: Wri
     writer: &mut W,
 ) -> Result<(), ShellFault>
     ensures ok { OnOk result ((bytes : List ℕ) × (rest : List ℕ) × (text : List ℕ) × IsFrontOf (R.remaining reader) bytes rest × Appends (W.contents writer.old) (W.contents writer.new) text × IsAnswered ⟦<AgentStore<&'static T> as FarTickets>⟧ bytes (rest ≡ []) text) }
-    ensures err { IfErr result (λ fault. Breaks ⟦<AgentStore<&'static T> as FarTickets>⟧ (λ bytes rest. IfSome (R.remaining reader) (λ script. script ≡ bytes ++ rest)) (W.contents writer.old) (W.contents writer.new) fault) }
+    ensures err { IfErr result (λ fault. Breaks ⟦<AgentStore<&'static T> as FarTickets>⟧ ⊤ (λ bytes rest. IfSome (R.remaining reader) (λ script. script ≡ bytes ++ rest)) (W.contents writer.old) (W.contents writer.new) fault) }
 {
     let mut input = Input::new(rt.alloc(), reader)?;
     run_input(rt, &mut input, writer)?;

@@ -3,7 +3,7 @@ ghost use Rattle.std.specs.Prelude.{◌≡◌, ◌≢◌, ◌==◌, ◌≤◌, �
 ghost use Rattle.std.specs.List.{list_any};
 ghost use Rattle.std.specs.Str.{IsAscii};
 ghost use Rattle.far_script.specs.Faults.{IfInput};
-ghost use Rattle.far_script.specs.Flow.{Reads, unread};
+ghost use Rattle.far_script.specs.Flow.{IsUnseen, Reads, unread};
 
 use super::Input;
 use crate::bounded::Bounded;
@@ -67,8 +67,12 @@ impl<R: Read + Drop> Input<R> {
         ensures read { OnOk result (Reads R.Read self.old [] self.new) }
         ensures fault { IfErr result (λ fault. fault ≢ ShellFault.BadStart) }
         ensures turns { IfErr result (λ fault. fault ≢ ShellFault.Turns) }
+        ensures unwritten { IfErr result (λ fault. fault ≢ ShellFault.Output) }
         ensures stopped { IfErr result (λ fault. IfInput fault ((self.new.source.bytes ≡ self.old.source.bytes) × (unread R.Read self.new ≡ unread R.Read self.old))) }
+        ensures unseen { IfErr result (λ fault. IfInput fault (IsUnseen R.Read self.old self.new)) }
         ensures asked { self.new.source.reads ≤ self.old.source.reads }
+        ensures going { IfOk result (λ more. more ≡ true → self.new.source.ended ≡ false) }
+        ensures taken { IfOk result (λ more. more ≡ true → self.new.source.reads < self.old.source.reads) }
         ensures ended { IfOk result (λ more. more ≡ false → (self.new.source.ended ≡ true) × (unread R.Read self.new ≡ unread R.Read self.old)) }
     {
         self.forget();

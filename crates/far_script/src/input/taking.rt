@@ -3,7 +3,7 @@ ghost use Rattle.std.specs.Prelude.{◌↔◌, ◌≡◌, ◌≢◌, ◌==◌, �
 ghost use Rattle.std.specs.Io.BufRead.{strip_last};
 ghost use Rattle.std.specs.List.{list_any};
 ghost use Rattle.far_script.specs.Faults.{IfInput};
-ghost use Rattle.far_script.specs.Flow.{Holds, Prints, Reads, Stops, TakesLine, span_of, spanned, unread};
+ghost use Rattle.far_script.specs.Flow.{Holds, IsUnseen, Prints, Reads, Stops, TakesLine, has_failed, span_of, spanned, unread};
 ghost use Rattle.far_script.specs.Lines.{IsOneLine};
 
 use super::{Input, Line, Span};
@@ -12,6 +12,9 @@ use crate::fault::ShellFault;
 use crate::output::Output;
 use std::io::{Read, Write};
 use std::str;
+
+/// More turns than reads are made for a script.
+const MORE_THAN_READS: u32 = MAX_READS + 1;
 
 impl Span {
     /// Whether there is no byte.
@@ -47,12 +50,14 @@ impl<R: Read + Drop> Input<R> {
         ensures fault { IfErr result (λ fault. fault ≢ ShellFault.BadStart) }
         ensures turns { IfErr result (λ fault. fault ≢ ShellFault.Turns) }
         ensures stopped { IfErr result (λ fault. IfInput fault (Stops R.Read IsOneLine self.old self.new)) }
+        ensures unseen { IfErr result (λ fault. IfInput fault (IsUnseen R.Read self.old self.new)) }
         ensures asked { self.new.source.reads ≤ self.old.source.reads }
         ensures printed { Prints (W.contents writer.old) output.old.page [] (W.contents writer.new) output.new.page }
+        ensures failed { IfErr result (λ fault. fault ≡ ShellFault.Output → has_failed output.new ≡ true) }
         ensures end { IfOk result (λ found. IfSome found (λ end. (self.new.start ≤ end) × (end < length self.new.held) × (slice_index self.new.held end ≡ 10) × (list_any (λ c. c == 10) (slice_range self.new.held self.new.start end) ≡ false))) }
         ensures ended { IfOk result (λ found. IfNone found ((self.new.source.ended ≡ true) × (list_any (λ c. c == 10) (unread R.Read self.new) ≡ false))) }
     {
-        for _ in 0..=MAX_READS {
+        for turn in 0..MORE_THAN_READS {
             if let Some(end) = self.line_end() {
                 return Ok(Some(end));
             }
@@ -92,8 +97,10 @@ impl<R: Read + Drop> Input<R> {
         ensures fault { IfErr result (λ fault. fault ≢ ShellFault.BadStart) }
         ensures turns { IfErr result (λ fault. fault ≢ ShellFault.Turns) }
         ensures stopped { IfErr result (λ fault. IfInput fault (Stops R.Read IsOneLine self.old self.new)) }
+        ensures unseen { IfErr result (λ fault. IfInput fault (IsUnseen R.Read self.old self.new)) }
         ensures asked { self.new.source.reads ≤ self.old.source.reads }
         ensures printed { Prints (W.contents writer.old) output.old.page [] (W.contents writer.new) output.new.page }
+        ensures failed { IfErr result (λ fault. fault ≡ ShellFault.Output → has_failed output.new ≡ true) }
     {
         let found = self.seek_line(output, writer)?;
         let len = self.held.len();
@@ -121,6 +128,7 @@ impl<R: Read + Drop> Input<R> {
         ensures stopped { IfErr result (λ fault. IfInput fault (Stops R.Read (λ bytes. length bytes < count) self.old self.new)) }
         ensures asked { self.new.source.reads ≤ self.old.source.reads }
         ensures printed { Prints (W.contents writer.old) output.old.page [] (W.contents writer.new) output.new.page }
+        ensures failed { IfErr result (λ fault. fault ≡ ShellFault.Output → has_failed output.new ≡ true) }
     {
         for _ in 0..=MAX_READS {
             if self.held.len() - self.start >= count {

@@ -11,7 +11,7 @@ use Rattle.far_commands.specs.Progress.{At}
 use Rattle.far_commands.specs.Cuts.{Fails, FailsBy, Lists}
 use Rattle.far_script.proofs.StopLaws.{each-fault, handed-on, if-input, stops-here, stops-more}
 use Rattle.far_script.proofs.FlowLaws.{reads-none, prints, prints-none, range-empty, range-some}
-use Rattle.far_commands.proofs.CutLaws.{cut-more, no-input, printed-err}
+use Rattle.far_commands.proofs.CutLaws.{cut-more, no-input, no-output, printed-err}
 use Rattle.far_commands.proofs.ResultLaws.{on-ok}
 use Rattle.far_commands.proofs.LineLaws.{answers-empty, answers-command}
 use Rattle.far_commands.proofs.serve.answer_line.Goals as goal
@@ -104,3 +104,6 @@ returns-in-Ok-Some-clause-stopped g c =
     each-fault c.serve_command.result _ _ (λ why stopped. if-input why _ _ (λ s. stops-more g.R.Read c.args.input.now c.serve_command.new.input (λ behind. FailsBy (Some c.in-Ok-Some.command) behind) (λ behind. Fails c.args.progress.now.world.state.table.schema line behind)
     (λ bytes f. subst (λ (at : At g.row.S-Ticket.Denot). Fails at.world.state.table.schema line bytes) c.progress.view_is (inr (subst (λ (asked : Option Command). FailsBy asked bytes) (sym some) f))) s) stopped)
     c.serve_command.ensures.stopped
+
+pub returns-in-Ok-None-clause-failed : goal.returns-in-Ok-None-clause-failed
+returns-in-Ok-None-clause-failed g c = no-output c.print_syntax.result _ c.print_syntax.ensures.memory

@@ -4,7 +4,7 @@ use Rattle.far_commands.specs.Listings.{listing_of}
 use Rattle.far_frame.specs.State.{live}
 use Rattle.far_script.proofs.FlowLaws.{prints, reads-none}
 use Rattle.far_script.proofs.StopLaws.{each-fault, not-input}
-use Rattle.far_commands.proofs.CutLaws.{cut-more, no-input, printed-err}
+use Rattle.far_commands.proofs.CutLaws.{cut-more, no-input, no-output, printed-err}
 use Rattle.far_commands.proofs.ResultLaws.{on-ok, printed-ok}
 use Rattle.far_commands.proofs.serve.serve_command.Goals as goal
 
@@ -62,3 +62,12 @@ returns-in-Recount-clause-err g c = printed-err c.add_printed-in-Recount.result 
 
 pub returns-in-Recount-clause-stopped : goal.returns-in-Recount-clause-stopped
 returns-in-Recount-clause-stopped g c = no-input c.add_printed-in-Recount.result _ c.add_printed-in-Recount.ensures.memory
+
+pub returns-in-Step-clause-failed : goal.returns-in-Step-clause-failed
+returns-in-Step-clause-failed g c = no-output c.add_printed.result _ c.add_printed.ensures.memory
+
+pub returns-in-Renew-clause-failed : goal.returns-in-Renew-clause-failed
+returns-in-Renew-clause-failed g c = no-output c.add_printed-in-Renew.result _ c.add_printed-in-Renew.ensures.memory
+
+pub returns-in-Recount-clause-failed : goal.returns-in-Recount-clause-failed
+returns-in-Recount-clause-failed g c = no-output c.add_printed-in-Recount.result _ c.add_printed-in-Recount.ensures.memory

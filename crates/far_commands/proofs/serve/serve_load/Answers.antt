@@ -6,7 +6,7 @@ use Rattle.far_script.proofs.FlowLaws.{prints, prints-nothing-then}
 use Rattle.far_script.proofs.StopLaws.{each-fault, handed-on, if-input, stops-here, stops-more, stops-then}
 use Rattle.far_commands.specs.declared.command.Command.TheVariants as command
 use Rattle.far_commands.specs.Cuts.{FailsBy}
-use Rattle.far_commands.proofs.CutLaws.{no-input, printed-err, prints-cut-more, prints-cut-none, take-front}
+use Rattle.far_commands.proofs.CutLaws.{no-input, no-output, printed-err, prints-cut-more, prints-cut-none, take-front}
 use Rattle.far_commands.proofs.ResultLaws.{printed-ok}
 use Rattle.far_commands.proofs.serve.serve_load.Goals as goal
 
@@ -62,3 +62,6 @@ returns-in_err-rows-clause-err g c =
     let why = c.in_err-rows.field-0.0 in
     handed-on c.from_residual.result why _ c.from_residual.ensures.1
     (prints-cut-none why _ (g.W.Write.contents c.args.writer.now) (g.W.Write.contents c.bytes.new.writer) c.args.output.now.page c.bytes.new.output.page e.fault e.turns c.bytes.ensures.printed)
+
+pub returns-clause-failed : goal.returns-clause-failed
+returns-clause-failed g c = no-output c.add_printed.result _ c.add_printed.ensures.memory
