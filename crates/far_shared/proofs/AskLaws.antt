@@ -1,5 +1,5 @@
 -- What four stripes answer together.
-use Rattle.std.proofs.Common.{◌≡◌, inl, inr, ℕ, List, Option, Some, IfSome, IfOk, IfErr, OnOk, Result, refl, sym, ap, subst, ◌∙◌}
+use Rattle.std.proofs.Common.{◌≡◌, inl, inr, ℕ, ◌<◌, ◌^◌, List, Option, Some, IfSome, IfOk, IfErr, OnOk, Result, refl, sym, ap, subst, ◌∙◌}
 use Rattle.std.specs.Prelude.{option_map}
 use Rattle.std.specs.declared.result.Result.TheVariants.{Ok, Err}
 use Rattle.far_types.specs.declared.answer.Answer.{Answer}
@@ -10,9 +10,10 @@ use Rattle.far_types.specs.Answers.{answer_over}
 use Rattle.far_types.specs.Table.{Table, Registered}
 use Rattle.far_history.specs.Histories.{Planned, IsLegal, replay}
 use Rattle.far_history.specs.declared.view.Entry.{Entry}
-use Rattle.far_shared.specs.Asking.{IsAnswer}
+use Rattle.far_shared.specs.Asking.{IsAnswer, AskRefusal}
 use Rattle.far_shared.specs.Fours.{AreLike, AreAlike, FourRefusal, all_rows, left_in_all, spec_at}
 use Rattle.far_shared.specs.Stripes.{IsStripe}
+use Rattle.far_shared.proofs.LeftLaws.{four-few, not-past}
 use Rattle.far_shared.proofs.NumberLaws.{if-err}
 
 -- the gauge is the same in two stripes
@@ -28,8 +29,18 @@ module _ (p : Planned) (zero one two three : List Entry) (t0 t1 t2 t3 : Table) (
   pub gauge-answers : (given : Refusal) → FourRefusal 0 t0 t1 t2 t3 given → given ≡ refusal.NoMemory
   gauge-answers given (inl none) =
       absurd (none.1 (record { second = gauge-like p zero one t0 t1 is0 is1; third = gauge-like p zero two t0 t2 is0 is2; fourth = gauge-like p zero three t0 t3 is0 is3 }))
-  gauge-answers given (inr (alike, inl left)) = absurd (left.0 gauge-left)
-  gauge-answers given (inr (alike, inr memory)) = memory.1
+  gauge-answers given (inr (alike, inl (inl left))) = absurd (left.0 gauge-left)
+  gauge-answers given (inr (alike, inl (inr memory))) = memory.1
+  gauge-answers given (inr (alike, inr past)) = past.1
+
+  -- a number of 32 bits tells how many row groups are left
+  pub four-left : (a : ℕ) → left_in_all a t0 t1 t2 t3 < 2 ^ 32
+  four-left a = four-few _ _ _ _ (is0.few a) (is1.few a) (is2.few a) (is3.few a)
+
+  stripes-refuse : (a : ℕ) (given : Refusal) → FourRefusal a t0 t1 t2 t3 given → AskRefusal a t0 t1 t2 t3 given
+  stripes-refuse a given (inl none) = inl none
+  stripes-refuse a given (inr (alike, inl left)) = inr (alike, left)
+  stripes-refuse a given (inr (alike, inr past)) = absurd (not-past (left_in_all a t0 t1 t2 t3) (four-left a) past.0)
 
   rows-left : all_rows t0 t1 t2 t3 ≡ all_rows (replay p zero) (replay p one) (replay p two) (replay p three)
   rows-left = rw is0.places (rw is1.places (rw is2.places (rw is3.places refl)))
@@ -65,6 +76,9 @@ module _ (p : Planned) (zero one two three : List Entry) (t0 t1 t2 t3 : Table) (
         by : (r : Result Answer Refusal) → IfOk r (λ answer. IfSome (spec_at t0 a) (λ (spec : Spec). answer ≡ answer_over spec (all_rows t0 t1 t2 t3))) → OnOk r (AreAlike a t0 t1 t2 t3) → IfOk r (IsAnswer p a)
         by (Ok answer) told alike = is-answer a answer l0 l1 l2 l3 alike told
         by (Err e) told alike = tt
+
+    pub refusal-told : IfErr r (FourRefusal a t0 t1 t2 t3) → IfErr r (AskRefusal a t0 t1 t2 t3)
+    refusal-told refused = if-err r (FourRefusal a t0 t1 t2 t3) (AskRefusal a t0 t1 t2 t3) (λ e h. stripes-refuse a e h) refused
 
     pub gauge-told : IfErr r (FourRefusal a t0 t1 t2 t3) → a ≡ 0 → IfErr r (λ e. e ≡ refusal.NoMemory)
     gauge-told refused first = if-err r (FourRefusal a t0 t1 t2 t3) (λ e. e ≡ refusal.NoMemory) (λ e h. gauge-answers e (subst (λ n. FourRefusal n t0 t1 t2 t3 e) first h)) refused

@@ -4,9 +4,11 @@ mod ColumnLaws
 pub mod CrossingLaws
 mod EditLaws
 mod FirstLaws
+mod LeftLaws
 mod MergeLaws
 mod NumberLaws
 mod OpenLaws
+mod PlaceLaws
 mod RegisterLaws
 mod ReportLaws
 mod StripeLaws

@@ -9,28 +9,31 @@ use Rattle.std.specs.declared.result.Result.TheVariants.{Ok, Err}
 use Rattle.far_types.specs.declared.refusal.Refusal.{Refusal}
 use Rattle.far_types.specs.declared.refusal.Refusal.TheVariants as refusal
 use Rattle.far_types.specs.declared.cell.Kind.{Kind}
+use Rattle.far_types.specs.declared.limits.Limits.{Limits}
 use Rattle.far_types.specs.declared.spec.Spec.{Spec}
 use Rattle.far_types.specs.Bounds.{spec_refusal}
 use Rattle.far_types.specs.FirstOf.{first_of}
 use Rattle.far_types.specs.MayRefuse.{MayRefuse}
-use Rattle.far_types.specs.Table.{Table, Registered, all_unbuilt, empty_table, groups}
+use Rattle.far_types.specs.Table.{Table, Registered, empty_table, groups}
 use Rattle.far_aggregates.specs.Aggregates.{joined, free_from}
 use Rattle.far_rows.specs.Jobs.{AreAt}
 use Rattle.far_table.specs.State.{State as LiveState}
-use Rattle.far_table.specs.Watching.{lowest_free, watch_refusal, with_aggregate, registered_at}
+use Rattle.far_table.specs.Watching.{lowest_free, watch_refusal, with_aggregate, registered_at, registered_now}
 use Rattle.far_frame.specs.Changes.{Accepts, Refuses}
 use Rattle.far_frame.specs.State.{State, empty_state}
 use Rattle.far_frame.specs.declared.step.Reply.{Reply}
 use Rattle.far_frame.specs.declared.step.Reply.TheVariants as reply
 use Rattle.far_frame.specs.declared.step.Step.TheVariants as step
-use Rattle.far_history.specs.Histories.{Planned}
+use Rattle.far_history.specs.Histories.{Planned, IsLegal}
 use Rattle.far_history.specs.declared.view.Entry.{Entry}
+use Rattle.far_shared.specs.Fours.{left_in}
 use Rattle.far_shared.specs.Opening.{IsEmpty}
 use Rattle.far_shared.specs.Plans.{IsPlan}
 use Rattle.far_shared.specs.Stripes.{AreRowsOf, IsStripe, first_registered}
 use Rattle.far_shared.specs.Watching.{WatchRefusal}
 use Rattle.far_shared.proofs.ColumnLaws.{empty-of}
-use Rattle.far_shared.proofs.StripeLaws.{plan-checked}
+use Rattle.far_shared.proofs.LeftLaws.{at-most, empty-few, left-registered, set-few, zero-least}
+use Rattle.far_shared.proofs.StripeLaws.{places-few, plan-checked}
 
 first-kept : {X : Type 0} (xs : List X) (a : ℕ) (x : X) → a ≢ 0 → slice_get (slice_set xs a x) 0 ≡ slice_get xs 0
 first-kept [] a x ne = refl
@@ -53,9 +56,9 @@ module _ (p : Planned) (log : List Entry) (table : Table) (is : IsStripe p log t
   number-free a free = number-in table.aggregates (first_registered p.gauge) a is.gauge is.aggregates free
 
   module _ (a : ℕ) (ne : a ≢ 0) where
-    -- whatever stands under another number than the gauge's
-    pub stripe-with : (x : Option Registered) → IsStripe p log (with_aggregate a x table)
-    stripe-with x = record {
+    -- whatever stands under another number than the gauge's, of which few row groups are left
+    pub stripe-with : (x : Option Registered) → left_in x ≤ 2 ^ 24 → IsStripe p log (with_aggregate a x table)
+    stripe-with x few = record {
       plan = is.plan;
       schema = is.schema;
       limits = is.limits;
@@ -63,11 +66,13 @@ module _ (p : Planned) (log : List Entry) (table : Table) (is : IsStripe p log t
       edits = is.edits;
       aggregates = length-set table.aggregates a x ∙ is.aggregates;
       gauge = ap joined (first-kept table.aggregates a x ne) ∙ is.gauge;
+      few = λ b. set-few table.aggregates a b x few is.few;
     }
 
-    pub stripe-registered : (spec : Spec) → IsStripe p log (registered_at a spec table)
-    stripe-registered spec =
-        let with = stripe-with (Some record { spec = spec; registration = table.registrations; unbuilt = all_unbuilt table.limits.group table.places }) in record {
+    pub stripe-registered : (spec : Spec) → IsLegal p log → IsStripe p log (registered_at a spec table)
+    stripe-registered spec legal =
+        let some : 1 ≤ table.limits.group = subst (λ (l : Limits). 1 ≤ l.group) (sym is.limits) is.plan.limits.group_low in
+        let with = stripe-with (Some (registered_now spec table)) (at-most _ _ _ (left-registered spec table some) (places-few p log table is legal)) in record {
           plan = with.plan;
           schema = with.schema;
           limits = with.limits;
@@ -75,6 +80,7 @@ module _ (p : Planned) (log : List Entry) (table : Table) (is : IsStripe p log t
           edits = with.edits;
           aggregates = with.aggregates;
           gauge = with.gauge;
+          few = with.few;
         }
 
 module _ (p : Planned) (log : List Entry) (table : Table) (is : IsStripe p log table) (kinds : List Kind) (spec : Spec) (same : kinds ≡ table.schema) where
@@ -103,6 +109,9 @@ module _ (p : Planned) (is : IsPlan p) where
       none : groups p.limits.group 0 ≡ 0
       none = no-groups p.limits.group (omega (arith, is.limits.group_low))
 
+      gauge-few : left_in (Some (registered_now p.gauge (empty_table p.schema p.limits))) ≤ 2 ^ 24
+      gauge-few = at-most _ 0 _ (left-registered p.gauge (empty_table p.schema p.limits) is.limits.group_low) (zero-least (2 ^ 24))
+
       opened : IsStripe p [] (registered_at 0 p.gauge (empty_table p.schema p.limits))
       opened = record {
         plan = is;
@@ -112,6 +121,7 @@ module _ (p : Planned) (is : IsPlan p) where
         edits = refl;
         aggregates = refl;
         gauge = ap (λ (n : ℕ). Some (registered p.gauge (replicate n true))) none;
+        few = λ b. set-few (empty_table p.schema p.limits).aggregates 0 b (Some (registered_now p.gauge (empty_table p.schema p.limits))) gauge-few (empty-few 32);
       }
         where
           registered : Spec → List Bool → Registered
@@ -155,9 +165,9 @@ module _ {K : Type 0} (content : K → List ℕ) (old new : State K) where
 
   module _ (p : Planned) (log : List Entry) (is : IsStripe p log old.table) where
     -- the stripe, once an aggregate is registered
-    pub stripe-watched : (spec : Spec) (given : Reply) → Accepts content old (step.Watch spec) given new → IsStripe p log new.table
-    stripe-watched spec given h =
-        subst (IsStripe p log) (sym (ap (λ (s : LiveState K). s.table) h.2.changed.state)) (stripe-registered p log old.table is h.0 (number-free p log old.table is h.0 h.2.changed.number).0 spec)
+    pub stripe-watched : IsLegal p log → (spec : Spec) (given : Reply) → Accepts content old (step.Watch spec) given new → IsStripe p log new.table
+    stripe-watched legal spec given h =
+        subst (IsStripe p log) (sym (ap (λ (s : LiveState K). s.table) h.2.changed.state)) (stripe-registered p log old.table is h.0 (number-free p log old.table is h.0 h.2.changed.number).0 spec legal)
 
     -- its number
     pub number-watched : (spec : Spec) (a : ℕ) → Accepts content old (step.Watch spec) (reply.Aggregate a) new → (a ≢ 0) × (a < 32)
@@ -169,15 +179,15 @@ module _ {K : Type 0} (content : K → List ℕ) (old new : State K) where
     -- the stripe, once another aggregate than the gauge is forgotten
     pub stripe-unwatched : (a : ℕ) (given : Reply) → a ≢ 0 → Accepts content old (step.Unwatch a) given new → IsStripe p log new.table
     stripe-unwatched a given ne h =
-        subst (IsStripe p log) (sym (ap (λ (s : LiveState K). s.table) h.1.changed.state)) (stripe-with p log old.table is a ne None)
+        subst (IsStripe p log) (sym (ap (λ (s : LiveState K). s.table) h.1.changed.state)) (stripe-with p log old.table is a ne None (zero-least (2 ^ 24)))
 
     -- whether it is registered or not, the stripe holds
-    pub held-watch : (is_of : K → List ℕ → Type 0) (name : List ℕ) → AreAt is_of name old.rows → (n : ℕ) → AreRowsOf p.schema n old.rows → (spec : Spec) (r : Result ℕ Refusal)
+    pub held-watch : IsLegal p log → (is_of : K → List ℕ → Type 0) (name : List ℕ) → AreAt is_of name old.rows → (n : ℕ) → AreRowsOf p.schema n old.rows → (spec : Spec) (r : Result ℕ Refusal)
         → IfOk r (λ a. Accepts content old (step.Watch spec) (reply.Aggregate a) new) → IfErr r (λ e. Refuses old (step.Watch spec) e new)
         → IsStripe p log new.table × AreAt is_of name new.rows × AreRowsOf p.schema n new.rows
-    held-watch is_of name here n of spec (Ok a) done refused =
-        (stripe-watched spec (reply.Aggregate a) done, watched-here is_of name here spec (reply.Aggregate a) done, subst (AreRowsOf p.schema n) (sym (same-rows spec (reply.Aggregate a) done)) of)
-    held-watch is_of name here n of spec (Err e) done refused =
+    held-watch legal is_of name here n of spec (Ok a) done refused =
+        (stripe-watched legal spec (reply.Aggregate a) done, watched-here is_of name here spec (reply.Aggregate a) done, subst (AreRowsOf p.schema n) (sym (same-rows spec (reply.Aggregate a) done)) of)
+    held-watch legal is_of name here n of spec (Err e) done refused =
         subst (λ (s : State K). IsStripe p log s.table × AreAt is_of name s.rows × AreRowsOf p.schema n s.rows) (sym refused.0) (is, here, of)
 
     pub held-unwatch : (is_of : K → List ℕ → Type 0) (name : List ℕ) → AreAt is_of name old.rows → (n : ℕ) → AreRowsOf p.schema n old.rows → (a : ℕ) → a ≢ 0 → (r : Result Unit Refusal)

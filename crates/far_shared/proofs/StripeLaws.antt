@@ -1,5 +1,5 @@
 -- What the table of a stripe shares with the replay of its history.
-use Rattle.std.proofs.Common.{◌≡◌, ℕ, ◌+◌, ◌<◌, ◌^◌, Bool, true, false, List, [], ◌∷◌, ◌++◌, length, Option, None, Some, refl, sym, ap, subst, ◌∙◌, arith}
+use Rattle.std.proofs.Common.{◌≡◌, ℕ, ◌+◌, ◌<◌, ◌≤◌, ◌^◌, Bool, true, false, List, [], ◌∷◌, ◌++◌, length, Option, None, Some, refl, sym, ap, subst, ◌∙◌, arith}
 use Rattle.std.proofs.lemmas.List.{length-append}
 use Rattle.std.specs.Prelude.{ℤ, cond, ◌&&◌, ◌||◌, ◌==◌, nat_lt}
 use Rattle.far_types.specs.declared.edit.Edit.{Edit}
@@ -21,8 +21,12 @@ use Rattle.far_history.specs.Rule.{entry}
 use Rattle.far_history.proofs.Histories.{replay_on-push}
 use Rattle.far_history.proofs.Legal.{schema_stays, limits_stay, few_edits}
 use Rattle.far_shared.specs.Applying.{WhyNot, place_of}
+use Rattle.far_shared.specs.Fours.{left_in}
 use Rattle.far_shared.specs.Plans.{IsPlan, is_plain, or_else}
 use Rattle.far_shared.specs.Stripes.{IsStripe, first_registered}
+use Rattle.far_shared.specs.Works.{KeepsRows}
+use Rattle.far_shared.proofs.LeftLaws.{at-most, zero-least}
+use Rattle.far_shared.proofs.PlaceLaws.{few-places}
 
 alike : (one other : Table) (e : Edit) → one.schema ≡ other.schema → one.limits ≡ other.limits → one.places ≡ other.places → one.edits ≡ other.edits → edit_refusal one e ≡ edit_refusal other e
 alike one other e schema limits places edits =
@@ -94,6 +98,12 @@ module _ (p : Planned) (log : List Entry) (table : Table) (is : IsStripe p log t
   pub few : IsLegal p log → length log < 2 ^ 63
   few legal = omega (arith, few_edits (empty_table p.schema p.limits) log legal (omega arith), is.plan.limits.edits_high)
 
+  -- and few places
+  pub places-few : IsLegal p log → length table.places ≤ 2 ^ 24
+  places-few legal =
+      subst (λ (all : List Place). length all ≤ 2 ^ 24) (sym is.places)
+      (at-most _ _ _ (few-places (empty_table p.schema p.limits) log legal (zero-least p.limits.places)) is.plan.limits.places_high)
+
   -- an edit more
   pub stripe-edited : (by : ℕ) (e : Edit) → IsStripe p (log ++ entry by e ∷ []) (edited e table)
   stripe-edited by e =
@@ -105,6 +115,7 @@ module _ (p : Planned) (log : List Entry) (table : Table) (is : IsStripe p log t
         edits = ap (λ n. n + 1) is.edits ∙ sym (ap (λ (t : Table). t.edits) pushed);
         aggregates = is.aggregates;
         gauge = is.gauge;
+        few = is.few;
       }
 
   -- what the history with an edit more leaves
@@ -130,3 +141,16 @@ module _ (p : Planned) (log : List Entry) (table : Table) (is : IsStripe p log t
       reads
       ∙ ap (λ (r : Reading). record { edits = r.edits + 1; count = (folded p.gauge now.places).0; sum = (folded p.gauge now.places).1 }) told
       ∙ gauge-edited by e now.places (ap (λ (t : Table). t.places) changed)
+
+-- a stripe whose rows are kept is such a stripe still
+pub stripe-kept : (p : Planned) (log : List Entry) (old new : Table) → KeepsRows old new → IsStripe p log old → IsStripe p log new
+stripe-kept p log old new kept is = record {
+  plan = is.plan;
+  schema = kept.schema ∙ is.schema;
+  limits = kept.limits ∙ is.limits;
+  places = kept.places ∙ is.places;
+  edits = kept.edits ∙ is.edits;
+  aggregates = kept.aggregates ∙ is.aggregates;
+  gauge = kept.built 0 (ap left_in is.gauge) ∙ is.gauge;
+  few = λ a. at-most _ _ _ (kept.fewer a) (is.few a);
+}

@@ -12,7 +12,7 @@ use Rattle.far_frame.specs.State.{State, empty_state}
 use Rattle.far_frame.specs.declared.step.Reply.{Reply}
 use Rattle.far_frame.specs.declared.step.Reply.TheVariants as reply
 use Rattle.far_frame.specs.declared.step.Step.TheVariants as step
-use Rattle.far_history.specs.Histories.{Planned}
+use Rattle.far_history.specs.Histories.{Planned, IsLegal}
 use Rattle.far_history.specs.declared.view.Entry.{Entry}
 use Rattle.far_shared.specs.Opening.{IsEmpty}
 use Rattle.far_shared.specs.Plans.{IsPlan}
@@ -39,9 +39,9 @@ module _ {K : Type 0} (content : K → List ℕ) (old new : State K) where
     still-here a (Err e) ok err = subst (λ (s : State K). AreAt is_of name s.rows) (sym err.0) here
 
   module _ (p : Planned) (log : List Entry) (is : IsStripe p log old.table) where
-    pub either-stripe : (spec : Spec) (r : Result ℕ Refusal) → IfOk r (λ a. Accepts content old (step.Watch spec) (reply.Aggregate a) new) → IfErr r (λ e. Refuses old (step.Watch spec) e new) → IsStripe p log new.table
-    either-stripe spec (Ok a) ok err = stripe-watched content old new p log is spec (reply.Aggregate a) ok
-    either-stripe spec (Err e) ok err = subst (λ (s : State K). IsStripe p log s.table) (sym err.0) is
+    pub either-stripe : IsLegal p log → (spec : Spec) (r : Result ℕ Refusal) → IfOk r (λ a. Accepts content old (step.Watch spec) (reply.Aggregate a) new) → IfErr r (λ e. Refuses old (step.Watch spec) e new) → IsStripe p log new.table
+    either-stripe legal spec (Ok a) ok err = stripe-watched content old new p log is legal spec (reply.Aggregate a) ok
+    either-stripe legal spec (Err e) ok err = subst (λ (s : State K). IsStripe p log s.table) (sym err.0) is
 
     pub still-stripe : {A : Type 0} (a : ℕ) (r : Result A Refusal) → a ≢ 0 → OnOk r (Accepts content old (step.Unwatch a) reply.Done new) → IfErr r (λ e. Refuses old (step.Unwatch a) e new) → IsStripe p log new.table
     still-stripe a (Ok done) ne ok err = stripe-unwatched content old new p log is a reply.Done ne ok

@@ -14,6 +14,7 @@ use Rattle.far_scopes.specs.Refusing.{refusal_in}
 use Rattle.far_types.specs.MayRefuse.{MayRefuse}
 use Rattle.far_types.specs.Table.{Table, Registered, is_unbuilt}
 use Rattle.far_aggregates.specs.Aggregates.{is_left, joined}
+use Rattle.far_aggregates.specs.Scans.{built_slot}
 use Rattle.far_aggregates.proofs.BuiltLaws.{none_left}
 use Rattle.far_rows.specs.declared.slot.Slot.{Slot}
 use Rattle.far_rows.specs.Rows.{Rows}
@@ -28,6 +29,7 @@ use Rattle.far_frame.specs.Jobs.{WorkOf, IsOneOf, Commits, Installs, Merges}
 use Rattle.far_frame.specs.State.{State}
 use Rattle.far_shared.specs.Fours.{left_in}
 use Rattle.far_shared.specs.Works.{KeepsRows, begun_kind}
+use Rattle.far_shared.proofs.LeftLaws.{built-fewer, no-more, set-fewer}
 use Rattle.far_shared.proofs.NumberLaws.{given-one, of-one, first-among, may-among}
 
 -- a table that is the same keeps its rows
@@ -39,6 +41,7 @@ same-keeps old new e = record {
   edits = ap (λ (t : Table). t.edits) e;
   aggregates = ap (λ (t : Table). length t.aggregates) e;
   built = λ a none. ap (λ (t : Table). aggregate_at t a) e;
+  fewer = λ a. no-more _ _ (ap (λ (t : Table). left_in (aggregate_at t a)) e);
 }
 
 -- what a call says where it is done holds of its result
@@ -67,6 +70,7 @@ scanned-keeps t b g h = record {
   edits = refl;
   aggregates = length-set t.aggregates b _;
   built = λ a none. ap joined (get-set_other t.aggregates b a _ (λ e. some-left (aggregate_at t b) g h (ap (λ n. left_in (aggregate_at t n)) (sym e) ∙ none)));
+  fewer = λ a. set-fewer t.aggregates b a (built_slot g (aggregate_at t b)) (built-fewer (aggregate_at t b) g h);
 }
 
 -- the row group of a build that is accepted was left
@@ -85,6 +89,23 @@ module _ {K : Type 0} where
   merges-keeps number_of old (work_of.Fetch fetch) new h = absurd h
   merges-keeps number_of old (work_of.Fetched fetched) new h = absurd h
   merges-keeps number_of old (work_of.Offload build) new h = absurd h
+
+  -- a job that moves an object changes no table
+  pub commits-keeps : (number_of : K → ℕ) (old : State K) (w : WorkOf K) (new : State K) → Commits number_of old w new → KeepsRows old.table new.table
+  commits-keeps number_of old (work_of.Carried carried) new h = same-keeps old.table new.table h.changed.table
+  commits-keeps number_of old (work_of.Evac evac) new h = absurd h
+  commits-keeps number_of old (work_of.Fetch fetch) new h = absurd h
+  commits-keeps number_of old (work_of.Fetched fetched) new h = absurd h
+  commits-keeps number_of old (work_of.Offload build) new h = absurd h
+  commits-keeps number_of old (work_of.Offloaded build) new h = absurd h
+
+  pub installs-keeps : (number_of : K → ℕ) (content : K → List ℕ) (old : State K) (w : WorkOf K) (new : State K) → Installs number_of old content w new → KeepsRows old.table new.table
+  installs-keeps number_of content old (work_of.Fetched fetched) new h = same-keeps old.table new.table h.changed.table
+  installs-keeps number_of content old (work_of.Evac evac) new h = absurd h
+  installs-keeps number_of content old (work_of.Carried carried) new h = absurd h
+  installs-keeps number_of content old (work_of.Fetch fetch) new h = absurd h
+  installs-keeps number_of content old (work_of.Offload build) new h = absurd h
+  installs-keeps number_of content old (work_of.Offloaded build) new h = absurd h
 
   -- a call that keeps the rows where it is done, and changes nothing where it is refused
   pub either-keeps : {A : Type 0} (r : Result A Refusal) (old new : State K) (P : A → Type 0) (Q : Refusal → Type 0) → ((x : A) → P x → KeepsRows old.table new.table) → ((e : Refusal) → Q e → new ≡ old) → IfOk r P → IfErr r Q → KeepsRows old.table new.table

@@ -1,5 +1,5 @@
 -- What four tables are asked together.
-use Rattle.std.specs.Prelude.{◌≡◌, ◌≢◌, ◌⊎◌, ℕ, ◌+◌, ◌-◌, ◌^◌, min, List, ◌++◌, Option, Some, option_map}
+use Rattle.std.specs.Prelude.{◌≡◌, ◌≢◌, ◌⊎◌, ℕ, ◌+◌, ◌≤◌, ◌^◌, List, ◌++◌, Option, Some, option_map}
 use Rattle.std.specs.Option.{option_map_or}
 use Rattle.far_types.specs.declared.answer.Answer.{Answer}
 use Rattle.far_types.specs.declared.answer.Answer.TheVariants as answer
@@ -47,9 +47,13 @@ IsOf fold.Extrema (answer.Extrema lines) = Unit {0}
 
 -- why tables with so many row groups left do not answer: some are to be built in, or memory is wanted
 abbrev pub LeftRefusal : ℕ → Refusal → Type 0
-LeftRefusal some given = ((some ≢ 0) × (given ≡ refusal.Building (min some (2 ^ 32 - 1)))) ⊎ ((some ≡ 0) × (given ≡ refusal.NoMemory))
+LeftRefusal some given = ((some ≢ 0) × (given ≡ refusal.Building some)) ⊎ ((some ≡ 0) × (given ≡ refusal.NoMemory))
 
--- why four tables do not answer: their schemas or their aggregates differ, or they are alike and row groups or memory are wanted
+-- the same of any tables: where no number of 32 bits tells how many are left, memory is wanted. Four stripes never leave so many
+abbrev pub AnyRefusal : ℕ → Refusal → Type 0
+AnyRefusal some given = LeftRefusal some given ⊎ ((2 ^ 32 ≤ some) × (given ≡ refusal.NoMemory))
+
+-- why any four tables do not answer: their schemas or their aggregates differ, or they are alike and row groups or memory are wanted
 abbrev pub FourRefusal : ℕ → Table → Table → Table → Table → Refusal → Type 0
 FourRefusal a one two three four given = ((given ≡ refusal.NoAggregate) × ¬ (AreAlike a one two three four))
-    ⊎ (AreAlike a one two three four × LeftRefusal (left_in_all a one two three four) given)
+    ⊎ (AreAlike a one two three four × AnyRefusal (left_in_all a one two three four) given)

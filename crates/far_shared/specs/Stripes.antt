@@ -1,5 +1,5 @@
 -- What lies under the lock of a stripe.
-use Rattle.std.specs.Prelude.{◌≡◌, ℕ, List, [], length, Some}
+use Rattle.std.specs.Prelude.{◌≡◌, ℕ, ◌≤◌, ◌^◌, List, [], length, Some}
 use Rattle.far_types.specs.declared.cell.Kind.{Kind}
 use Rattle.far_types.specs.declared.spec.Spec.{Spec}
 use Rattle.far_types.specs.Table.{Table, Registered}
@@ -7,6 +7,7 @@ use Rattle.far_rows.specs.Rows.{Rows}
 use Rattle.far_table.specs.Watching.{aggregate_at}
 use Rattle.far_history.specs.Histories.{Planned, replay}
 use Rattle.far_history.specs.declared.view.Entry.{Entry}
+use Rattle.far_shared.specs.Fours.{left_in}
 use Rattle.far_shared.specs.Plans.{IsPlan}
 
 -- an aggregate that was registered first of all, before there was a row: nothing was ever left to be built into it
@@ -26,7 +27,7 @@ pub record KeepsColumns {K : Type 0} (old new : Rows K) : Type 0 where
   pub texts : new.text_objects.number ≡ old.text_objects.number
 
 -- the table is the replay of the history, and its aggregate 0 is the gauge of the plan, with nothing missing. Others may be registered
--- beside it
+-- beside it, of which no more row groups are left than a table may have places
 pub record IsStripe (p : Planned) (log : List Entry) (table : Table) : Type 0 where
   pub plan : IsPlan p
   pub schema : table.schema ≡ p.schema
@@ -35,3 +36,4 @@ pub record IsStripe (p : Planned) (log : List Entry) (table : Table) : Type 0 wh
   pub edits : table.edits ≡ (replay p log).edits
   pub aggregates : length table.aggregates ≡ 32
   pub gauge : aggregate_at table 0 ≡ Some (first_registered p.gauge)
+  pub few : (a : ℕ) → left_in (aggregate_at table a) ≤ 2 ^ 24

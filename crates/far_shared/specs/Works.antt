@@ -72,7 +72,7 @@ pub record RefusedFor {A : Type 0} (columns wanted stripe : ℕ) (numbers : List
   pub known : wanted ≤ columns → stripe < 4 → RefusedBy numbers result
 
 -- the rows of a table are as before, with its schema, its limits, its edits and how many aggregates it has room for, and so is each
--- aggregate of which nothing is left
+-- aggregate of which nothing is left. Of none more is left
 pub record KeepsRows (old new : Table) : Type 0 where
   pub schema : new.schema ≡ old.schema
   pub limits : new.limits ≡ old.limits
@@ -80,6 +80,7 @@ pub record KeepsRows (old new : Table) : Type 0 where
   pub edits : new.edits ≡ old.edits
   pub aggregates : length new.aggregates ≡ length old.aggregates
   pub built : (a : ℕ) → left_in (aggregate_at old a) ≡ 0 → aggregate_at new a ≡ aggregate_at old a
+  pub fewer : (a : ℕ) → left_in (aggregate_at new a) ≤ left_in (aggregate_at old a)
 
 module _ {K : Type 0} (s : State K) where
   -- no row group of any aggregate is left

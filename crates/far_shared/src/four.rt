@@ -1,11 +1,11 @@
 // What an aggregate of four tables answers.
-ghost use Rattle.std.specs.Prelude.{◌≡◌, ◌+◌, ◌-◌, ◌^◌, ◌++◌, ◌↔◌, min, List, Some, IsTrue, IfOk, IfErr, IfSome, OnOk};
+ghost use Rattle.std.specs.Prelude.{◌≡◌, ◌+◌, ◌≤◌, ◌^◌, ◌++◌, ◌↔◌, List, Some, IsTrue, IfOk, IfErr, IfSome, IfNone, OnOk};
 ghost use Rattle.far_types.specs.declared.cell.Cell.{Cell};
 ghost use Rattle.far_types.specs.declared.spec.Fold.TheVariants as fold;
 ghost use Rattle.far_types.specs.Answers.{answer_over};
 ghost use Rattle.far_types.specs.Table.{rows_of};
 ghost use Rattle.far_table.specs.Watching.{aggregate_at};
-ghost use Rattle.far_shared.specs.Fours.{AreLike, AreAlike, left_in, left_in_all, all_rows, spec_at, IsOf, LeftRefusal, FourRefusal};
+ghost use Rattle.far_shared.specs.Fours.{AreLike, AreAlike, left_in, left_in_all, all_rows, spec_at, IsOf, AnyRefusal, FourRefusal};
 
 use crate::merging::{merge_extrema, merge_totals};
 use far_frame::Frame;
@@ -72,12 +72,16 @@ fn asked<S: FarTickets>(frame: &Frame<S>, spec: &Spec, a: u32) -> (u32, Option<A
     }
 }
 
-/// The sum of four numbers, as far as it fits. So many row groups no four tables have.
-fn sum_of(one: u32, two: u32, three: u32, four: u32) -> u32
-    ensures { result ≡ min (one + two + three + four) (2 ^ 32 - 1) }
+/// The sum of four numbers; `None` where it is no number of 32 bits. Takes no memory.
+fn sum_of(one: u32, two: u32, three: u32, four: u32) -> Option<u32>
+    ensures fits { IfSome result (λ n. n ≡ one + two + three + four) }
+    ensures past { IfNone result (2 ^ 32 ≤ one + two + three + four) }
 {
     let sum = u64::from(one) + u64::from(two) + u64::from(three) + u64::from(four);
-    sum.min(u64::from(u32::MAX)) as u32
+    if sum > u64::from(u32::MAX) {
+        return None;
+    }
+    Some(sum as u32)
 }
 
 /// The lines of an answer of totals.
@@ -137,8 +141,8 @@ fn merge(
     }
 }
 
-/// What an aggregate that four tables have under one number answers over the rows of the four. Refused with `Building` (15) exactly
-/// where row groups are left, else with `NoMemory` (1) alone.
+/// What an aggregate that four tables have under one number answers over the rows of the four. Refused with `Building` (15) and how many
+/// row groups are left exactly where that is not 0 and a number of 32 bits, else with `NoMemory` (1) alone.
 fn answer_alike<S: FarTickets>(
     alloc: Global,
     spec: &Spec,
@@ -154,13 +158,15 @@ fn answer_alike<S: FarTickets>(
     requires four { spec_at four.now.table a ≡ Some spec.now }
     ensures answer { IfOk result (λ answer. answer ≡ answer_over spec.now (all_rows one.now.table two.now.table three.now.table four.now.table)) }
     ensures built { OnOk result (left_in_all a one.now.table two.now.table three.now.table four.now.table ≡ 0) }
-    ensures refused { IfErr result (LeftRefusal (left_in_all a one.now.table two.now.table three.now.table four.now.table)) }
+    ensures refused { IfErr result (AnyRefusal (left_in_all a one.now.table two.now.table three.now.table four.now.table)) }
 {
     let (left_one, answer_one) = asked(one, spec, a);
     let (left_two, answer_two) = asked(two, spec, a);
     let (left_three, answer_three) = asked(three, spec, a);
     let (left_four, answer_four) = asked(four, spec, a);
-    let left = sum_of(left_one, left_two, left_three, left_four);
+    let Some(left) = sum_of(left_one, left_two, left_three, left_four) else {
+        return Err(Refusal::NoMemory);
+    };
     if left != 0 {
         return Err(Refusal::Building(left));
     }
@@ -175,7 +181,8 @@ fn answer_alike<S: FarTickets>(
 /// What an aggregate that four tables have under one number answers over the rows of the four, one table after the other.
 ///
 /// Refused with `NoAggregate` (12) exactly where one of them lacks the aggregate, or the four schemas or the four aggregates differ;
-/// else with `Building` (15) and how many row groups are left in all four exactly where that is not 0; else with `NoMemory` (1) alone.
+/// else with `Building` (15) and how many row groups are left in all four exactly where that is not 0 and below 2^32, as it always is in four
+/// stripes; else with `NoMemory` (1) alone.
 pub fn answer_four<S: FarTickets>(
     alloc: Global,
     one: &Frame<S>,

@@ -1,5 +1,5 @@
 // How a shared table begins.
-ghost use Rattle.std.specs.Prelude.{◌≡◌, ◌⊎◌, [], length, IfOk, IfErr, IsErrOf, IsOkAnd};
+ghost use Rattle.std.specs.Prelude.{◌≡◌, ◌⊎◌, [], length, IfOk, IfErr, IsErr, IsErrOf, IsOk, IsOkAnd, OnErr};
 ghost use Rattle.far_sessions.specs.Known.{newcomers};
 ghost use Rattle.far_shared.specs.Opening.{AreNamed, IsEmpty};
 
@@ -52,7 +52,7 @@ fn all_four<T: Drop>(
     })
 }
 
-/// What is made of two things, or the first refusal.
+/// What is made of two things. Refused as the first was, else with `NoMemory` (1) where the second found no memory, and else not.
 ///
 /// It knows nothing of what they are, as `all_four` does not.
 fn both<A: Drop, B: Drop, T, F: FnOnce(A, B) -> T + Drop>(
@@ -63,6 +63,7 @@ fn both<A: Drop, B: Drop, T, F: FnOnce(A, B) -> T + Drop>(
     requires { IfOk one (λ x. IfOk other (λ y. F.pre make x y)) }
     ensures made { IfOk result (λ made. IsOkAnd one (λ x. IsOkAnd other (λ y. F.post make x y made))) }
     ensures memory { IfErr one (λ e. e ≡ Refusal.NoMemory) → IfErr result (λ e. e ≡ Refusal.NoMemory) }
+    ensures refused { IfErr result (λ e. IsErrOf one e ⊎ (IsOk one × IsErr other × (e ≡ Refusal.NoMemory))) }
 {
     match (one, other) {
         (Ok(one), Ok(other)) => Ok(make(one, other)),
@@ -71,11 +72,12 @@ fn both<A: Drop, B: Drop, T, F: FnOnce(A, B) -> T + Drop>(
     }
 }
 
-/// Both, or the refusal.
+/// One thing beside another. Refused with `NoMemory` (1) exactly where the other found no memory.
 fn beside<A: Drop, B: Drop>(one: A, other: Result<B, AllocError>) -> Result<(A, B), Refusal>
     ensures one { IfOk result (λ both. both.0 ≡ one) }
     ensures other { IfOk result (λ both. IsOkAnd other (λ y. y ≡ both.1)) }
     ensures memory { IfErr result (λ e. e ≡ Refusal.NoMemory) }
+    ensures refused { OnErr result (IsErr other) }
 {
     match other {
         Ok(other) => Ok((one, other)),

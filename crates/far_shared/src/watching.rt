@@ -44,6 +44,8 @@ impl<N: Naming, B: Site, S: FarTickets, const I: usize> Stripe<N, B, S, I> {
         ensures history { self.new ≡ self.old }
         ensures refused { IfErr result (WatchRefusal N.plan.schema spec) }
     {
+        // For the proof: a legal history leaves few places, so few row groups are left.
+        self.keeper.known();
         self.frame.watch(spec)
     }
 

@@ -131,6 +131,7 @@ pub(crate) fn scan_on<S: FarTickets>(
 ) -> Result<(), Refusal>
     ensures scanned { OnOk result (Accepts S.content frame.old (step.ScanGroup aggregate group) reply.Done frame.new) }
     ensures refused { IfErr result (λ e. Refuses frame.old (step.ScanGroup aggregate group) e frame.new) }
+    ensures err { OnErr result (frame.new ≡ frame.old) }
     ensures numbers { RefusedBy (12 ∷ 14 ∷ 20 ∷ 16 ∷ 1 ∷ []) result }
     ensures keeps { KeepsRows frame.old.table frame.new.table }
     ensures rows { frame.new.rows ≡ frame.old.rows }

@@ -1,4 +1,4 @@
-use Rattle.far_shared.proofs.AskLaws.{answers-told, gauge-told}
+use Rattle.far_shared.proofs.AskLaws.{answers-told, gauge-told, refusal-told}
 use Rattle.far_shared.proofs.asking.answer_stripes.Goals as goal
 
 pub returns-clause-answer : goal.returns-clause-answer
@@ -32,7 +32,8 @@ returns-clause-asked g c =
       alike = told.alike;
       built = told.built;
       answer = told.answer;
-      refused = told.refused;
+      refused = refusal-told g.N.Naming.plan zero.keeper one.keeper two.keeper three.keeper zero.frame.table one.frame.table two.frame.table three.frame.table
+          c.zero.invariant.0 c.one.invariant.0 c.two.invariant.0 c.three.invariant.0 c.args.a c.answer_four.result told.refused;
     }
 
 pub returns-clause-gauge : goal.returns-clause-gauge

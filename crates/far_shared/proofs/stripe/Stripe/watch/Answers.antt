@@ -10,5 +10,5 @@ returns-clause-refused g c =
 pub invariant_of-self : goal.invariant_of-self
 invariant_of-self g c =
     let s = c.self.inside in
-    held-watch g.S.FarTickets.content s.frame c.watch.new.self g.N.Naming.plan s.keeper c.self.invariant.0 g.S.FarTickets.is_of g.B.Site.store c.self.invariant.1 _ c.self.invariant.2
+    held-watch g.S.FarTickets.content s.frame c.watch.new.self g.N.Naming.plan s.keeper c.self.invariant.0 c.known.ensures.legal g.S.FarTickets.is_of g.B.Site.store c.self.invariant.1 _ c.self.invariant.2
     c.args.spec c.watch.result c.watch.ensures.ok c.watch.ensures.err

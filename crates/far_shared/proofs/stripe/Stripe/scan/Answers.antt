@@ -1,0 +1,14 @@
+use Rattle.std.proofs.Common.{sym, subst}
+use Rattle.far_rows.specs.Jobs.{AreAt}
+use Rattle.far_shared.proofs.ColumnLaws.{same-columns, still-of}
+use Rattle.far_shared.proofs.StripeLaws.{stripe-kept}
+use Rattle.far_shared.proofs.stripe.Stripe.scan.Goals as goal
+
+pub invariant_of-self : goal.invariant_of-self
+invariant_of-self g c =
+    let s = c.self.inside in
+    let done = c.scan_on.ensures in (
+      stripe-kept g.N.Naming.plan s.keeper s.frame.table c.scan_on.new.frame.table done.keeps c.self.invariant.0,
+      subst (AreAt g.S.FarTickets.is_of g.B.Site.store) (sym done.rows) c.self.invariant.1,
+      still-of g.N.Naming.plan.schema _ _ _ (same-columns _ _ done.rows) c.self.invariant.2,
+    )

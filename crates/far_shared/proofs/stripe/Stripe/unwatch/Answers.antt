@@ -1,0 +1,8 @@
+use Rattle.far_shared.proofs.RegisterLaws.{held-unwatch}
+use Rattle.far_shared.proofs.stripe.Stripe.unwatch.Goals as goal
+
+pub invariant_of-self : goal.invariant_of-self
+invariant_of-self g c =
+    let s = c.self.inside in
+    held-unwatch g.S.FarTickets.content s.frame c.unwatch-done.new.self g.N.Naming.plan s.keeper c.self.invariant.0 g.S.FarTickets.is_of g.B.Site.store c.self.invariant.1 _ c.self.invariant.2
+    c.args.a c.requires c.unwatch-done.result c.unwatch-done.ensures.ok c.unwatch-done.ensures.err
