@@ -324,7 +324,6 @@ impl Aggregates {
             self.slots.as_mut_slice(),
             group,
             pending.group,
-            pending.came.as_slice(),
             pending.gone.as_slice(),
         );
         self.end(pending);

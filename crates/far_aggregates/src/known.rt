@@ -5,7 +5,7 @@ ghost use Rattle.far_types.specs.Changes.{widened, with_seen};
 ghost use Rattle.far_extrema.specs.Live.{all_groups, group_at};
 ghost use Rattle.far_aggregates.specs.Known.{IsNoted};
 
-use far_extrema::{GroupExtrema, LiveExtrema, Span};
+use far_extrema::{GroupExtrema, LiveExtrema, RowsLeft, Span};
 use far_types::{Answer, Key, Refusal};
 use std::alloc::Global;
 use std::marker::Model;
@@ -169,19 +169,6 @@ impl KnownExtrema {
         }
     }
 
-    /// As `LiveExtrema::span`.
-    #[inline(always)]
-    pub fn span(&self, group: u32, key: &Option<Key>) -> Option<Span>
-        ensures { result ≡ fin.get (group_at self.now.groups group) key.now }
-    {
-        if key.is_none() {
-            if let Some(Some((least, greatest))) = self.plain.get(group as usize) {
-                return Some((*least, *greatest));
-            }
-        }
-        self.live.span(group, key)
-    }
-
     /// As `LiveExtrema::put_span`.
     pub fn put_span(&mut self, group: u32, key: &Option<Key>, span: Option<Span>)
         requires room { group < length self.old.groups }
@@ -191,6 +178,37 @@ impl KnownExtrema {
         self.live.put_span(group, key, span);
         if key.is_none() {
             note(&mut self.plain, group as usize, span);
+        }
+    }
+
+    /// As `shrink`, for a row under no key: where what stands there is noted, a value strictly within that costs no look-up.
+    fn shrink_plain<R: RowsLeft>(&mut self, group: u32, value: i64, rows: &R)
+        requires room { group < length self.old.groups }
+        requires at_hand { R.at_hand rows.now }
+        requires stood { fin.get (group_at self.old.groups group) None ≡ Some (widened value (R.extremes rows.now)) }
+        ensures { self.new ≡ record self.old { groups = slice_set self.old.groups group (put_span (group_at self.old.groups group) None (R.extremes rows.now)) } }
+    {
+        if let Some(span) = noted_in(self.plain.as_slice(), group as usize) {
+            if span.0 < value && value < span.1 {
+                return;
+            }
+        }
+        let left = self.live.shrink(group, &None, value, rows);
+        note(&mut self.plain, group as usize, left);
+    }
+
+    /// As `LiveExtrema::shrink`.
+    pub fn shrink<R: RowsLeft>(&mut self, group: u32, key: &Option<Key>, value: i64, rows: &R)
+        requires room { group < length self.old.groups }
+        requires at_hand { R.at_hand rows.now }
+        requires stood { fin.get (group_at self.old.groups group) key.now ≡ Some (widened value (R.extremes rows.now)) }
+        ensures { self.new ≡ record self.old { groups = slice_set self.old.groups group (put_span (group_at self.old.groups group) key.now (R.extremes rows.now)) } }
+    {
+        match key {
+            None => self.shrink_plain(group, value, rows),
+            Some(_) => {
+                self.live.shrink(group, key, value, rows);
+            }
         }
     }
 

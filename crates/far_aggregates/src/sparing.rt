@@ -22,15 +22,6 @@ fn are_same(key: &Option<Key>, other: &Option<Key>) -> bool
     }
 }
 
-/// Whether what stands under the key of a pair that is to go was looked up for a pair that came: for one of the same key,
-/// which occurred before. Then the pair goes only since its value is the least or the greatest.
-pub fn was_looked_up(come: Option<&Option<Coming>>, key: &Option<Key>) -> bool {
-    if let Some(Some(come)) = come {
-        return come.stood.is_some() && are_same(&come.pair.0, key);
-    }
-    false
-}
-
 /// What stands under a key with a value more.
 fn wide(span: Span, pair: &Pair) -> Span
     ensures { result ≡ widened pair.now.1 (Some span) }
