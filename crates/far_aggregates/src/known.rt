@@ -77,6 +77,7 @@ fn see_noted(
     ensures stood { IfOk result (λ stood. stood ≡ fin.get (group_at live.old.groups group) None) }
     ensures ok { OnOk result (live.new ≡ record live.old { groups = slice_set live.old.groups group (with_seen (group_at live.old.groups group) (None, value)) }) }
     ensures err { OnErr result (live.new ≡ live.old) }
+    ensures only_new { OnErr result (fin.get (group_at live.old.groups group) None ≡ None) }
     ensures memory { IfErr result (λ e. e ≡ Refusal.NoMemory) }
 {
     match noted {
@@ -140,6 +141,7 @@ impl KnownExtrema {
         ensures stood { IfOk result (λ stood. stood ≡ fin.get (group_at self.old.groups group) None) }
         ensures ok { OnOk result (self.new ≡ record self.old { groups = slice_set self.old.groups group (with_seen (group_at self.old.groups group) (None, value)) }) }
         ensures err { OnErr result (self.new ≡ self.old) }
+        ensures only_new { OnErr result (fin.get (group_at self.old.groups group) None ≡ None) }
         ensures memory { IfErr result (λ e. e ≡ Refusal.NoMemory) }
     {
         make_place(&mut self.plain, group as usize);
@@ -161,6 +163,7 @@ impl KnownExtrema {
         ensures stood { IfOk result (λ stood. stood ≡ fin.get (group_at self.old.groups group) key.now) }
         ensures ok { OnOk result (self.new ≡ record self.old { groups = slice_set self.old.groups group (with_seen (group_at self.old.groups group) (key.now, value)) }) }
         ensures err { OnErr result (self.new ≡ self.old) }
+        ensures only_new { OnErr result (fin.get (group_at self.old.groups group) key.now ≡ None) }
         ensures memory { IfErr result (λ e. e ≡ Refusal.NoMemory) }
     {
         match key {
