@@ -1,5 +1,5 @@
 // What a row gives to each aggregate.
-ghost use Rattle.std.specs.Prelude.{◌≡◌, ◌<◌, ◌/◌, ◌++◌, ◌∷◌, [], IfOk, OnOk, IfErr, map};
+ghost use Rattle.std.specs.Prelude.{◌≡◌, ◌<◌, ◌/◌, ◌++◌, ◌∷◌, [], IfOk, OnOk, IfErr, map, vec_len, vec_capacity};
 ghost use Rattle.far_types.specs.Lent.{lent_pair};
 ghost use Rattle.far_aggregates.specs.Changes.{change_of, row_gives};
 
@@ -30,7 +30,8 @@ pub fn give<'a, R: LendCells>(
     }
 }
 
-/// What a row that is alive at a place gives to an aggregate stands behind what it gives to those before.
+/// What a row that is alive at a place gives to an aggregate stands behind what it gives to those before, for which the list
+/// has a place.
 #[inline(always)]
 fn change_next<R: LendCells>(
     spare: &mut SpareKeys,
@@ -43,13 +44,21 @@ fn change_next<R: LendCells>(
 ) -> Result<(), Refusal>
     requires size { 0 < size }
     requires group { group ≡ place / size }
+    requires place { vec_len changes.old < vec_capacity changes.old }
+    ensures capacity { vec_capacity changes.new ≡ vec_capacity changes.old }
     ensures ok { OnOk result (changes.new.items ≡ changes.old.items ++ change_of size place (row_gives (R.cells row.now)) slot.now ∷ []) }
     ensures memory { IfErr result (λ e. e ≡ Refusal.NoMemory) }
 {
     match give(slot, row, size, place, group) {
-        PairRef::Nothing => changes.push(None)?,
-        PairRef::Under { number, value } => changes.push(Some((number_key(number), value)))?,
-        PairRef::UnderText { text, value } => changes.push(Some((spare.key_of(text)?, value)))?,
+        PairRef::Nothing => changes.push_reserved(None),
+        PairRef::Under { number, value } => {
+            let pair = (number_key(number), value);
+            changes.push_reserved(Some(pair));
+        }
+        PairRef::UnderText { text, value } => {
+            let pair = (spare.key_of(text)?, value);
+            changes.push_reserved(Some(pair));
+        }
     }
     Ok(())
 }

@@ -1,5 +1,5 @@
 // Live extrema, with what stands under no key beside them.
-ghost use Rattle.std.specs.Prelude.{◌≡◌, ◌≢◌, ◌-◌, ◌<◌, [], None, Some, Err, OnOk, OnErr, IfOk, IfErr, IfSome, length, slice_get, slice_set};
+ghost use Rattle.std.specs.Prelude.{◌≡◌, ◌≢◌, ◌-◌, ◌<◌, [], None, Some, Err, OnOk, OnErr, IfOk, IfErr, IfSome, IsTrue, ℤ, ◌≤ℤ◌, length, slice_get, slice_set};
 ghost use Rattle.std.specs.FinMap as fin;
 ghost use Rattle.far_types.specs.Changes.{widened, with_seen};
 ghost use Rattle.far_extrema.specs.Live.{all_groups, group_at};
@@ -62,6 +62,17 @@ fn noted_in(plain: &[Option<Span>], group: usize) -> Option<Span>
     match plain.get(group) {
         Some(Some((least, greatest))) => Some((*least, *greatest)),
         _ => None,
+    }
+}
+
+/// Whether a value is within a span, if there is one.
+#[inline(always)]
+fn is_within(value: i64, span: Option<Span>) -> bool
+    ensures { IsTrue result → (s : ℤ × ℤ) × (span ≡ Some s) × (s.0 ≤ℤ value) × (value ≤ℤ s.1) }
+{
+    match span {
+        Some((least, greatest)) => least <= value && value <= greatest,
+        None => false,
     }
 }
 
@@ -135,7 +146,8 @@ impl KnownExtrema {
         self.live.make_room_for(group, extrema)
     }
 
-    /// As `see_under`, for a row under no key: where what stands there is noted, a value within that costs no look-up.
+    /// As `see_under`, for a row under no key: where what stands there is noted, a value within that costs no look-up, and
+    /// nothing is written.
     fn see_plain(&mut self, group: u32, value: i64) -> Result<Option<Span>, Refusal>
         requires { group < length self.old.groups }
         ensures stood { IfOk result (λ stood. stood ≡ fin.get (group_at self.old.groups group) None) }
@@ -144,8 +156,11 @@ impl KnownExtrema {
         ensures only_new { OnErr result (fin.get (group_at self.old.groups group) None ≡ None) }
         ensures memory { IfErr result (λ e. e ≡ Refusal.NoMemory) }
     {
-        make_place(&mut self.plain, group as usize);
         let noted = noted_in(self.plain.as_slice(), group as usize);
+        if is_within(value, noted) {
+            return Ok(noted);
+        }
+        make_place(&mut self.plain, group as usize);
         let stood = see_noted(&mut self.live, group, value, noted)?;
         note(&mut self.plain, group as usize, Some(wider(value, stood)));
         Ok(stood)

@@ -52,23 +52,21 @@ impl SpareKeys {
     pub fn keep_came(&mut self, came: &mut Vec<Option<Coming>>)
         ensures { came.new.items ≡ [] }
     {
-        for come in came.iter_mut() {
-            if let Some(Coming { pair, .. }) = come.take() {
+        while let Some(come) = came.pop() {
+            if let Some(Coming { pair, .. }) = come {
                 self.keep(pair);
             }
         }
-        came.clear();
     }
 
     /// Empties the list of what went in an edit that has ended, and keeps its text keys. Takes no memory.
     pub fn keep_gone(&mut self, gone: &mut Vec<Option<Pair>>)
         ensures { gone.new.items ≡ [] }
     {
-        for pair in gone.iter_mut() {
-            if let Some(pair) = pair.take() {
+        while let Some(pair) = gone.pop() {
+            if let Some(pair) = pair {
                 self.keep(pair);
             }
         }
-        gone.clear();
     }
 }
