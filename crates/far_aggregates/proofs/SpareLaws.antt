@@ -129,6 +129,7 @@ spared-goes size place gives places mid new comes old left room at there come ca
     ap (λ l. zip_all (taken g here) l left.gone.items) came ∙ all-left_taken size place gives here mid old.gone.items left.gone.items many room outs mays ∙ ap (λ l. zip_all (taken g here) l old.gone.items) (sym came) in
     let gone : gone_on here new left ≡ gone_on here new old = ap (λ n. zip_all (taken n here) new left.gone.items) there ∙ same ∙ ap (λ n. zip_all (taken n here) new old.gone.items) (sym at) in
     record {
+      at = there;
       may = record {
         len = within;
         may = subst (λ n. EachMayTake n here new left.gone.items) (sym there) (each-left_may g here comes new old.gone.items left.gone.items many (as_many ∙ sym few) out may);

@@ -227,7 +227,7 @@ impl Aggregates {
         let Pending { came, mut gone, .. } = mem::replace(&mut self.spare, Pending::nothing(alloc));
         let slots = self.slots.as_mut_slice();
         make_rooms(slots, group);
-        let came = come_in(&mut self.spare_keys, came, slots, row, size, place)?;
+        let came = come_in(&mut self.spare_keys, came, slots, row, size, place, group)?;
         gone.clear();
         Ok(Pending { group, came, gone })
     }
@@ -258,9 +258,17 @@ impl Aggregates {
         let Pending { came, gone, .. } = mem::replace(&mut self.spare, Pending::nothing(alloc));
         let slots = self.slots.as_mut_slice();
         make_rooms(slots, group);
-        let gone = changes(&mut self.spare_keys, gone, slots, row, size, place)?;
+        let gone = changes(&mut self.spare_keys, gone, slots, row, size, place, group)?;
         let changed = Changed { row, column, cell };
-        let came = come_in(&mut self.spare_keys, came, slots, &changed, size, place)?;
+        let came = come_in(
+            &mut self.spare_keys,
+            came,
+            slots,
+            &changed,
+            size,
+            place,
+            group,
+        )?;
         let gone = spared(&mut self.spare_keys, gone, came.as_slice());
         Ok(Pending { group, came, gone })
     }
@@ -285,7 +293,7 @@ impl Aggregates {
         let Pending { mut came, gone, .. } = mem::replace(&mut self.spare, Pending::nothing(alloc));
         let slots = self.slots.as_mut_slice();
         make_rooms(slots, group);
-        let gone = changes(&mut self.spare_keys, gone, slots, row, size, place)?;
+        let gone = changes(&mut self.spare_keys, gone, slots, row, size, place, group)?;
         came.clear();
         Ok(Pending { group, came, gone })
     }

@@ -17,7 +17,7 @@ pub fn give<'a, R: LendCells>(
     row: &'a R,
     size: u32,
     place: usize,
-    group: usize,
+    group: u32,
 ) -> PairRef<'a>
     requires size { 0 < size }
     requires group { group ≡ place / size }
@@ -25,7 +25,7 @@ pub fn give<'a, R: LendCells>(
 {
     match slot {
         None => PairRef::Nothing,
-        Some(aggregate) if aggregate.unbuilt.has(group) => PairRef::Nothing,
+        Some(aggregate) if aggregate.unbuilt.has(group as usize) => PairRef::Nothing,
         Some(aggregate) => aggregate.spec.lend_pair(row),
     }
 }
@@ -40,7 +40,7 @@ fn change_next<R: LendCells>(
     row: &R,
     size: u32,
     place: usize,
-    group: usize,
+    group: u32,
 ) -> Result<(), Refusal>
     requires size { 0 < size }
     requires group { group ≡ place / size }
@@ -72,12 +72,13 @@ pub fn changes<R: LendCells>(
     row: &R,
     size: u32,
     place: usize,
+    group: u32,
 ) -> Result<Vec<Option<Pair>>, Refusal>
     requires size { 0 < size }
+    requires group { group ≡ place / size }
     ensures ok { IfOk result (λ changes. changes.items ≡ map (change_of size place (row_gives (R.cells row.now))) slots.now) }
     ensures memory { IfErr result (λ e. e ≡ Refusal.NoMemory) }
 {
-    let group = place / size as usize;
     let mut changes = list;
     changes.clear();
     changes.reserve(slots.len())?;

@@ -151,12 +151,11 @@ fn come_next<R: LendCells>(
     row: &R,
     size: u32,
     place: usize,
-    group: usize,
+    group: u32,
 ) -> Result<(), Refusal>
     requires size { 0 < size }
     requires few { place ≤ 2 ^ 24 }
     requires group { group ≡ place / size }
-    requires groups { group < 2 ^ 32 }
     requires folds { Folds slot.old }
     requires room { HasRoom (place / size) slot.old }
     requires place { vec_len comes.old < vec_capacity comes.old }
@@ -172,9 +171,9 @@ fn come_next<R: LendCells>(
             comes.push_reserved(None);
             Ok(())
         }
-        PairRef::Under { number, value } => come_under(comes, slot, group as u32, number, value),
+        PairRef::Under { number, value } => come_under(comes, slot, group, number, value),
         PairRef::UnderText { text, value } => {
-            come_under_text(spare, comes, slot, group as u32, text, value)
+            come_under_text(spare, comes, slot, group, text, value)
         }
     }
 }
@@ -188,9 +187,11 @@ pub fn come_in<R: LendCells>(
     row: &R,
     size: u32,
     place: usize,
+    group: u32,
 ) -> Result<Vec<Option<Coming>>, Refusal>
     requires size { 0 < size }
     requires few { place ≤ 2 ^ 24 }
+    requires group { group ≡ place / size }
     requires folds { EachFolds slots.old }
     requires room { HaveRoom (place / size) slots.old }
     ensures ok { OnOk result (slots.new ≡ zip_all (added (place / size)) slots.old (map (come_of size place (row_gives (R.cells row.now))) slots.old)) }
@@ -201,7 +202,6 @@ pub fn come_in<R: LendCells>(
     ensures err { OnErr result (slots.new ≡ slots.old) }
     ensures memory { IfErr result (λ e. e ≡ Refusal.NoMemory) }
 {
-    let group = place / size as usize;
     let mut comes = list;
     comes.clear();
     comes.reserve(slots.len())?;
@@ -209,7 +209,7 @@ pub fn come_in<R: LendCells>(
         match come_next(spare, &mut comes, &mut slots[i], row, size, place, group) {
             Ok(()) => {}
             Err(refusal) => {
-                back_until(slots, group as u32, comes.as_slice(), i);
+                back_until(slots, group, comes.as_slice(), i);
                 return Err(refusal);
             }
         }

@@ -16,6 +16,13 @@ pub struct Pending {
 }
 
 impl Pending {
+    /// The row group of the edit. Allocates nothing.
+    pub fn row_group(&self) -> u32
+        ensures { result ≡ self.now.group }
+    {
+        self.group
+    }
+
     /// Of no edit. Takes no memory.
     pub(crate) fn nothing(alloc: Global) -> Pending
         ensures came { result.came.items ≡ [] }
