@@ -34,7 +34,7 @@ pub fn give<'a, R: LendCells>(
 /// has a place.
 #[inline(always)]
 fn change_next<R: LendCells>(
-    spare: &mut SpareKeys,
+    keys: &mut SpareKeys,
     changes: &mut Vec<Option<Pair>>,
     slot: &Option<Aggregate>,
     row: &R,
@@ -56,7 +56,7 @@ fn change_next<R: LendCells>(
             changes.push_reserved(Some(pair));
         }
         PairRef::UnderText { text, value } => {
-            let pair = (spare.key_of(text)?, value);
+            let pair = (keys.key_of(text)?, value);
             changes.push_reserved(Some(pair));
         }
     }
@@ -66,7 +66,7 @@ fn change_next<R: LendCells>(
 /// What a row that is alive at a place gives to each aggregate, in a list that may have been made for an edit before. Texts
 /// are written into the strings of spare keys.
 pub fn changes<R: LendCells>(
-    spare: &mut SpareKeys,
+    keys: &mut SpareKeys,
     list: Vec<Option<Pair>>,
     slots: &[Option<Aggregate>],
     row: &R,
@@ -83,7 +83,7 @@ pub fn changes<R: LendCells>(
     changes.clear();
     changes.reserve(slots.len())?;
     for slot in slots {
-        change_next(spare, &mut changes, slot, row, size, place, group)?;
+        change_next(keys, &mut changes, slot, row, size, place, group)?;
     }
     Ok(changes)
 }
