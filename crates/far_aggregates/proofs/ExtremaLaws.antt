@@ -1,6 +1,6 @@
 -- The extrema of the row group of an edit: with the pair that comes, and without the one that goes.
 use Rattle.std.proofs.Common.{inl, inr, ◌≡◌, ◌≢◌, ℕ, zero, suc, ◌<◌, Bool, true, false, cond, List, [], ◌∷◌, length, refl, sym, ap, ◌∙◌, arith, Option, None, Some, slice_get, slice_set}
-use Rattle.std.specs.Prelude.{◌⊎◌, ℤ, ◌<ℤ◌}
+use Rattle.std.specs.Prelude.{◌⊎◌, ℤ, ◌<ℤ◌, ◌≤ℤ◌}
 use Rattle.std.specs.List.{filter_map, cons_option}
 use Rattle.std.specs.FinMap as fin
 use Rattle.std.proofs.lemmas.List.{get_or-set_same, get_or-set_other}
@@ -17,6 +17,7 @@ use Rattle.far_types.proofs.TotalLaws.{extrema-cons, extrema-among}
 use Rattle.far_extrema.specs.Live.{group_at}
 use Rattle.far_extrema.specs.Spans.{put_span}
 use Rattle.far_extrema.proofs.GoneLaws.{gone, within, put-same}
+use Rattle.far_extrema.proofs.HolderLaws.{widened_within}
 use Rattle.far_aggregates.specs.Kept.{Change, group_pairs, built_group}
 use Rattle.far_aggregates.specs.Changes.{with_seen_change}
 use Rattle.far_aggregates.proofs.ListLaws.{length-written, set-own}
@@ -141,3 +142,10 @@ pub left-within : (g : ℕ) (gs : List Extrema) (k : Option Key) (v : ℤ) (o : 
 left-within g gs k v o s seen found low high =
     let rest = within v o s (some_span _ _ (sym found ∙ seen)) low high in
     sym (ap (λ p. slice_set gs g (put_span (group_at gs g) k p)) rest ∙ ap (slice_set gs g) (put-same (group_at gs g) k s found) ∙ set-own gs g fin.empty)
+
+-- where a value that comes is within, the row group stays as it is
+pub seen-within : (g : ℕ) (gs : List Extrema) (k : Option Key) (v : ℤ) (s : ℤ × ℤ) → fin.get (group_at gs g) k ≡ Some s → s.0 ≤ℤ v → v ≤ℤ s.1 → gs ≡ slice_set gs g (with_seen (group_at gs g) (k, v))
+seen-within g gs k v s found low high =
+    let m = group_at gs g in
+    let same : with_seen m (k, v) ≡ m = ap (λ o. fin.insert m k (widened v o)) found ∙ ap (fin.insert m k) (widened_within v s low high) ∙ put-same m k s found in
+    sym (ap (slice_set gs g) same ∙ set-own gs g fin.empty)

@@ -7,6 +7,7 @@ pub mod ExtremaLaws
 pub mod GroupLaws
 pub mod KeepLaws
 pub mod KnownLaws
+pub mod LeavingOutLaws
 pub mod LendLaws
 pub mod ListLaws
 pub mod NumberLaws
@@ -19,5 +20,4 @@ pub mod RegisterLaws
 pub mod RoomLaws
 pub mod ScanLaws
 pub mod ServedLaws
-pub mod SpareLaws
 pub mod UntilLaws

@@ -98,6 +98,7 @@ goes-on size place f x old mid new pending places positive room before at went c
     let many : length pending.gone.items ≡ length mid = ap length went ∙ length-map mid (change_of size place (place_gives x)) in
     let more : length new ≡ length mid = ap length came ∙ length-zip_all (added (place / size)) mid (map (come_of size place (place_gives (f x))) mid) in
     record {
+      at = at;
       may = record {
         len = omega arith;
         may = subst (λ n. EachMayTake n (in_group size (place / size) after) new pending.gone.items) (sym at)

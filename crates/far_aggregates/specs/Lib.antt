@@ -5,11 +5,12 @@ pub mod Coming
 pub mod Going
 pub mod Kept
 pub mod Known
+pub mod LeavingOut
 pub mod Lending
 pub mod Pending
 pub mod Readings
 pub mod Recounting
 pub mod Rooms
 pub mod Scans
-pub mod Sparing
+pub mod SpareKeys
 pub mod Until

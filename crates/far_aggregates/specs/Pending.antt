@@ -47,7 +47,8 @@ pub record MayGoOn (here : List Place) (slots : List Slot) (pending : Pending) :
 abbrev pub gone_on : List Place → List Slot → Pending → List Slot
 gone_on here slots pending = zip_all (taken pending.group here) slots pending.gone.items
 
--- where these are the places after the edit, what is to go can go, and then what is kept is that of these places
+-- where these are the places after the edit of a row group, what is to go can go, and then what is kept is that of these places
 pub record GoesOn (size g : ℕ) (places : List Place) (slots : List Slot) (pending : Pending) : Type 0 where
+  pub at : pending.group ≡ g
   pub may : MayGoOn (in_group size g places) slots pending
   pub kept : Keeps size places (gone_on (in_group size g places) slots pending)

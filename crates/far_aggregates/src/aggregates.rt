@@ -15,6 +15,7 @@ use super::changed::Changed;
 use super::changes::changes;
 use super::coming::{back_all, come_in};
 use super::going::{needs_rows, take_all, take_totals};
+use super::leaving_out::leave_out;
 use super::lend_group::LendGroup;
 use super::pending::Pending;
 use super::readings::{first_unbuilt, plain};
@@ -22,7 +23,6 @@ use super::registrations::{aggregate_at, forget, free_number, register};
 use super::rooms::make_rooms;
 use super::scans::build_at;
 use super::spare_keys::SpareKeys;
-use super::sparing::spared;
 use far_types::{Answer, CellRef, LendCells, Refusal, Spec};
 use std::alloc::Global;
 use std::marker::Model;
@@ -35,7 +35,7 @@ use std::mem;
 pub struct Aggregates {
     slots: Vec<Option<Aggregate>>,
     /// The lists of an edit that has ended, for the next one, so that it makes none.
-    spare: Pending,
+    lists: Pending,
     spare_keys: SpareKeys,
 }
 
@@ -71,7 +71,7 @@ impl Aggregates {
     {
         Aggregates {
             slots: Vec::new(alloc),
-            spare: Pending::nothing(alloc),
+            lists: Pending::nothing(alloc),
             spare_keys: SpareKeys::new(alloc),
         }
     }
@@ -224,10 +224,10 @@ impl Aggregates {
             return Ok(Pending::nothing(alloc));
         }
         let group = (place / size as usize) as u32;
-        let Pending { came, mut gone, .. } = mem::replace(&mut self.spare, Pending::nothing(alloc));
+        let Pending { came, mut gone, .. } = mem::replace(&mut self.lists, Pending::nothing(alloc));
         let slots = self.slots.as_mut_slice();
         make_rooms(slots, group);
-        let came = come_in(&mut self.spare_keys, came, slots, row, size, place)?;
+        let came = come_in(&mut self.spare_keys, came, slots, row, size, place, group)?;
         gone.clear();
         Ok(Pending { group, came, gone })
     }
@@ -255,13 +255,21 @@ impl Aggregates {
         ensures memory { IfErr result (λ e. e ≡ Refusal.NoMemory) }
     {
         let group = (place / size as usize) as u32;
-        let Pending { came, gone, .. } = mem::replace(&mut self.spare, Pending::nothing(alloc));
+        let Pending { came, gone, .. } = mem::replace(&mut self.lists, Pending::nothing(alloc));
         let slots = self.slots.as_mut_slice();
         make_rooms(slots, group);
-        let gone = changes(&mut self.spare_keys, gone, slots, row, size, place)?;
+        let gone = changes(&mut self.spare_keys, gone, slots, row, size, place, group)?;
         let changed = Changed { row, column, cell };
-        let came = come_in(&mut self.spare_keys, came, slots, &changed, size, place)?;
-        let gone = spared(&mut self.spare_keys, gone, came.as_slice());
+        let came = come_in(
+            &mut self.spare_keys,
+            came,
+            slots,
+            &changed,
+            size,
+            place,
+            group,
+        )?;
+        let gone = leave_out(&mut self.spare_keys, gone, came.as_slice());
         Ok(Pending { group, came, gone })
     }
 
@@ -282,10 +290,10 @@ impl Aggregates {
         ensures memory { IfErr result (λ e. e ≡ Refusal.NoMemory) }
     {
         let group = (place / size as usize) as u32;
-        let Pending { mut came, gone, .. } = mem::replace(&mut self.spare, Pending::nothing(alloc));
+        let Pending { mut came, gone, .. } = mem::replace(&mut self.lists, Pending::nothing(alloc));
         let slots = self.slots.as_mut_slice();
         make_rooms(slots, group);
-        let gone = changes(&mut self.spare_keys, gone, slots, row, size, place)?;
+        let gone = changes(&mut self.spare_keys, gone, slots, row, size, place, group)?;
         came.clear();
         Ok(Pending { group, came, gone })
     }
@@ -309,7 +317,7 @@ impl Aggregates {
     pub fn end(&mut self, pending: Pending)
         ensures same { self.new ≡ self.old }
     {
-        self.spare = pending.emptied(&mut self.spare_keys);
+        self.lists = pending.emptied(&mut self.spare_keys);
     }
 
     /// Takes out what the row gave before an edit, which the rows have: the row group lends its columns as they are now. Its
@@ -324,7 +332,6 @@ impl Aggregates {
             self.slots.as_mut_slice(),
             group,
             pending.group,
-            pending.came.as_slice(),
             pending.gone.as_slice(),
         );
         self.end(pending);

@@ -1,6 +1,6 @@
 // Pairs that come into what is kept, and how they are taken back where a later growth is refused.
 ghost use Rattle.std.specs.Prelude.{◌≡◌, ◌/◌, ◌^◌, ◌<◌, ◌≤◌, ◌∷◌, ◌++◌, [], Some, OnOk, OnErr, IfErr, IfOk, length, map, vec_len, vec_capacity};
-ghost use Rattle.far_types.specs.declared.key.Key.TheVariants as keys;
+ghost use Rattle.far_types.specs.declared.key.Key.TheVariants as variants;
 ghost use Rattle.far_types.specs.Lent.{key_by};
 ghost use Rattle.far_aggregates.specs.Changes.{Folds, EachFolds, row_gives};
 ghost use Rattle.far_aggregates.specs.Coming.{stood_in, come_of, coming_in, kept_more, added, back, KeptMayAdd, MayBack, EachMayBack};
@@ -109,7 +109,7 @@ fn come_under(
 /// As `come_under`, where the key is a text, which is written into the string of a spare key.
 #[inline(never)]
 fn come_under_text(
-    spare: &mut SpareKeys,
+    keys: &mut SpareKeys,
     comes: &mut Vec<Option<Coming>>,
     slot: &mut Option<Aggregate>,
     group: u32,
@@ -119,8 +119,8 @@ fn come_under_text(
     requires folds { Folds slot.old }
     requires room { HasRoom group slot.old }
     requires place { vec_len comes.old < vec_capacity comes.old }
-    ensures ok { OnOk result (slot.new ≡ added group slot.old (coming_in group slot.old (Some (keys.Text text.now), value))) }
-    ensures comes { OnOk result (comes.new.items ≡ comes.old.items ++ coming_in group slot.old (Some (keys.Text text.now), value) ∷ []) }
+    ensures ok { OnOk result (slot.new ≡ added group slot.old (coming_in group slot.old (Some (variants.Text text.now), value))) }
+    ensures comes { OnOk result (comes.new.items ≡ comes.old.items ++ coming_in group slot.old (Some (variants.Text text.now), value) ∷ []) }
     ensures capacity { vec_capacity comes.new ≡ vec_capacity comes.old }
     ensures err { OnErr result (slot.new ≡ slot.old) }
     ensures before { OnErr result (comes.new.items ≡ comes.old.items) }
@@ -132,7 +132,7 @@ fn come_under_text(
             Ok(())
         }
         Some(aggregate) => {
-            let key = spare.key_of(text)?;
+            let key = keys.key_of(text)?;
             let stood = add_to(&mut aggregate.kept, group, &key, value)?;
             let pair = (key, value);
             comes.push_reserved(Some(Coming { pair, stood }));
@@ -145,18 +145,17 @@ fn come_under_text(
 /// which the list has a place.
 #[inline(always)]
 fn come_next<R: LendCells>(
-    spare: &mut SpareKeys,
+    keys: &mut SpareKeys,
     comes: &mut Vec<Option<Coming>>,
     slot: &mut Option<Aggregate>,
     row: &R,
     size: u32,
     place: usize,
-    group: usize,
+    group: u32,
 ) -> Result<(), Refusal>
     requires size { 0 < size }
     requires few { place ≤ 2 ^ 24 }
     requires group { group ≡ place / size }
-    requires groups { group < 2 ^ 32 }
     requires folds { Folds slot.old }
     requires room { HasRoom (place / size) slot.old }
     requires place { vec_len comes.old < vec_capacity comes.old }
@@ -172,9 +171,9 @@ fn come_next<R: LendCells>(
             comes.push_reserved(None);
             Ok(())
         }
-        PairRef::Under { number, value } => come_under(comes, slot, group as u32, number, value),
+        PairRef::Under { number, value } => come_under(comes, slot, group, number, value),
         PairRef::UnderText { text, value } => {
-            come_under_text(spare, comes, slot, group as u32, text, value)
+            come_under_text(keys, comes, slot, group, text, value)
         }
     }
 }
@@ -182,15 +181,17 @@ fn come_next<R: LendCells>(
 /// The pairs of a row that is alive at a place come into what is kept for each aggregate, or none where memory is refused. What
 /// came is handed back, in a list that may have been made for an edit before: `back_all` of it undoes this.
 pub fn come_in<R: LendCells>(
-    spare: &mut SpareKeys,
+    keys: &mut SpareKeys,
     list: Vec<Option<Coming>>,
     slots: &mut [Option<Aggregate>],
     row: &R,
     size: u32,
     place: usize,
+    group: u32,
 ) -> Result<Vec<Option<Coming>>, Refusal>
     requires size { 0 < size }
     requires few { place ≤ 2 ^ 24 }
+    requires group { group ≡ place / size }
     requires folds { EachFolds slots.old }
     requires room { HaveRoom (place / size) slots.old }
     ensures ok { OnOk result (slots.new ≡ zip_all (added (place / size)) slots.old (map (come_of size place (row_gives (R.cells row.now))) slots.old)) }
@@ -201,15 +202,14 @@ pub fn come_in<R: LendCells>(
     ensures err { OnErr result (slots.new ≡ slots.old) }
     ensures memory { IfErr result (λ e. e ≡ Refusal.NoMemory) }
 {
-    let group = place / size as usize;
     let mut comes = list;
     comes.clear();
     comes.reserve(slots.len())?;
     for i in 0..slots.len() {
-        match come_next(spare, &mut comes, &mut slots[i], row, size, place, group) {
+        match come_next(keys, &mut comes, &mut slots[i], row, size, place, group) {
             Ok(()) => {}
             Err(refusal) => {
-                back_until(slots, group as u32, comes.as_slice(), i);
+                back_until(slots, group, comes.as_slice(), i);
                 return Err(refusal);
             }
         }

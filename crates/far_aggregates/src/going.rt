@@ -12,12 +12,10 @@ ghost use Rattle.far_aggregates.specs.Until.{zip_all};
 
 use super::aggregate::{Aggregate, Kept};
 use super::changes::Pair;
-use super::coming::Coming;
 use super::known::KnownExtrema;
 use super::lend_group::LendGroup;
 use super::needed::{has_no_test, needed_columns, untested_columns};
-use super::sparing::was_looked_up;
-use far_extrema::Span;
+use far_extrema::{RowsLeft, Span};
 use far_offload::span_under;
 use far_types::{Key, Spec};
 
@@ -34,50 +32,43 @@ fn span_left<G: LendGroup>(spec: &Spec, group: &G, key: &Option<Key>) -> Option<
     span_under(spec, &needed_columns(spec, group), group.alive(), key)
 }
 
-/// One pair less in a row group, whose value may have been the least or the greatest under its key: the rows that are left
-/// are looked at. It stands apart from `narrow`, which so makes no room for columns that mostly are not looked at.
-#[inline(never)]
-fn look<G: LendGroup>(live: &mut KnownExtrema, spec: &Spec, group: &G, number: u32, pair: &Pair)
-    requires served { IsServed (G.has group.now) spec.now }
-    requires seen { fin.get (group_at live.old.groups number) pair.now.0 ≡ Some (widened pair.now.1 (fin.get (extrema (pairs_here spec.now (G.places group.now))) pair.now.0)) }
-    ensures { live.new ≡ record live.old { groups = slice_set live.old.groups number (put_span (group_at live.old.groups number) pair.now.0 (fin.get (extrema (pairs_here spec.now (G.places group.now))) pair.now.0)) } }
-{
-    let span = span_left(spec, group, &pair.0);
-    live.put_span(number, &pair.0, span);
+/// The rows of a row group that are left under the key of a pair that goes, as an aggregate folds them.
+#[derive(Drop)]
+struct Left<'a, G> {
+    spec: &'a Spec,
+    group: &'a G,
+    key: &'a Option<Key>,
+}
+
+impl<'a, G: LendGroup> RowsLeft for Left<'a, G> {
+    ghost at_hand = { λ left. IsServed (G.has left.group.now) left.spec.now };
+
+    ghost extremes = { λ left. fin.get (extrema (pairs_here left.spec.now (G.places left.group.now))) left.key.now };
+
+    /// It is not inlined, so that its callers make no room for columns that mostly are not looked at.
+    #[inline(never)]
+    fn span(&self) -> Option<Span> {
+        span_left(self.spec, self.group, self.key)
+    }
 }
 
 /// One pair less in a row group: the rows that are left are looked at only where its value was the least or the greatest
-/// under its key. What stands under the key is not looked up where that is known to tell nothing.
-fn narrow<G: LendGroup>(
-    live: &mut KnownExtrema,
-    spec: &Spec,
-    group: &G,
-    number: u32,
-    pair: &Pair,
-    looked_up: bool,
-)
+/// under its key.
+fn narrow<G: LendGroup>(live: &mut KnownExtrema, spec: &Spec, group: &G, number: u32, pair: &Pair)
     requires served { IsServed (G.has group.now) spec.now }
     requires seen { fin.get (group_at live.old.groups number) pair.now.0 ≡ Some (widened pair.now.1 (fin.get (extrema (pairs_here spec.now (G.places group.now))) pair.now.0)) }
     ensures { live.new ≡ record live.old { groups = slice_set live.old.groups number (put_span (group_at live.old.groups number) pair.now.0 (fin.get (extrema (pairs_here spec.now (G.places group.now))) pair.now.0)) } }
 {
-    if !looked_up {
-        if let Some(span) = live.span(number, &pair.0) {
-            if span.0 < pair.1 && pair.1 < span.1 {
-                return;
-            }
-        }
-    }
-    look(live, spec, group, number, pair);
+    let left = Left {
+        spec,
+        group,
+        key: &pair.0,
+    };
+    live.shrink(number, &pair.0, pair.1, &left);
 }
 
-/// One pair less, where there is one. With it comes the pair that an edit brought, where it did.
-fn take_one<G: LendGroup>(
-    slot: &mut Option<Aggregate>,
-    group: &G,
-    number: u32,
-    come: Option<&Option<Coming>>,
-    gone: &Option<Pair>,
-)
+/// One pair less, where there is one.
+fn take_one<G: LendGroup>(slot: &mut Option<Aggregate>, group: &G, number: u32, gone: &Option<Pair>)
     requires served { SlotIsServed (G.has group.now) (registered_in slot.old) }
     requires may { MayTake number (G.places group.now) slot.old gone.now }
     ensures { slot.new ≡ taken number (G.places group.now) slot.old gone.now }
@@ -86,21 +77,17 @@ fn take_one<G: LendGroup>(
         if let Some(pair) = gone {
             match &mut aggregate.kept {
                 Kept::Totals(live) => live.take(&pair.0, pair.1),
-                Kept::Extrema(live) => {
-                    let looked_up = was_looked_up(come, &pair.0);
-                    narrow(live, &aggregate.spec, group, number, pair, looked_up);
-                }
+                Kept::Extrema(live) => narrow(live, &aggregate.spec, group, number, pair),
             }
         }
     }
 }
 
-/// The pairs go that a place of a row group gave before its row changed. With them come those that the edit brought.
+/// The pairs go that a place of a row group gave before its row changed.
 pub fn take_all<G: LendGroup>(
     slots: &mut [Option<Aggregate>],
     group: &G,
     number: u32,
-    comes: &[Option<Coming>],
     gone: &[Option<Pair>],
 )
     requires served { AreServed (G.has group.now) (map registered_in slots.old) }
@@ -109,7 +96,7 @@ pub fn take_all<G: LendGroup>(
     ensures { slots.new ≡ zip_all (taken number (G.places group.now)) slots.old gone.now }
 {
     for i in 0..gone.len() {
-        take_one(&mut slots[i], group, number, comes.get(i), &gone[i]);
+        take_one(&mut slots[i], group, number, &gone[i]);
     }
 }
 

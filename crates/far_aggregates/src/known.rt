@@ -1,11 +1,11 @@
 // Live extrema, with what stands under no key beside them.
-ghost use Rattle.std.specs.Prelude.{◌≡◌, ◌≢◌, ◌-◌, ◌<◌, [], None, Some, Err, OnOk, OnErr, IfOk, IfErr, IfSome, length, slice_get, slice_set};
+ghost use Rattle.std.specs.Prelude.{◌≡◌, ◌≢◌, ◌-◌, ◌<◌, [], None, Some, Err, OnOk, OnErr, IfOk, IfErr, IfSome, IsTrue, ℤ, ◌≤ℤ◌, length, slice_get, slice_set};
 ghost use Rattle.std.specs.FinMap as fin;
 ghost use Rattle.far_types.specs.Changes.{widened, with_seen};
 ghost use Rattle.far_extrema.specs.Live.{all_groups, group_at};
 ghost use Rattle.far_aggregates.specs.Known.{IsNoted};
 
-use far_extrema::{GroupExtrema, LiveExtrema, Span};
+use far_extrema::{GroupExtrema, LiveExtrema, RowsLeft, Span};
 use far_types::{Answer, Key, Refusal};
 use std::alloc::Global;
 use std::marker::Model;
@@ -65,6 +65,17 @@ fn noted_in(plain: &[Option<Span>], group: usize) -> Option<Span>
     }
 }
 
+/// Whether a value is within a span, if there is one.
+#[inline(always)]
+fn is_within(value: i64, span: Option<Span>) -> bool
+    ensures { IsTrue result → (s : ℤ × ℤ) × (span ≡ Some s) × (s.0 ≤ℤ value) × (value ≤ℤ s.1) }
+{
+    match span {
+        Some((least, greatest)) => least <= value && value <= greatest,
+        None => false,
+    }
+}
+
 /// One folded row more under no key, where what stands there is noted or looked up. Returns what stood there.
 fn see_noted(
     live: &mut LiveExtrema,
@@ -77,6 +88,7 @@ fn see_noted(
     ensures stood { IfOk result (λ stood. stood ≡ fin.get (group_at live.old.groups group) None) }
     ensures ok { OnOk result (live.new ≡ record live.old { groups = slice_set live.old.groups group (with_seen (group_at live.old.groups group) (None, value)) }) }
     ensures err { OnErr result (live.new ≡ live.old) }
+    ensures only_new { OnErr result (fin.get (group_at live.old.groups group) None ≡ None) }
     ensures memory { IfErr result (λ e. e ≡ Refusal.NoMemory) }
 {
     match noted {
@@ -134,16 +146,21 @@ impl KnownExtrema {
         self.live.make_room_for(group, extrema)
     }
 
-    /// As `see_under`, for a row under no key: where what stands there is noted, a value within that costs no look-up.
+    /// As `see_under`, for a row under no key: where what stands there is noted, a value within that costs no look-up, and
+    /// nothing is written.
     fn see_plain(&mut self, group: u32, value: i64) -> Result<Option<Span>, Refusal>
         requires { group < length self.old.groups }
         ensures stood { IfOk result (λ stood. stood ≡ fin.get (group_at self.old.groups group) None) }
         ensures ok { OnOk result (self.new ≡ record self.old { groups = slice_set self.old.groups group (with_seen (group_at self.old.groups group) (None, value)) }) }
         ensures err { OnErr result (self.new ≡ self.old) }
+        ensures only_new { OnErr result (fin.get (group_at self.old.groups group) None ≡ None) }
         ensures memory { IfErr result (λ e. e ≡ Refusal.NoMemory) }
     {
-        make_place(&mut self.plain, group as usize);
         let noted = noted_in(self.plain.as_slice(), group as usize);
+        if is_within(value, noted) {
+            return Ok(noted);
+        }
+        make_place(&mut self.plain, group as usize);
         let stood = see_noted(&mut self.live, group, value, noted)?;
         note(&mut self.plain, group as usize, Some(wider(value, stood)));
         Ok(stood)
@@ -161,25 +178,13 @@ impl KnownExtrema {
         ensures stood { IfOk result (λ stood. stood ≡ fin.get (group_at self.old.groups group) key.now) }
         ensures ok { OnOk result (self.new ≡ record self.old { groups = slice_set self.old.groups group (with_seen (group_at self.old.groups group) (key.now, value)) }) }
         ensures err { OnErr result (self.new ≡ self.old) }
+        ensures only_new { OnErr result (fin.get (group_at self.old.groups group) key.now ≡ None) }
         ensures memory { IfErr result (λ e. e ≡ Refusal.NoMemory) }
     {
         match key {
             None => self.see_plain(group, value),
             Some(_) => self.live.see_under(group, key, value),
         }
-    }
-
-    /// As `LiveExtrema::span`.
-    #[inline(always)]
-    pub fn span(&self, group: u32, key: &Option<Key>) -> Option<Span>
-        ensures { result ≡ fin.get (group_at self.now.groups group) key.now }
-    {
-        if key.is_none() {
-            if let Some(Some((least, greatest))) = self.plain.get(group as usize) {
-                return Some((*least, *greatest));
-            }
-        }
-        self.live.span(group, key)
     }
 
     /// As `LiveExtrema::put_span`.
@@ -191,6 +196,37 @@ impl KnownExtrema {
         self.live.put_span(group, key, span);
         if key.is_none() {
             note(&mut self.plain, group as usize, span);
+        }
+    }
+
+    /// As `shrink`, for a row under no key: where what stands there is noted, a value strictly within that costs no look-up.
+    fn shrink_plain<R: RowsLeft>(&mut self, group: u32, value: i64, rows: &R)
+        requires room { group < length self.old.groups }
+        requires at_hand { R.at_hand rows.now }
+        requires stood { fin.get (group_at self.old.groups group) None ≡ Some (widened value (R.extremes rows.now)) }
+        ensures { self.new ≡ record self.old { groups = slice_set self.old.groups group (put_span (group_at self.old.groups group) None (R.extremes rows.now)) } }
+    {
+        if let Some(span) = noted_in(self.plain.as_slice(), group as usize) {
+            if span.0 < value && value < span.1 {
+                return;
+            }
+        }
+        let left = self.live.shrink(group, &None, value, rows);
+        note(&mut self.plain, group as usize, left);
+    }
+
+    /// As `LiveExtrema::shrink`.
+    pub fn shrink<R: RowsLeft>(&mut self, group: u32, key: &Option<Key>, value: i64, rows: &R)
+        requires room { group < length self.old.groups }
+        requires at_hand { R.at_hand rows.now }
+        requires stood { fin.get (group_at self.old.groups group) key.now ≡ Some (widened value (R.extremes rows.now)) }
+        ensures { self.new ≡ record self.old { groups = slice_set self.old.groups group (put_span (group_at self.old.groups group) key.now (R.extremes rows.now)) } }
+    {
+        match key {
+            None => self.shrink_plain(group, value, rows),
+            Some(_) => {
+                self.live.shrink(group, key, value, rows);
+            }
         }
     }
 

@@ -11,6 +11,7 @@ mod coming;
 mod going;
 mod known;
 pub mod laws;
+mod leaving_out;
 pub mod lend_group;
 mod needed;
 pub mod pending;
@@ -20,7 +21,6 @@ mod registrations;
 mod rooms;
 mod scans;
 mod spare_keys;
-mod sparing;
 mod unbuilt;
 
 pub use aggregates::Aggregates;

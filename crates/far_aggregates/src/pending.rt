@@ -16,6 +16,13 @@ pub struct Pending {
 }
 
 impl Pending {
+    /// The row group of the edit. Allocates nothing.
+    pub fn row_group(&self) -> u32
+        ensures { result ≡ self.now.group }
+    {
+        self.group
+    }
+
     /// Of no edit. Takes no memory.
     pub(crate) fn nothing(alloc: Global) -> Pending
         ensures came { result.came.items ≡ [] }
@@ -28,7 +35,7 @@ impl Pending {
     }
 
     /// The lists without their pairs, for the next edit. Their text keys become spare ones. Takes no memory.
-    pub(crate) fn emptied(self, spare: &mut SpareKeys) -> Pending
+    pub(crate) fn emptied(self, keys: &mut SpareKeys) -> Pending
         ensures came { result.came.items ≡ [] }
         ensures gone { result.gone.items ≡ [] }
     {
@@ -37,8 +44,8 @@ impl Pending {
             mut came,
             mut gone,
         } = self;
-        spare.keep_came(&mut came);
-        spare.keep_gone(&mut gone);
+        keys.keep_came(&mut came);
+        keys.keep_gone(&mut gone);
         Pending { group, came, gone }
     }
 }

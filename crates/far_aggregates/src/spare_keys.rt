@@ -1,6 +1,7 @@
 // The memory of text keys, from one edit to the next.
-ghost use Rattle.std.specs.Prelude.{◌≡◌, [], Some, IfOk, IfErr};
+ghost use Rattle.std.specs.Prelude.{◌≡◌, ◌<◌, ◌≤◌, ◌++◌, [], Some, IfOk, IfErr, vec_len, vec_capacity};
 ghost use Rattle.far_types.specs.declared.key.Key.TheVariants as keys;
+ghost use Rattle.far_aggregates.specs.SpareKeys.{text_key};
 
 use super::changes::Pair;
 use super::coming::Coming;
@@ -15,15 +16,17 @@ const MOST: usize = 64;
 #[derive(Drop)]
 pub struct SpareKeys {
     alloc: Global,
-    spare: Vec<Key>,
+    keys: Vec<Key>,
 }
 
 impl SpareKeys {
     /// No key. Takes no memory.
-    pub fn new(alloc: Global) -> SpareKeys {
+    pub fn new(alloc: Global) -> SpareKeys
+        ensures { result.keys.items ≡ [] }
+    {
         SpareKeys {
             alloc,
-            spare: Vec::new(alloc),
+            keys: Vec::new(alloc),
         }
     }
 
@@ -32,19 +35,24 @@ impl SpareKeys {
         ensures key { IfOk result (λ key. key ≡ Some (keys.Text text.now)) }
         ensures memory { IfErr result (λ e. e ≡ Refusal.NoMemory) }
     {
-        let earlier = self.spare.pop();
+        let earlier = self.keys.pop();
         if earlier.is_none() {
-            self.spare.reserve(MOST)?;
+            self.keys.reserve(MOST)?;
         }
         CellRef::Text(text).key(self.alloc, earlier)
     }
 
     /// Keeps the key of a pair that is needed no more, if it is a text and the list has capacity for it. Takes no memory.
-    pub fn keep(&mut self, pair: Pair) {
+    pub fn keep(&mut self, pair: Pair)
+        ensures kept { vec_len self.old.keys < vec_capacity self.old.keys → self.new.keys.items ≡ self.old.keys.items ++ text_key pair.0 }
+        ensures full { vec_capacity self.old.keys ≤ vec_len self.old.keys → self.new.keys.items ≡ self.old.keys.items }
+        ensures capacity { vec_capacity self.new.keys ≡ vec_capacity self.old.keys }
+    {
+        if self.keys.len() == self.keys.capacity() {
+            return;
+        }
         if let (Some(Key::Text(text)), _) = pair {
-            if self.spare.len() < self.spare.capacity() {
-                self.spare.push_reserved(Key::Text(text));
-            }
+            self.keys.push_reserved(Key::Text(text));
         }
     }
 
@@ -52,23 +60,21 @@ impl SpareKeys {
     pub fn keep_came(&mut self, came: &mut Vec<Option<Coming>>)
         ensures { came.new.items ≡ [] }
     {
-        for come in came.iter_mut() {
-            if let Some(Coming { pair, .. }) = come.take() {
+        while let Some(come) = came.pop() {
+            if let Some(Coming { pair, .. }) = come {
                 self.keep(pair);
             }
         }
-        came.clear();
     }
 
     /// Empties the list of what went in an edit that has ended, and keeps its text keys. Takes no memory.
     pub fn keep_gone(&mut self, gone: &mut Vec<Option<Pair>>)
         ensures { gone.new.items ≡ [] }
     {
-        for pair in gone.iter_mut() {
-            if let Some(pair) = pair.take() {
+        while let Some(pair) = gone.pop() {
+            if let Some(pair) = pair {
                 self.keep(pair);
             }
         }
-        gone.clear();
     }
 }

@@ -13,10 +13,13 @@ use Rattle.far_types.specs.Answers.{Extrema}
 use Rattle.far_types.proofs.Grouping.{same_key, own_key}
 use Rattle.far_types.proofs.ByKeyMaps.{get_at, AreApart}
 use Rattle.far_types.proofs.ByKeyMaps as map_in
-use Rattle.far_extrema.specs.Spreads.{at, IsSet}
+use Rattle.far_extrema.specs.Spreads.{Spans, at, IsSet}
 use Rattle.far_extrema.specs.Holders.{Holding, Holders, span_in, span_at, room_in, room_at, HaveRoom, IsPut, IsGroup, IsCleared, HaveSameSpans, HaveSameRoom, KeepsRoom, HasRoomFor}
 use Rattle.far_extrema.proofs.SpreadLaws.{off, here}
 use Rattle.far_extrema.proofs.HolderLaws.{put-set}
+
+pub own_test : (g : ℕ) → (g == g) ≡ true
+own_test g = grind (arith, nat_tests)
 
 -- an entry is written whose room is that of its key
 pub room-insert : (m : Holders) (k : Option Key) (t : Holding) → room_in (Some t) ≡ room_at m k → HaveSameRoom m (fin.insert m k t)
@@ -70,6 +73,10 @@ put-vacant m k t t' g there set none h q =
       | false ↦ λ e. refl
     ] refl
     ∙ put-set m k t t' g None there set h q
+
+-- where a key has no row group left, it has not this one
+pub none-vacant : (old new : Spans) (g : ℕ) (o : Option (ℤ × ℤ)) → IsSet old g o new → new ≡ [] → o ≡ None
+none-vacant old new g o set vacant = sym (ap (λ b. cond b o (at old g)) (own_test g)) ∙ sym (set g) ∙ ap (λ s. at s g) vacant
 
 -- a key that has room has it in its entry
 pub room-had : (m : Holders) (k : Option Key) (t : Holding) → fin.get m k ≡ Some t → room_at m k ≢ None → t.room ≡ true
@@ -139,9 +146,6 @@ pub record IsFilling (old now : Holders) (group : ℕ) (entries rest : Spanned) 
   pub new : (q : Option Key) → map_in.at rest q ≢ None → span_at now group q ≡ None
   pub there : (q : Option Key) → over (map_in.at rest q) (span_at now group q) ≡ map_in.at entries q
   pub others : (h : ℕ) → (q : Option Key) → h ≢ group → span_at now h q ≡ span_at old h q
-
-pub own_test : (g : ℕ) → (g == g) ≡ true
-own_test g = grind (arith, nat_tests)
 
 -- what an entry has is not nothing
 head : (e : Option Key × (ℤ × ℤ)) (rest : Spanned) → map_in.at (e ∷ rest) e.0 ≡ Some e.1

@@ -3,7 +3,8 @@ ghost use Rattle.std.specs.Prelude.{◌≡◌, ◌≢◌, ◌∷◌, [], None, S
 ghost use Rattle.far_types.specs.Changes.{widened};
 ghost use Rattle.far_extrema.specs.Spreads.{at, IsSet, IsTopOf};
 
-use super::spans::{Span, is_within, together};
+use super::rows_left::RowsLeft;
+use super::spans::{Span, is_inside, is_within, together};
 use super::tournament::{Spare, Tournament};
 use far_types::Refusal;
 use std::alloc::Global;
@@ -198,6 +199,32 @@ impl Holder {
             None => unreachable!(),
         }
         self.groups = None;
+    }
+
+    /// A value less in a row group, of which the rows are left. They are read only if the value was the least or the
+    /// greatest. Returns the span that is left, or `None` if the key occurs there no more. Allocates nothing.
+    pub fn shrink<R: RowsLeft>(&mut self, group: u32, value: i64, rows: &R) -> Option<Span>
+        requires at_hand { R.at_hand rows.now }
+        requires stood { at self.old.spans group ≡ Some (widened value (R.extremes rows.now)) }
+        ensures left { result ≡ R.extremes rows.now }
+        ensures spans { IsSet self.old.spans group (R.extremes rows.now) self.new.spans }
+        ensures room { self.new.room ≡ self.old.room }
+    {
+        if let Some(span) = self.span(group) {
+            if is_inside(value, span) {
+                return Some(span);
+            }
+        }
+        match rows.span() {
+            Some(span) => {
+                self.put(group, span);
+                Some(span)
+            }
+            None => {
+                self.leave(group);
+                None
+            }
+        }
     }
 
     /// A row group in which the key occurs no more, if it did. Takes no memory.

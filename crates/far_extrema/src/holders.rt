@@ -11,6 +11,7 @@ ghost use Rattle.far_extrema.specs.Spans.{extrema_of};
 ghost use Rattle.far_extrema.specs.Holders.{holders_of, span_at, room_at, line_of, IsPut, IsTopped, HaveSameRoom, HaveSameSpans, KeepsRoom, HasRoomFor, IsGroup, IsCleared};
 
 use super::holder::Holder;
+use super::rows_left::RowsLeft;
 use super::spans::{Span, Spans};
 use super::tournament::Spare;
 use far_types::{Key, Refusal, clone_key};
@@ -84,6 +85,35 @@ pub fn leave_in(holders: &mut Holders, group: u32, key: &Option<Key>)
         None => unreachable!(),
     }
     holders.remove(key);
+}
+
+/// A value less under a key in a row group, of which the rows are left. They are read only if the value was the least or the
+/// greatest. Returns the span that is left, or `None`; the key goes with its last row group, if it has no room. One look-up
+/// finds the key, and one more lets it go. Allocates nothing.
+pub fn shrink_in<R: RowsLeft>(
+    holders: &mut Holders,
+    group: u32,
+    key: &Option<Key>,
+    value: i64,
+    rows: &R,
+) -> Option<Span>
+    requires at_hand { R.at_hand rows.now }
+    requires stood { span_at (holders_of holders.old.entries) group key.now ≡ Some (widened value (R.extremes rows.now)) }
+    ensures left { result ≡ R.extremes rows.now }
+    ensures spans { IsPut (holders_of holders.old.entries) group key.now (R.extremes rows.now) (holders_of holders.new.entries) }
+    ensures room { HaveSameRoom (holders_of holders.old.entries) (holders_of holders.new.entries) }
+{
+    match holders.get_mut(key) {
+        Some(holder) => {
+            let left = holder.shrink(group, value, rows);
+            if !holder.is_vacant() {
+                return left;
+            }
+        }
+        None => unreachable!(),
+    }
+    holders.remove(key);
+    None
 }
 
 /// Room for a row group more of a key. Refused with `NoMemory` (1) alone.

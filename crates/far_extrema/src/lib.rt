@@ -8,9 +8,11 @@ mod holder;
 mod holders;
 pub mod laws;
 pub mod live_extrema;
+pub mod rows_left;
 mod spans;
 mod tournament;
 
 pub use group_extrema::GroupExtrema;
 pub use live_extrema::LiveExtrema;
+pub use rows_left::RowsLeft;
 pub use spans::Span;

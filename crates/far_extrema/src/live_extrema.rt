@@ -5,8 +5,9 @@ ghost use Rattle.far_extrema.specs.Holders.{holders_of};
 
 use super::group_extrema::GroupExtrema;
 use super::holders::{
-    Holders, clear_in, fill_all, leave_in, lines, make_rooms, see_in, set_in, span_in,
+    Holders, clear_in, fill_all, leave_in, lines, make_rooms, see_in, set_in, shrink_in, span_in,
 };
+use super::rows_left::RowsLeft;
 use super::spans::{Span, is_within, together};
 use far_types::{Answer, ExtremaLines, Key, Refusal};
 use std::alloc::Global;
@@ -44,7 +45,7 @@ impl Model for LiveExtrema {
 impl LiveExtrema {
     ghost use Rattle.std.specs.FinMap as fin;
     ghost use Rattle.far_types.specs.Answers.{extrema_lines};
-    ghost use Rattle.far_types.specs.Changes.{with_seen};
+    ghost use Rattle.far_types.specs.Changes.{with_seen, widened};
     ghost use Rattle.far_extrema.specs.Live.{with_room, group_at, HasRoomFor};
     ghost use Rattle.far_extrema.specs.Spans.{put_span};
 
@@ -142,6 +143,25 @@ impl LiveExtrema {
             Some(span) => set_in(&mut self.holders, group, key, span),
             None => leave_in(&mut self.holders, group, key),
         }
+    }
+
+    /// One folded row less in a row group, of which the rows under its key are left: these are read only if its value was the
+    /// least or the greatest there. Returns the span that is left, or `None` if the key goes. Costs one look-up, and one more
+    /// if the key goes with its last row group. Allocates nothing.
+    pub fn shrink<R: RowsLeft>(
+        &mut self,
+        group: u32,
+        key: &Option<Key>,
+        value: i64,
+        rows: &R,
+    ) -> Option<Span>
+        requires room { group < length self.old.groups }
+        requires at_hand { R.at_hand rows.now }
+        requires stood { fin.get (group_at self.old.groups group) key.now ≡ Some (widened value (R.extremes rows.now)) }
+        ensures left { result ≡ R.extremes rows.now }
+        ensures shrunk { self.new ≡ record self.old { groups = slice_set self.old.groups group (put_span (group_at self.old.groups group) key.now (R.extremes rows.now)) } }
+    {
+        shrink_in(&mut self.holders, group, key, value, rows)
     }
 
     /// These are the rows of a row group, in place of those that stood for it. Costs a look at each key that occurs

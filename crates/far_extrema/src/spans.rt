@@ -1,5 +1,5 @@
 // The least and the greatest value by key, in a tree map.
-ghost use Rattle.std.specs.Prelude.{◌≡◌, ◌≢◌, None, false, IsTrue, is_some, IfOk, IfErr, OnOk, OnErr, map, ℤ, ◌≤ℤ◌, Option};
+ghost use Rattle.std.specs.Prelude.{◌≡◌, ◌≢◌, None, false, IsTrue, is_some, IfOk, IfErr, OnOk, OnErr, map, ℤ, ◌≤ℤ◌, ◌<ℤ◌, Option};
 ghost use Rattle.std.specs.BTreeMap.{IsOrdered};
 ghost use Rattle.std.specs.FinMap as fin;
 ghost use Rattle.far_types.specs.declared.key.Key.{Key};
@@ -29,6 +29,13 @@ pub fn is_within(value: i64, span: Span) -> bool
     ensures { IsTrue result → (span.0 ≤ℤ value) × (value ≤ℤ span.1) }
 {
     span.0 <= value && value <= span.1
+}
+
+/// Whether a value is strictly within a span, so that the span stays without it.
+pub fn is_inside(value: i64, span: Span) -> bool
+    ensures { IsTrue result → (span.0 <ℤ value) × (value <ℤ span.1) }
+{
+    span.0 < value && value < span.1
 }
 
 /// A span more under a key that is there. Says whether it is. Takes no memory.

@@ -1,7 +1,6 @@
 -- What goes out of the aggregates once the rows are changed: the columns of the row group are at hand.
 use Rattle.std.proofs.Common.{◌≡◌, ℕ, ◌+◌, ◌/◌, ◌<◌, Bool, true, List, [], ◌∷◌, map, length, Option, None, refl, sym, ap, subst, ◌∙◌, arith}
 use Rattle.far_types.specs.declared.cell.Kind.{Kind}
-use Rattle.far_types.specs.declared.limits.Limits.{Limits}
 use Rattle.far_types.specs.declared.refusal.Refusal.{Refusal}
 use Rattle.far_types.specs.declared.spec.Spec.{Spec}
 use Rattle.far_types.specs.Bounds.{spec_refusal}
@@ -46,5 +45,5 @@ module _ {K : Type 0} (content : K → List ℕ) (t : TableRows K) (places : t.p
       (all-served content t.held are p (omega (arith, inside, long)) (subst (λ n. first_of (absents t.held (p / n)) ≡ None) (sym size) free) law t.schema kinds aggregates checked)
 
 -- the row group of a place, as it is lent
-pub lent-is : {K : Type 0} (t : TableRows K) (lent : GroupRows K) (limits : Limits) (p : ℕ) → limits ≡ t.limits → lent ≡ record { rows = t.held; group = p / limits.group } → lent ≡ record { rows = t.held; group = p / t.limits.group }
-lent-is t lent limits p same is = is ∙ (λ i. record { rows = t.held; group = p / (same i).group })
+pub lent-is : {K : Type 0} (t : TableRows K) (lent : GroupRows K) (n g : ℕ) → n ≡ g → lent ≡ record { rows = t.held; group = n } → lent ≡ record { rows = t.held; group = g }
+lent-is t lent n g same is = is ∙ (λ i. record { rows = t.held; group = same i })

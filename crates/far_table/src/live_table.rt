@@ -184,7 +184,6 @@ fn take_out<S: FarTickets>(
     }
     // It tells what the rows are.
     let _held = rows.held();
-    let size = rows.limits().group;
     an_aggregate_is_served_by_the_columns_of_its_schema();
-    aggregates.take(&rows.group(place / size), pending);
+    aggregates.take(&rows.group(pending.row_group()), pending);
 }

@@ -76,7 +76,8 @@ back_until-requires-clause-may g c =
     let within : i < length slots = omega (arith, length-zip_until (added at) i slots (map come slots), ap length c.loop-i.invariant.slots) in
     let same = ap (slice_set c.loop-i.slots i) (c.in-Err.ensures.err ∙ sym c.index-slots-i.is) ∙ set_same c.loop-i.slots i slot here ∙ c.loop-i.invariant.slots in
     let may = next-may_back c.args.size c.args.place gives slots c.requires.folds c.requires.room i within c.come_next.new.comes.items (c.in-Err.ensures.before ∙ c.loop-i.invariant.comes) in
-    subst (λ (l : List Slot). EachMayBack at i l c.as_slice.result.now) (sym same) (subst (λ (l : List (Option Coming)). EachMayBack at i (zip_until (added at) i slots (map come slots)) l) (sym c.as_slice.ensures.value) may)
+    subst (λ n. EachMayBack n i (slice_set c.loop-i.slots i c.come_next.new.slot) c.as_slice.result.now) (sym c.requires.group)
+    (subst (λ (l : List Slot). EachMayBack at i l c.as_slice.result.now) (sym same) (subst (λ (l : List (Option Coming)). EachMayBack at i (zip_until (added at) i slots (map come slots)) l) (sym c.as_slice.ensures.value) may))
 
 pub returns-in-Err-clause-err : goal.returns-in-Err-clause-err
 returns-in-Err-clause-err g c =
@@ -90,6 +91,7 @@ returns-in-Err-clause-err g c =
     let within : i < length slots = omega (arith, length-zip_until (added at) i slots (map come slots), ap length c.loop-i.invariant.slots) in
     let same = ap (slice_set c.loop-i.slots i) (c.in-Err.ensures.err ∙ sym c.index-slots-i.is) ∙ set_same c.loop-i.slots i slot here ∙ c.loop-i.invariant.slots in
     c.back_until.ensures
+    ∙ ap (λ n. zip_until (back n) i (slice_set c.loop-i.slots i c.come_next.new.slot) c.as_slice.result.now) c.requires.group
     ∙ ap (λ (l : List Slot). zip_until (back at) i l c.as_slice.result.now) same
     ∙ ap (zip_until (back at) i (zip_until (added at) i slots (map come slots))) c.as_slice.ensures.value
     ∙ next-undone c.args.size c.args.place gives slots c.requires.folds c.requires.room i within c.come_next.new.comes.items (c.in-Err.ensures.before ∙ c.loop-i.invariant.comes)

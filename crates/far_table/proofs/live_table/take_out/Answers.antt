@@ -11,7 +11,7 @@ pub take-requires-clause-may : goal.take-requires-clause-may
 take-requires-clause-may g c =
     let t = c.args.rows.now in
     let content = g.S.FarTickets.content in
-    let lent = lent-is t c.group.result c.limits.result.now c.args.place c.limits.ensures.same c.group.ensures in
+    let lent = lent-is t c.group.result c.row_group.result (c.args.place / t.limits.group) (c.row_group.ensures ∙ c.requires.goes.at) c.group.ensures in
     let here = ap (places_here content) lent ∙ places-here content t c.held-held.ensures.places c.held-held.ensures.size (c.args.place / t.limits.group) in
     subst (λ (ps : List Place). MayGoOn ps c.args.aggregates.now c.args.pending) (sym here) c.requires.goes.may
 
@@ -19,7 +19,7 @@ pub take-requires-clause-served : goal.take-requires-clause-served
 take-requires-clause-served g c =
     let t = c.args.rows.now in
     let content = g.S.FarTickets.content in
-    let lent = lent-is t c.group.result c.limits.result.now c.args.place c.limits.ensures.same c.group.ensures in
+    let lent = lent-is t c.group.result c.row_group.result (c.args.place / t.limits.group) (c.row_group.ensures ∙ c.requires.goes.at) c.group.ensures in
     subst (λ (rows : GroupRows g.row.S-Ticket.Denot). AreServed (has_column rows) (registered_of c.args.aggregates.now)) (sym lent)
     (served-here content t c.held-held.ensures.places c.held-held.ensures.size c.an_aggregate_is_served_by_the_columns_of_its_schema.ensures c.held-held.ensures.rows c.held-held.ensures.kinds c.args.place c.requires.inside c.requires.here (registered_of c.args.aggregates.now) c.requires.checked)
 
@@ -27,7 +27,7 @@ pub returns-clause-kept : goal.returns-clause-kept
 returns-clause-kept g c =
     let t = c.args.rows.now in
     let content = g.S.FarTickets.content in
-    let lent = lent-is t c.group.result c.limits.result.now c.args.place c.limits.ensures.same c.group.ensures in
+    let lent = lent-is t c.group.result c.row_group.result (c.args.place / t.limits.group) (c.row_group.ensures ∙ c.requires.goes.at) c.group.ensures in
     let here = ap (places_here content) lent ∙ places-here content t c.held-held.ensures.places c.held-held.ensures.size (c.args.place / t.limits.group) in
     let gone = c.take.ensures.taken ∙ ap (λ (ps : List Place). gone_on ps c.args.aggregates.now c.args.pending) here in
     subst (λ (slots : List Slot). Keeps t.limits.group t.places slots) (sym gone) c.requires.goes.kept

@@ -1,14 +1,18 @@
-use Rattle.std.proofs.Common.{◌≡◌, ◌<◌, length, refl, Some, None, sym, ap, ◌∙◌, subst}
+use Rattle.std.proofs.Common.{◌≡◌, ◌<◌, List, Option, length, refl, Some, None, sym, ap, ◌∙◌, subst}
+use Rattle.std.specs.Prelude.{ℤ, ◌≤ℤ◌, IfSome}
 use Rattle.std.proofs.lemmas.Int.{to_z-of_z}
+use Rattle.std.specs.FinMap as fin
+use Rattle.far_types.specs.Answers.{Extrema}
 use Rattle.far_types.specs.Changes.{with_seen, widened}
 use Rattle.far_extrema.specs.Live.{Live, group_at}
 use Rattle.far_aggregates.specs.Known.{AreKnown}
+use Rattle.far_aggregates.proofs.ExtremaLaws.{seen-within}
 use Rattle.far_aggregates.proofs.KnownLaws.{known-at, known-noted, known-same, seen-plain}
 use Rattle.far_aggregates.proofs.known.KnownExtrema.see_plain.Goals as goal
 
 pub see_noted-requires-clause-noted : goal.see_noted-requires-clause-noted
 see_noted-requires-clause-noted c =
-    let same = c.as_slice.ensures.value ∙ c.make_place.ensures in
+    let same = c.as_slice.ensures.value in
     known-at c.as_slice.result.now c.self.inside.live.groups c.args.group c.noted_in-noted.result (subst (λ plain. AreKnown plain c.self.inside.live.groups) (sym same) c.self.invariant) c.noted_in-noted.ensures
 
 pub invariant_of-self : goal.invariant_of-self
@@ -31,3 +35,24 @@ invariant_of-self-2 c =
     let known = subst (λ plain. AreKnown plain groups) (sym c.make_place.ensures) c.self.invariant in
     let noted = ap Some wide ∙ seen-plain m None value c.in_ok-stood.stood refl c.in_ok-stood.ensures.stood in
     subst (AreKnown c.note.new.plain.items) (sym is) (known-noted plain c.note.new.plain.items groups c.args.group (with_seen m (None, value)) (Some c.wider.result) room noted known c.note.ensures)
+
+pub returns-then-is_within-clause-ok : goal.returns-then-is_within-clause-ok
+returns-then-is_within-clause-ok c =
+    let fits = c.ranges.value in
+    let groups = c.args.self.now.groups in
+    let inside = c.self.inside.live.groups in
+    let within : (s : ℤ × ℤ) × (c.noted_in-noted.result ≡ Some s) × (s.0 ≤ℤ c.args.value) × (c.args.value ≤ℤ s.1) = simp to_z-of_z at c.if-is_within.ensures refl in
+    let known = known-at c.as_slice.result.now inside c.args.group c.noted_in-noted.result (subst (λ plain. AreKnown plain inside) (sym c.as_slice.ensures.value) c.self.invariant) c.noted_in-noted.ensures in
+    let there = subst (λ (o : Option (ℤ × ℤ)). IfSome o (λ span. fin.get (group_at inside c.args.group) None ≡ Some span)) within.1 known in
+    let found = ap (λ (live : Live). fin.get (group_at live.groups c.args.group) None) (sym c.self.view_is) ∙ there in
+    ap (λ (gs : List Extrema). record c.args.self.now { groups = gs }) (seen-within c.args.group groups None c.args.value within.0 found within.2 within.3)
+
+pub returns-then-is_within-clause-stood : goal.returns-then-is_within-clause-stood
+returns-then-is_within-clause-stood c =
+    let fits = c.ranges.value in
+    let inside = c.self.inside.live.groups in
+    let within : (s : ℤ × ℤ) × (c.noted_in-noted.result ≡ Some s) × (s.0 ≤ℤ c.args.value) × (c.args.value ≤ℤ s.1) = simp to_z-of_z at c.if-is_within.ensures refl in
+    let known = known-at c.as_slice.result.now inside c.args.group c.noted_in-noted.result (subst (λ plain. AreKnown plain inside) (sym c.as_slice.ensures.value) c.self.invariant) c.noted_in-noted.ensures in
+    let there = subst (λ (o : Option (ℤ × ℤ)). IfSome o (λ span. fin.get (group_at inside c.args.group) None ≡ Some span)) within.1 known in
+    let found = ap (λ (live : Live). fin.get (group_at live.groups c.args.group) None) (sym c.self.view_is) ∙ there in
+    within.1 ∙ sym found

@@ -5,14 +5,14 @@ use Rattle.far_aggregates.specs.declared.coming.Coming.{Coming}
 use Rattle.far_aggregates.specs.Kept.{Change}
 
 -- the value that goes is strictly within what stands under its key in the row group, with the value that came
-abbrev pub IsSpared : Option Coming → Change → Type 0
-IsSpared None change = ⊥
-IsSpared (Some come) None = ⊥
-IsSpared (Some come) (Some pair) = (span : ℤ × ℤ) × (come.stood ≡ Some span) × (come.pair.0 ≡ pair.0) × ((widened come.pair.1 (Some span)).0 <ℤ pair.1) × (pair.1 <ℤ (widened come.pair.1 (Some span)).1)
+abbrev pub NeedNotGo : Option Coming → Change → Type 0
+NeedNotGo None change = ⊥
+NeedNotGo (Some come) None = ⊥
+NeedNotGo (Some come) (Some pair) = (span : ℤ × ℤ) × (come.stood ≡ Some span) × (come.pair.0 ≡ pair.0) × ((widened come.pair.1 (Some span)).0 <ℤ pair.1) × (pair.1 <ℤ (widened come.pair.1 (Some span)).1)
 
 -- a pair is as it was, or is left out since it need not go
 abbrev pub IsLeftOut : Option Coming → Change → Change → Type 0
-IsLeftOut come old new = (new ≡ old) ⊎ ((new ≡ None) × IsSpared come old)
+IsLeftOut come old new = (new ≡ old) ⊎ ((new ≡ None) × NeedNotGo come old)
 
 -- likewise each
 abbrev pub EachLeftOut : List (Option Coming) → List Change → List Change → Type 0

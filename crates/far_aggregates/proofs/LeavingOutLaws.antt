@@ -22,7 +22,7 @@ use Rattle.far_aggregates.specs.Coming.{coming_of, come_of, kept_more, added}
 use Rattle.far_aggregates.specs.Going.{kept_less, taken, KeptMayTake, MayTake, EachMayTake}
 use Rattle.far_aggregates.specs.Pending.{gone_on, GoesOn}
 use Rattle.far_aggregates.specs.Rooms.{KeptHasRoom, HasRoom, HaveRoom}
-use Rattle.far_aggregates.specs.Sparing.{IsSpared, IsLeftOut, EachLeftOut}
+use Rattle.far_aggregates.specs.LeavingOut.{NeedNotGo, IsLeftOut, EachLeftOut}
 use Rattle.far_aggregates.specs.Until.{zip_all}
 use Rattle.far_aggregates.proofs.ExtremaLaws.{left-within, same_or_not}
 use Rattle.far_aggregates.proofs.PendingLaws.{get-set_other}
@@ -41,10 +41,10 @@ none-span : (span : ℤ × ℤ) → None ≡ Some span → ⊥
 none-span span h = cc
 
 module _ (g : ℕ) (here : List Place) where
-  spared-kept : (spec : Spec) (k : Kept) (p pair : Pair) → KeptHasRoom g k → IsSpared (Some (coming_of g k p)) (Some pair) → KeptMayTake spec g here (kept_more g k p) pair
+  needless-kept : (spec : Spec) (k : Kept) (p pair : Pair) → KeptHasRoom g k → NeedNotGo (Some (coming_of g k p)) (Some pair) → KeptMayTake spec g here (kept_more g k p) pair
       → kept_less spec g here (kept_more g k p) pair ≡ kept_more g k p
-  spared-kept spec (kept.Totals live) p pair room s may = absurd (none-span s.0 s.1)
-  spared-kept spec (kept.Extrema live) p pair room s may =
+  needless-kept spec (kept.Totals live) p pair room s may = absurd (none-span s.0 s.1)
+  needless-kept spec (kept.Extrema live) p pair room s may =
       let m = group_at live.groups g in
       let gs = slice_set live.groups g (with_seen m p) in
       let wide = widened p.1 (Some s.0) in
@@ -53,11 +53,11 @@ module _ (g : ℕ) (here : List Place) where
       ap (λ (hs : List Extrema). kept.Extrema (record live { groups = hs })) (sym (left-within g gs pair.0 pair.1 (fin.get (extrema (pairs_here spec here)) pair.0) wide may found s.3 s.4))
 
   -- of one slot, of which a pair came or none
-  spared-slot : (a : Aggregate) (o c : Change) → KeptHasRoom g a.kept → IsSpared (option_map (coming_of g a.kept) o) c → MayTake g here (added g (Some a) (option_map (coming_of g a.kept) o)) c
+  needless-slot : (a : Aggregate) (o c : Change) → KeptHasRoom g a.kept → NeedNotGo (option_map (coming_of g a.kept) o) c → MayTake g here (added g (Some a) (option_map (coming_of g a.kept) o)) c
       → taken g here (added g (Some a) (option_map (coming_of g a.kept) o)) c ≡ added g (Some a) (option_map (coming_of g a.kept) o)
-  spared-slot a None c room s may = absurd s
-  spared-slot a (Some p) None room s may = absurd s
-  spared-slot a (Some p) (Some pair) room s may = ap (λ (k : Kept). Some (record a { kept = k })) (spared-kept a.spec a.kept p pair room s may)
+  needless-slot a None c room s may = absurd s
+  needless-slot a (Some p) None room s may = absurd s
+  needless-slot a (Some p) (Some pair) room s may = ap (λ (k : Kept). Some (record a { kept = k })) (needless-kept a.spec a.kept p pair room s may)
 
   nothing-taken : (s : Slot) → taken g here s None ≡ s
   nothing-taken None = refl
@@ -72,10 +72,10 @@ module _ (g : ℕ) (here : List Place) where
   left-may s come c d (inr out) may = subst (MayTake g here s) (sym out.0) (nothing-may s)
 
 module _ (size i : ℕ) (gives : Gives) (here : List Place) where
-  spared : (t : Slot) (c : Change) → HasRoom (i / size) t → IsSpared (come_of size i gives t) c → MayTake (i / size) here (added (i / size) t (come_of size i gives t)) c
+  needless : (t : Slot) (c : Change) → HasRoom (i / size) t → NeedNotGo (come_of size i gives t) c → MayTake (i / size) here (added (i / size) t (come_of size i gives t)) c
       → taken (i / size) here (added (i / size) t (come_of size i gives t)) c ≡ added (i / size) t (come_of size i gives t)
-  spared None c room s may = refl
-  spared (Some a) c room s may = spared-slot (i / size) here a (change_of size i gives (Some a)) c room s may
+  needless None c room s may = refl
+  needless (Some a) c room s may = needless-slot (i / size) here a (change_of size i gives (Some a)) c room s may
 
   left-taken : (t : Slot) (c d : Change) → HasRoom (i / size) t → IsLeftOut (come_of size i gives t) c d → MayTake (i / size) here (added (i / size) t (come_of size i gives t)) c
       → taken (i / size) here (added (i / size) t (come_of size i gives t)) d ≡ taken (i / size) here (added (i / size) t (come_of size i gives t)) c
@@ -83,7 +83,7 @@ module _ (size i : ℕ) (gives : Gives) (here : List Place) where
   left-taken t c d room (inr out) may =
       ap (taken (i / size) here (added (i / size) t (come_of size i gives t))) out.0
       ∙ nothing-taken (i / size) here (added (i / size) t (come_of size i gives t))
-      ∙ sym (spared t c room out.1 may)
+      ∙ sym (needless t c room out.1 may)
 
   all-left_taken : (slots : List Slot) (cs ds : List Change) → length ds ≡ length cs → HaveRoom (i / size) slots → EachLeftOut (map (come_of size i gives) slots) cs ds
       → EachMayTake (i / size) here (zip_all (added (i / size)) slots (map (come_of size i gives) slots)) cs
@@ -114,11 +114,11 @@ each-left_may g here comes slots cs ds many as_many out may k s d at is =
     left-may g here s come.0 c.0 d (out k come.0 c.0 d come.1 c.1 is) (may k s c.0 at c.1)
 
 -- so what is to go may go without them, and then what is kept is the same
-pub spared-goes : (size place : ℕ) (gives : Gives) (places : List Place) (mid new : List Slot) (comes : List (Option Coming)) (old left : Pending) → HaveRoom (place / size) mid
+pub left_out-goes : (size place : ℕ) (gives : Gives) (places : List Place) (mid new : List Slot) (comes : List (Option Coming)) (old left : Pending) → HaveRoom (place / size) mid
     → old.group ≡ place / size → left.group ≡ place / size → comes ≡ map (come_of size place gives) mid → new ≡ zip_all (added (place / size)) mid (map (come_of size place gives) mid)
     → length left.gone.items ≡ length old.gone.items → length old.gone.items ≡ length mid → length left.gone.items ≤ length new → EachLeftOut comes old.gone.items left.gone.items
     → GoesOn size (place / size) places new old → GoesOn size (place / size) places new left
-spared-goes size place gives places mid new comes old left room at there come came many as_many within out goes =
+left_out-goes size place gives places mid new comes old left room at there come came many as_many within out goes =
     let g = place / size in
     let here = in_group size g places in
     let may : EachMayTake g here new old.gone.items = subst (λ n. EachMayTake n here new old.gone.items) at goes.may.may in
@@ -129,6 +129,7 @@ spared-goes size place gives places mid new comes old left room at there come ca
     ap (λ l. zip_all (taken g here) l left.gone.items) came ∙ all-left_taken size place gives here mid old.gone.items left.gone.items many room outs mays ∙ ap (λ l. zip_all (taken g here) l old.gone.items) (sym came) in
     let gone : gone_on here new left ≡ gone_on here new old = ap (λ n. zip_all (taken n here) new left.gone.items) there ∙ same ∙ ap (λ n. zip_all (taken n here) new old.gone.items) (sym at) in
     record {
+      at = there;
       may = record {
         len = within;
         may = subst (λ n. EachMayTake n here new left.gone.items) (sym there) (each-left_may g here comes new old.gone.items left.gone.items many (as_many ∙ sym few) out may);

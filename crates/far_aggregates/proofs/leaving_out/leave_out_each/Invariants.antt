@@ -1,6 +1,6 @@
 use Rattle.std.proofs.Common.{◌≡◌, ◌≤◌, ℕ, length, slice_get}
-use Rattle.far_aggregates.specs.Sparing.{EachLeftOut}
-use Rattle.far_aggregates.proofs.sparing.spare.Given as goal
+use Rattle.far_aggregates.specs.LeavingOut.{EachLeftOut}
+use Rattle.far_aggregates.proofs.leaving_out.leave_out_each.Given as goal
 
 abbrev pub invariant-loop-i : goal.invariant-loop-i
 invariant-loop-i l =

@@ -1,7 +1,7 @@
 // Pairs that need not go out of extrema.
 ghost use Rattle.std.specs.Prelude.{◌≡◌, ◌<ℤ◌, Some, IsTrue, length};
 ghost use Rattle.far_types.specs.Changes.{widened};
-ghost use Rattle.far_aggregates.specs.Sparing.{IsSpared, IsLeftOut, EachLeftOut};
+ghost use Rattle.far_aggregates.specs.LeavingOut.{NeedNotGo, IsLeftOut, EachLeftOut};
 
 use super::changes::Pair;
 use super::coming::Coming;
@@ -22,15 +22,6 @@ fn are_same(key: &Option<Key>, other: &Option<Key>) -> bool
     }
 }
 
-/// Whether what stands under the key of a pair that is to go was looked up for a pair that came: for one of the same key,
-/// which occurred before. Then the pair goes only since its value is the least or the greatest.
-pub fn was_looked_up(come: Option<&Option<Coming>>, key: &Option<Key>) -> bool {
-    if let Some(Some(come)) = come {
-        return come.stood.is_some() && are_same(&come.pair.0, key);
-    }
-    false
-}
-
 /// What stands under a key with a value more.
 fn wide(span: Span, pair: &Pair) -> Span
     ensures { result ≡ widened pair.now.1 (Some span) }
@@ -46,8 +37,8 @@ fn is_inside(pair: &Pair, span: Span) -> bool
 }
 
 /// Whether a pair need not go: its value is strictly within what stands under its key since another value came there.
-fn is_spared(come: &Option<Coming>, gone: &Option<Pair>) -> bool
-    ensures { IsTrue result → IsSpared come.now gone.now }
+fn need_not_go(come: &Option<Coming>, gone: &Option<Pair>) -> bool
+    ensures { IsTrue result → NeedNotGo come.now gone.now }
 {
     if let Some(come) = come {
         if let Some(span) = come.stood {
@@ -60,10 +51,10 @@ fn is_spared(come: &Option<Coming>, gone: &Option<Pair>) -> bool
 }
 
 /// A pair that need not go is left out. Its key becomes a spare one.
-fn spare_one(keys: &mut SpareKeys, come: &Option<Coming>, gone: &mut Option<Pair>)
+fn leave_out_one(keys: &mut SpareKeys, come: &Option<Coming>, gone: &mut Option<Pair>)
     ensures { IsLeftOut come.now gone.old gone.new }
 {
-    if is_spared(come, gone) {
+    if need_not_go(come, gone) {
         if let Some(pair) = gone.take() {
             keys.keep(pair);
         }
@@ -71,18 +62,18 @@ fn spare_one(keys: &mut SpareKeys, come: &Option<Coming>, gone: &mut Option<Pair
 }
 
 /// The pairs that need not go are left out.
-fn spare(keys: &mut SpareKeys, gone: &mut [Option<Pair>], comes: &[Option<Coming>])
+fn leave_out_each(keys: &mut SpareKeys, gone: &mut [Option<Pair>], comes: &[Option<Coming>])
     requires { length gone.old ≡ length comes.now }
     ensures len { length gone.new ≡ length gone.old }
     ensures left_out { EachLeftOut comes.now gone.old gone.new }
 {
     for i in 0..gone.len() {
-        spare_one(keys, &comes[i], &mut gone[i]);
+        leave_out_one(keys, &comes[i], &mut gone[i]);
     }
 }
 
 /// The pairs that are to go without those that need not, so that nobody looks up again what stands under their keys.
-pub fn spared(
+pub fn leave_out(
     keys: &mut SpareKeys,
     pairs: Vec<Option<Pair>>,
     comes: &[Option<Coming>],
@@ -92,6 +83,6 @@ pub fn spared(
     ensures left_out { EachLeftOut comes.now pairs.items result.items }
 {
     let mut gone = pairs;
-    spare(keys, gone.as_mut_slice(), comes);
+    leave_out_each(keys, gone.as_mut_slice(), comes);
     gone
 }

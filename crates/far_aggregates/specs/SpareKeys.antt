@@ -1,0 +1,10 @@
+-- Text keys that are kept for the next edit.
+use Rattle.std.specs.Prelude.{List, [], ◌∷◌, Option, None, Some}
+use Rattle.far_types.specs.declared.key.Key.{Key}
+use Rattle.far_types.specs.declared.key.Key.TheVariants as key
+
+-- what is kept of a key, where there is capacity: only a text has a string that serves another
+abbrev pub text_key : Option Key → List Key
+text_key None = []
+text_key (Some (key.Int number)) = []
+text_key (Some (key.Text text)) = key.Text text ∷ []

@@ -1,0 +1,19 @@
+// What tells the span of the rows that are left under a key.
+ghost use Rattle.std.specs.Prelude.{◌≡◌, Option, ℤ};
+
+use super::spans::Span;
+
+/// The rows of a row group that are left under one key once a row went. Extrema know no rows, so whoever has them at hand
+/// reads them.
+pub trait RowsLeft {
+    /// Whether the rows can be read.
+    ghost at_hand: { Self → Type 0 };
+
+    /// The least and the greatest of their values.
+    ghost extremes: { Self → Option (ℤ × ℤ) };
+
+    /// The least and the greatest of their values, or `None` if there is no such row. Allocates nothing.
+    fn span(&self) -> Option<Span>
+        requires { at_hand self.now }
+        ensures { result ≡ extremes self.now };
+}
