@@ -1,4 +1,4 @@
--- What is kept, where nothing is left to be built in, answers for the rows as they are.
+-- An aggregate in which no row group is pending answers for the rows as they are.
 use Rattle.std.proofs.Common.{◌≡◌, ℕ, zero, suc, ◌+◌, ◌*◌, ◌<◌, ◌≤◌, cond, List, [], ◌∷◌, ◌++◌, length, take, refl, sym, ap, ◌∙◌, arith, Option, None, Some, slice_index_or, replicate, length-append}
 use Rattle.std.specs.Prelude.{fold, ℤ}
 use Rattle.std.specs.List.{filter_map}
@@ -21,9 +21,9 @@ use Rattle.far_types.proofs.PlaceLaws.{pairs_of-rows}
 use Rattle.far_types.proofs.TotalLaws.{extrema-append}
 use Rattle.far_extrema.specs.Live.{all_groups}
 use Rattle.far_aggregates.specs.declared.aggregate.Aggregate.{Aggregate}
-use Rattle.far_aggregates.specs.declared.aggregate.Kept.{Kept}
-use Rattle.far_aggregates.specs.declared.aggregate.Kept.TheVariants as kept
-use Rattle.far_aggregates.specs.Kept.{group_pairs, fold_of, left_in, kept_answer, IsKept, KeepsSlot}
+use Rattle.far_aggregates.specs.declared.aggregate.Accumulator.{Accumulator}
+use Rattle.far_aggregates.specs.declared.aggregate.Accumulator.TheVariants as accumulator
+use Rattle.far_aggregates.specs.Accumulators.{group_pairs, fold_of, left_in, accumulator_answer, IsKept, KeepsSlot}
 use Rattle.far_aggregates.proofs.BuiltLaws.{none_left, built-all}
 use Rattle.far_aggregates.proofs.ListLaws.{index-replicate}
 
@@ -82,20 +82,20 @@ module _ (spec : Spec) (size : ℕ) (ps : List Place) where
             let many = le-mul_of_pos_right m p in
             omega arith
 
-answers : (f : Fold) (size : ℕ) (places : List Place) (a : Aggregate) (k : Kept) → 0 < size → fold_of k ≡ f → IsKept size places a k → left a.unbuilt ≡ 0 → kept_answer a.spec.key k ≡ answer_of f a.spec.key (pairs_of a.spec (rows_of places))
-answers f size places a (kept.Totals live) pos e h z =
+answers : (f : Fold) (size : ℕ) (places : List Place) (a : Aggregate) (k : Accumulator) → 0 < size → fold_of k ≡ f → IsKept size places a k → left a.unbuilt ≡ 0 → accumulator_answer a.spec.key k ≡ answer_of f a.spec.key (pairs_of a.spec (rows_of places))
+answers f size places a (accumulator.Totals live) pos e h z =
     ap (λ m. answer.Totals (or_zero a.spec.key (total_lines m))) (h.0 ∙ ap totals (built-all a.spec size a.unbuilt 0 places z ∙ sym (pairs_of-rows a.spec places)))
     ∙ ap (λ x. answer_of x a.spec.key (pairs_of a.spec (rows_of places))) e
-answers f size places a (kept.Extrema live) pos e h z =
+answers f size places a (accumulator.Extrema live) pos e h z =
     ap (λ m. answer.Extrema (extrema_lines m)) (joined-all a.spec size places live.groups pos (λ k. h.0 k ∙ ap (λ b. cond b fin.empty (extrema (group_pairs a.spec size k places))) (none_left a.unbuilt k z)) ∙ ap extrema (sym (pairs_of-rows a.spec places)))
     ∙ ap (λ x. answer_of x a.spec.key (pairs_of a.spec (rows_of places))) e
 
-pub answers-now : (size : ℕ) (places : List Place) (a : Aggregate) → 0 < size → KeepsSlot size places (Some a) → left a.unbuilt ≡ 0 → kept_answer a.spec.key a.kept ≡ answer_over a.spec (rows_of places)
-answers-now size places a pos h z = answers a.spec.fold size places a a.kept pos h.0 h.1 z
+pub answers-now : (size : ℕ) (places : List Place) (a : Aggregate) → 0 < size → KeepsSlot size places (Some a) → left a.unbuilt ≡ 0 → accumulator_answer a.spec.key a.accumulator ≡ answer_over a.spec (rows_of places)
+answers-now size places a pos h z = answers a.spec.fold size places a a.accumulator pos h.0 h.1 z
 
-kept-left : (size : ℕ) (places : List Place) (a : Aggregate) (k : Kept) → IsKept size places a k → left_in k ≡ left a.unbuilt
-kept-left size places a (kept.Totals live) h = h.1
-kept-left size places a (kept.Extrema live) h = h.1
+kept-left : (size : ℕ) (places : List Place) (a : Aggregate) (k : Accumulator) → IsKept size places a k → left_in k ≡ left a.unbuilt
+kept-left size places a (accumulator.Totals live) h = h.1
+kept-left size places a (accumulator.Extrema live) h = h.1
 
-pub left-now : (size : ℕ) (places : List Place) (a : Aggregate) → KeepsSlot size places (Some a) → left_in a.kept ≡ left a.unbuilt
-left-now size places a h = kept-left size places a a.kept h.1
+pub left-now : (size : ℕ) (places : List Place) (a : Aggregate) → KeepsSlot size places (Some a) → left_in a.accumulator ≡ left a.unbuilt
+left-now size places a h = kept-left size places a a.accumulator h.1

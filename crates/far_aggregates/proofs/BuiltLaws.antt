@@ -1,4 +1,4 @@
--- How the totals of the places that are built in change with the places, and with the row groups that are built in.
+-- How the totals of the places whose row groups are scanned change with the places, and with the row groups.
 use Rattle.std.proofs.Common.{◌≡◌, ℕ, zero, suc, ◌+◌, ◌/◌, ◌<◌, ◌≤◌, Bool, true, false, cond, List, [], ◌∷◌, ◌++◌, length, refl, sym, ap, ◌∙◌, subst, arith, add-zero, zero-add, Option, None, Some, slice_get}
 use Rattle.std.specs.Prelude.{ℤ, FitsSigned}
 use Rattle.std.specs.Int.{w64}
@@ -15,8 +15,8 @@ use Rattle.far_types.specs.Filters.{keeps}
 use Rattle.far_types.specs.Pairs.{Pair, PairsFit, paired, pair_in, pair_of, key_under}
 use Rattle.far_types.specs.Table.{Place, place_pair, is_unbuilt, left}
 use Rattle.far_types.proofs.TotalLaws.{totals-cons, totals-among, without_pair-totals}
-use Rattle.far_aggregates.specs.Kept.{Change, PlacesFit, built_pair, built_pairs}
-use Rattle.far_aggregates.specs.Changes.{with_change, without_change}
+use Rattle.far_aggregates.specs.Accumulators.{Change, PlacesFit, built_pair, built_pairs}
+use Rattle.far_aggregates.specs.Pairs.{with_change, without_change}
 
 pub totals-more : (o : Change) (ps : List Pair) → totals (cons_option o ps) ≡ with_change (totals ps) o
 totals-more None ps = refl
@@ -57,7 +57,7 @@ module _ (spec : Spec) (size : ℕ) (unbuilt : List Bool) where
   others-changed f i (x ∷ ps) zero = refl
   others-changed f i (x ∷ ps) (suc p) = ap (cons_option (built_pair spec size unbuilt i x)) (others-changed f (i + 1) ps p)
 
-  -- the new pair is added, and then the old one is taken
+  -- the new pair is added, and then the old one is retracted
   pub built-changed : (f : Place → Place) (ps : List Place) (p : ℕ) (x y : Place) → slice_get ps p ≡ Some x → slice_get (changed_at f p ps) p ≡ Some y
       → without_change (with_change (totals (built_pairs spec size unbuilt 0 ps)) (built_pair spec size unbuilt p y)) (built_pair spec size unbuilt p x) ≡ totals (built_pairs spec size unbuilt 0 (changed_at f p ps))
   built-changed f ps p x y here there =
@@ -147,7 +147,7 @@ module _ (spec : Spec) (size : ℕ) (unbuilt : List Bool) where
   length-built i [] = omega arith
   length-built i (p ∷ ps) = let h = cons-length (built_pair spec size unbuilt i p) (built_pairs spec size unbuilt (i + 1) ps) (length ps) (length-built (i + 1) ps) in omega arith
 
--- where no row group is left, none is unbuilt
+-- if no row group is left, none is pending
 pub none_left : (unbuilt : List Bool) (g : ℕ) → left unbuilt ≡ 0 → is_unbuilt unbuilt g ≡ false
 none_left [] g h = refl
 none_left (true ∷ flags) g h = absurd (let e = sum_by-cons (λ (b : Bool). cond b 1 0) true flags in omega arith)
@@ -161,7 +161,7 @@ built-all spec size unbuilt i (p ∷ ps) h =
     ap (λ b. cons_option (cond b None (place_pair spec p)) (built_pairs spec size unbuilt (i + 1) ps)) (none_left unbuilt (i / size) h)
     ∙ ap (cons_option (place_pair spec p)) (built-all spec size unbuilt (i + 1) ps h)
 
--- where each place's row group is unbuilt, nothing is in
+-- if each place's row group is pending, nothing is in
 pub built-none : (spec : Spec) (size : ℕ) (unbuilt : List Bool) (i : ℕ) (ps : List Place) → ((k : ℕ) → k < i + length ps → is_unbuilt unbuilt (k / size) ≡ true) → built_pairs spec size unbuilt i ps ≡ []
 built-none spec size unbuilt i [] h = refl
 built-none spec size unbuilt i (p ∷ ps) h =

@@ -5,30 +5,30 @@ use Rattle.far_types.specs.declared.spec.Spec.{Spec}
 use Rattle.far_types.specs.Cells.{RowFits}
 use Rattle.far_types.specs.Edits.{changed_at, removed}
 use Rattle.far_types.specs.Table.{Place, in_group, is_unbuilt}
-use Rattle.far_aggregates.specs.declared.aggregate.Kept.{Kept}
-use Rattle.far_aggregates.specs.declared.aggregate.Kept.TheVariants as kept
-use Rattle.far_aggregates.specs.declared.coming.Coming.{Coming}
-use Rattle.far_aggregates.specs.Kept.{Slot, Change, PlacesFit, built_pairs, KeepsSlot, Keeps, registered_in}
-use Rattle.far_aggregates.specs.Changes.{place_gives, change_of, Folds, EachFolds}
-use Rattle.far_aggregates.specs.Coming.{coming_of, come_of, added, back}
-use Rattle.far_aggregates.specs.Going.{taken, MayTake, EachMayTake}
-use Rattle.far_aggregates.specs.Rooms.{HaveRoom}
+use Rattle.far_aggregates.specs.declared.aggregate.Accumulator.{Accumulator}
+use Rattle.far_aggregates.specs.declared.aggregate.Accumulator.TheVariants as accumulator
+use Rattle.far_aggregates.specs.declared.deltas.Delta.{Delta}
+use Rattle.far_aggregates.specs.Accumulators.{Slot, Change, PlacesFit, built_pairs, KeepsSlot, Keeps, registered_in}
+use Rattle.far_aggregates.specs.Pairs.{place_gives, change_of, Folds, EachFolds}
+use Rattle.far_aggregates.specs.Deltas.{delta_of, row_delta, added, undo}
+use Rattle.far_aggregates.specs.Retract.{retracted, MayRetract, EachMayRetract}
+use Rattle.far_aggregates.specs.Reserve.{HaveRoom}
 use Rattle.far_aggregates.specs.Until.{zip_all}
 use Rattle.far_aggregates.proofs.BuiltLaws.{built-fits, length-built}
 use Rattle.far_aggregates.proofs.GroupLaws.{get-changed}
-use Rattle.far_aggregates.proofs.KeepLaws.{slot, slot-insert, slot-set, slot-may_take}
+use Rattle.far_aggregates.proofs.KeepLaws.{slot, slot-insert, slot-set, slot-may_retract}
 use Rattle.far_aggregates.proofs.ListLaws.{all-get, map-zip_all}
 
 -- totals are those of few pairs
 
-kept-folds : (size : ℕ) (ps : List Place) (spec : Spec) (registration : ℕ) (unbuilt : List Bool) (k : Kept) → PlacesFit ps → length ps ≤ 2 ^ 24 → KeepsSlot size ps (slot spec registration unbuilt k) → Folds (slot spec registration unbuilt k)
-kept-folds size ps spec registration unbuilt (kept.Totals live) fit few h =
+kept-folds : (size : ℕ) (ps : List Place) (spec : Spec) (registration : ℕ) (unbuilt : List Bool) (k : Accumulator) → PlacesFit ps → length ps ≤ 2 ^ 24 → KeepsSlot size ps (slot spec registration unbuilt k) → Folds (slot spec registration unbuilt k)
+kept-folds size ps spec registration unbuilt (accumulator.Totals live) fit few h =
     (built_pairs spec size unbuilt 0 ps, h.1.0, built-fits spec size unbuilt 0 ps fit, (let b = length-built spec size unbuilt 0 ps in omega arith))
-kept-folds size ps spec registration unbuilt (kept.Extrema live) fit few h = tt
+kept-folds size ps spec registration unbuilt (accumulator.Extrema live) fit few h = tt
 
 slot-folds : (size : ℕ) (ps : List Place) (s : Slot) → PlacesFit ps → length ps ≤ 2 ^ 24 → KeepsSlot size ps s → Folds s
 slot-folds size ps None fit few h = tt
-slot-folds size ps (Some a) fit few h = kept-folds size ps a.spec a.registration a.unbuilt a.kept fit few h
+slot-folds size ps (Some a) fit few h = kept-folds size ps a.spec a.registration a.unbuilt a.accumulator fit few h
 
 pub each-folds : (size : ℕ) (ps : List Place) (slots : List Slot) → PlacesFit ps → length ps ≤ 2 ^ 24 → Keeps size ps slots → EachFolds slots
 each-folds size ps [] fit few h k s e = cc
@@ -37,88 +37,88 @@ each-folds size ps (t ∷ slots) fit few h (suc k) s e = each-folds size ps slot
 
 -- what an edit leaves of a slot as the table shows it
 
-added-registered : (g : ℕ) (s : Slot) (c : Option Coming) → registered_in (added g s c) ≡ registered_in s
+added-registered : (g : ℕ) (s : Slot) (c : Option Delta) → registered_in (added g s c) ≡ registered_in s
 added-registered g None c = refl
 added-registered g (Some a) None = refl
 added-registered g (Some a) (Some c) = refl
 
-back-registered : (g : ℕ) (s : Slot) (c : Option Coming) → registered_in (back g s c) ≡ registered_in s
-back-registered g None c = refl
-back-registered g (Some a) None = refl
-back-registered g (Some a) (Some c) = refl
+undo-registered : (g : ℕ) (s : Slot) (c : Option Delta) → registered_in (undo g s c) ≡ registered_in s
+undo-registered g None c = refl
+undo-registered g (Some a) None = refl
+undo-registered g (Some a) (Some c) = refl
 
-taken-registered : (g : ℕ) (here : List Place) (s : Slot) (c : Change) → registered_in (taken g here s c) ≡ registered_in s
-taken-registered g here None c = refl
-taken-registered g here (Some a) None = refl
-taken-registered g here (Some a) (Some p) = refl
+retracted-registered : (g : ℕ) (here : List Place) (s : Slot) (c : Change) → registered_in (retracted g here s c) ≡ registered_in s
+retracted-registered g here None c = refl
+retracted-registered g here (Some a) None = refl
+retracted-registered g here (Some a) (Some p) = refl
 
-pub all-added_registered : (g : ℕ) (slots : List Slot) (cs : List (Option Coming)) → map registered_in (zip_all (added g) slots cs) ≡ map registered_in slots
+pub all-added_registered : (g : ℕ) (slots : List Slot) (cs : List (Option Delta)) → map registered_in (zip_all (added g) slots cs) ≡ map registered_in slots
 all-added_registered g slots cs = map-zip_all (added g) registered_in (added-registered g) slots cs
 
-pub all-back_registered : (g : ℕ) (slots : List Slot) (cs : List (Option Coming)) → map registered_in (zip_all (back g) slots cs) ≡ map registered_in slots
-all-back_registered g slots cs = map-zip_all (back g) registered_in (back-registered g) slots cs
+pub all-undo_registered : (g : ℕ) (slots : List Slot) (cs : List (Option Delta)) → map registered_in (zip_all (undo g) slots cs) ≡ map registered_in slots
+all-undo_registered g slots cs = map-zip_all (undo g) registered_in (undo-registered g) slots cs
 
-pub all-taken_registered : (g : ℕ) (here : List Place) (slots : List Slot) (cs : List Change) → map registered_in (zip_all (taken g here) slots cs) ≡ map registered_in slots
-all-taken_registered g here slots cs = map-zip_all (taken g here) registered_in (taken-registered g here) slots cs
+pub all-retracted_registered : (g : ℕ) (here : List Place) (slots : List Slot) (cs : List Change) → map registered_in (zip_all (retracted g here) slots cs) ≡ map registered_in slots
+all-retracted_registered g here slots cs = map-zip_all (retracted g here) registered_in (retracted-registered g here) slots cs
 
--- a dead place gives nothing, so nothing comes
+-- a dead place gives nothing, so it has no delta
 
-come_none : (g : ℕ) (k : Kept) (b : Bool) → let none : Change = None in option_map (coming_of g k) (cond b none none) ≡ None
-come_none g k true = refl
-come_none g k false = refl
+delta_none : (g : ℕ) (k : Accumulator) (b : Bool) → let none : Change = None in option_map (delta_of g k) (cond b none none) ≡ None
+delta_none g k true = refl
+delta_none g k false = refl
 
-pub removed-adds : (size i : ℕ) (x : Place) (s : Slot) → added (i / size) s (come_of size i (place_gives (removed x)) s) ≡ s
+pub removed-adds : (size i : ℕ) (x : Place) (s : Slot) → added (i / size) s (row_delta size i (place_gives (removed x)) s) ≡ s
 removed-adds size i x None = refl
-removed-adds size i x (Some a) = ap (added (i / size) (Some a)) (come_none (i / size) a.kept (is_unbuilt a.unbuilt (i / size)))
+removed-adds size i x (Some a) = ap (added (i / size) (Some a)) (delta_none (i / size) a.accumulator (is_unbuilt a.unbuilt (i / size)))
 
-pub removed-adds_all : (size i : ℕ) (x : Place) (slots : List Slot) → zip_all (added (i / size)) slots (map (come_of size i (place_gives (removed x))) slots) ≡ slots
+pub removed-adds_all : (size i : ℕ) (x : Place) (slots : List Slot) → zip_all (added (i / size)) slots (map (row_delta size i (place_gives (removed x))) slots) ≡ slots
 removed-adds_all size i x [] = refl
 removed-adds_all size i x (s ∷ slots) = λ k. removed-adds size i x s k ∷ removed-adds_all size i x slots k
 
 -- all slots
 
 Keeps-insert : (size : ℕ) (ps : List Place) (p : Place) (slots : List Slot) → 0 < size → Keeps size ps slots → HaveRoom (length ps / size) slots
-    → Keeps size (ps ++ p ∷ []) (zip_all (added (length ps / size)) slots (map (come_of size (length ps) (place_gives p)) slots))
+    → Keeps size (ps ++ p ∷ []) (zip_all (added (length ps / size)) slots (map (row_delta size (length ps) (place_gives p)) slots))
 Keeps-insert size ps p [] positive h room = tt
 Keeps-insert size ps p (s ∷ slots) positive h room = (slot-insert size ps p s positive h.0 room.0, Keeps-insert size ps p slots positive h.1 room.1)
 
 module _ (size : ℕ) (f : Place → Place) (ps : List Place) (i : ℕ) (x y : Place) (positive : 0 < size) (here : slice_get ps i ≡ Some x) (there : slice_get (changed_at f i ps) i ≡ Some y) where
   Keeps-set : (slots : List Slot) → Keeps size ps slots → HaveRoom (i / size) slots
-      → Keeps size (changed_at f i ps) (zip_all (taken (i / size) (in_group size (i / size) (changed_at f i ps))) (zip_all (added (i / size)) slots (map (come_of size i (place_gives y)) slots)) (map (change_of size i (place_gives x)) slots))
+      → Keeps size (changed_at f i ps) (zip_all (retracted (i / size) (in_group size (i / size) (changed_at f i ps))) (zip_all (added (i / size)) slots (map (row_delta size i (place_gives y)) slots)) (map (change_of size i (place_gives x)) slots))
   Keeps-set [] h room = tt
   Keeps-set (s ∷ slots) h room = (slot-set size f ps i x y positive here there s h.0 room.0, Keeps-set slots h.1 room.1)
 
-  each-may_take : PlacesFit ps → RowFits y.cells → (slots : List Slot) → Keeps size ps slots → HaveRoom (i / size) slots
-      → EachMayTake (i / size) (in_group size (i / size) (changed_at f i ps)) (zip_all (added (i / size)) slots (map (come_of size i (place_gives y)) slots)) (map (change_of size i (place_gives x)) slots)
-  each-may_take fit row [] h room k s c p q = cc
-  each-may_take fit row (t ∷ slots) h room zero s c p q =
-      let a : added (i / size) t (come_of size i (place_gives y) t) ≡ s = cc in
+  each-may_retract : PlacesFit ps → RowFits y.cells → (slots : List Slot) → Keeps size ps slots → HaveRoom (i / size) slots
+      → EachMayRetract (i / size) (in_group size (i / size) (changed_at f i ps)) (zip_all (added (i / size)) slots (map (row_delta size i (place_gives y)) slots)) (map (change_of size i (place_gives x)) slots)
+  each-may_retract fit row [] h room k s c p q = cc
+  each-may_retract fit row (t ∷ slots) h room zero s c p q =
+      let a : added (i / size) t (row_delta size i (place_gives y) t) ≡ s = cc in
       let b : change_of size i (place_gives x) t ≡ c = cc in
-      subst (λ u. MayTake (i / size) (in_group size (i / size) (changed_at f i ps)) u c) a
-      (subst (MayTake (i / size) (in_group size (i / size) (changed_at f i ps)) (added (i / size) t (come_of size i (place_gives y) t))) b (slot-may_take size f ps i x y positive here there fit row t h.0 room.0))
-  each-may_take fit row (t ∷ slots) h room (suc k) s c p q = each-may_take fit row slots h.1 room.1 k s c p q
+      subst (λ u. MayRetract (i / size) (in_group size (i / size) (changed_at f i ps)) u c) a
+      (subst (MayRetract (i / size) (in_group size (i / size) (changed_at f i ps)) (added (i / size) t (row_delta size i (place_gives y) t))) b (slot-may_retract size f ps i x y positive here there fit row t h.0 room.0))
+  each-may_retract fit row (t ∷ slots) h room (suc k) s c p q = each-may_retract fit row slots h.1 room.1 k s c p q
 
 -- what is kept after an insert
 pub after_insert : (size place : ℕ) (ps new : List Place) (p : Place) (slots after : List Slot) → place ≡ length ps → new ≡ ps ++ p ∷ [] → 0 < size → Keeps size ps slots → HaveRoom (place / size) slots
-    → after ≡ zip_all (added (place / size)) slots (map (come_of size place (place_gives p)) slots)
+    → after ≡ zip_all (added (place / size)) slots (map (row_delta size place (place_gives p)) slots)
     → Keeps size new after
 after_insert size place ps new p slots after at is positive kept room h =
-    subst (Keeps size new) (sym (h ∙ ap (λ n. zip_all (added (n / size)) slots (map (come_of size n (place_gives p)) slots)) at))
-    (subst (λ l. Keeps size l (zip_all (added (length ps / size)) slots (map (come_of size (length ps) (place_gives p)) slots))) (sym is)
+    subst (Keeps size new) (sym (h ∙ ap (λ n. zip_all (added (n / size)) slots (map (row_delta size n (place_gives p)) slots)) at))
+    (subst (λ l. Keeps size l (zip_all (added (length ps / size)) slots (map (row_delta size (length ps) (place_gives p)) slots))) (sym is)
     (Keeps-insert size ps p slots positive kept (subst (λ n. HaveRoom (n / size) slots) at room)))
 
--- a place x becomes y: what came, what goes, and what is kept then
-module _ (size : ℕ) (f : Place → Place) (ps new : List Place) (i : ℕ) (x y : Place) (slots mid : List Slot) (gone : List Change) (positive : 0 < size) (is : new ≡ changed_at f i ps)
+-- a place x becomes y: the deltas, the pairs to retract, and what is kept then
+module _ (size : ℕ) (f : Place → Place) (ps new : List Place) (i : ℕ) (x y : Place) (slots mid : List Slot) (to_retract : List Change) (positive : 0 < size) (is : new ≡ changed_at f i ps)
     (here : Some x ≡ slice_get ps i) (there : Some y ≡ option_map f (slice_get ps i))
-    (went : gone ≡ map (change_of size i (place_gives x)) slots) (came : mid ≡ zip_all (added (i / size)) slots (map (come_of size i (place_gives y)) slots))
+    (went : to_retract ≡ map (change_of size i (place_gives x)) slots) (applied : mid ≡ zip_all (added (i / size)) slots (map (row_delta size i (place_gives y)) slots))
     (kept : Keeps size ps slots) (room : HaveRoom (i / size) slots) where
   becomes : slice_get (changed_at f i ps) i ≡ Some y
   becomes = get-changed f i ps ∙ sym there
 
-  pub set_may_take : PlacesFit ps → PlacesFit new → EachMayTake (i / size) (in_group size (i / size) new) mid gone
-  set_may_take fit new_fit =
+  pub set_may_retract : PlacesFit ps → PlacesFit new → EachMayRetract (i / size) (in_group size (i / size) new) mid to_retract
+  set_may_retract fit new_fit =
       let row = all-get (λ (p : Place). RowFits p.cells) new i y new_fit (ap (λ l. slice_get l i) is ∙ becomes) in
-      rw (is, came, went) (each-may_take size f ps i x y positive (sym here) becomes fit row slots kept room)
+      rw (is, applied, went) (each-may_retract size f ps i x y positive (sym here) becomes fit row slots kept room)
 
-  pub after_set : (after : List Slot) → after ≡ zip_all (taken (i / size) (in_group size (i / size) new)) mid gone → Keeps size new after
-  after_set after h = rw (h, came, went, is) (Keeps-set size f ps i x y positive (sym here) becomes slots kept room)
+  pub after_set : (after : List Slot) → after ≡ zip_all (retracted (i / size) (in_group size (i / size) new)) mid to_retract → Keeps size new after
+  after_set after h = rw (h, applied, went, is) (Keeps-set size f ps i x y positive (sym here) becomes slots kept room)

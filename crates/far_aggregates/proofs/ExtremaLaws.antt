@@ -1,4 +1,4 @@
--- The extrema of the row group of an edit: with the pair that comes, and without the one that goes.
+-- The extrema of the row group of an edit: with the pair that is added, and without the one that is retracted.
 use Rattle.std.proofs.Common.{inl, inr, ◌≡◌, ◌≢◌, ℕ, zero, suc, ◌<◌, Bool, true, false, cond, List, [], ◌∷◌, length, refl, sym, ap, ◌∙◌, arith, Option, None, Some, slice_get, slice_set}
 use Rattle.std.specs.Prelude.{◌⊎◌, ℤ, ◌<ℤ◌, ◌≤ℤ◌}
 use Rattle.std.specs.List.{filter_map, cons_option}
@@ -18,8 +18,8 @@ use Rattle.far_extrema.specs.Live.{group_at}
 use Rattle.far_extrema.specs.Spans.{put_span}
 use Rattle.far_extrema.proofs.GoneLaws.{gone, within, put-same}
 use Rattle.far_extrema.proofs.HolderLaws.{widened_within}
-use Rattle.far_aggregates.specs.Kept.{Change, group_pairs, built_group}
-use Rattle.far_aggregates.specs.Changes.{with_seen_change}
+use Rattle.far_aggregates.specs.Accumulators.{Change, group_pairs, built_group}
+use Rattle.far_aggregates.specs.Pairs.{with_seen_change}
 use Rattle.far_aggregates.proofs.ListLaws.{length-written, set-own}
 
 pub same_or_not : (a b : ℕ) → (a ≡ b) ⊎ (a ≢ b)
@@ -58,12 +58,12 @@ module _ (spec : Spec) where
   rest-changed f (p ∷ ps) zero = refl
   rest-changed f (p ∷ ps) (suc j) = ap (cons_option (place_pair spec p)) (rest-changed f ps j)
 
--- a pair that goes leaves the extrema of the others
-abbrev pub without_gone : Change → Extrema → Extrema → Extrema
-without_gone None m new = m
-without_gone (Some pair) m new = put_span m pair.0 (fin.get new pair.0)
+-- a retracted pair leaves the extrema of the others
+abbrev pub without_retracted : Change → Extrema → Extrema → Extrema
+without_retracted None m new = m
+without_retracted (Some pair) m new = put_span m pair.0 (fin.get new pair.0)
 
-pub gone-leaves : (a : Change) (qs : List Pair) (m new : Extrema) → m ≡ extrema (cons_option a qs) → new ≡ extrema qs → without_gone a m new ≡ new
+pub gone-leaves : (a : Change) (qs : List Pair) (m new : Extrema) → m ≡ extrema (cons_option a qs) → new ≡ extrema qs → without_retracted a m new ≡ new
 gone-leaves None qs m new h k = h ∙ sym k
 gone-leaves (Some p) qs m new h k = (λ i. put_span (h i) p.0 (fin.get (k i) p.0)) ∙ gone qs p ∙ sym k
 
@@ -90,7 +90,7 @@ pub seen-is : (g : ℕ) (gs : List Extrema) (o : Change) → g < length gs → I
 seen-is g gs None l = (refl, λ h n. refl)
 seen-is g gs (Some p) l = (get_or-set_same gs g _ fin.empty l, λ h n. get_or-set_other gs g h _ fin.empty n)
 
-pub left-is : (g : ℕ) (gs : List Extrema) (o : Change) (new : Extrema) → g < length gs → IsWith g gs (groups_left g gs o new) (without_gone o (group_at gs g) new)
+pub left-is : (g : ℕ) (gs : List Extrema) (o : Change) (new : Extrema) → g < length gs → IsWith g gs (groups_left g gs o new) (without_retracted o (group_at gs g) new)
 left-is g gs None new l = (refl, λ h n. refl)
 left-is g gs (Some p) new l = (get_or-set_same gs g _ fin.empty l, λ h n. get_or-set_other gs g h _ fin.empty n)
 
@@ -103,7 +103,7 @@ module _ (spec : Spec) (size : ℕ) (unbuilt : List Bool) (g : ℕ) (ps qs : Lis
   other-group : (h : ℕ) → h ≢ g → built_group spec size unbuilt ps h ≡ built_group spec size unbuilt qs h
   other-group h n = ap (λ l. cond (is_unbuilt unbuilt h) fin.empty (extrema (filter_map (place_pair spec) l))) (sym (others h n))
 
-  -- the row group is built in, and has the extrema of its places
+  -- the row group is scanned, and has the extrema of its places
   pub kept-built : (gs hs : List Extrema) → is_unbuilt unbuilt g ≡ false → ((h : ℕ) → group_at gs h ≡ built_group spec size unbuilt ps h) → IsWith g gs hs (extrema (group_pairs spec size g qs))
       → (h : ℕ) → group_at hs h ≡ built_group spec size unbuilt qs h
   kept-built gs hs is kept w h = elim (same_or_not h g) as (λ o. group_at hs h ≡ built_group spec size unbuilt qs h) [
@@ -136,14 +136,14 @@ has-room (suc g) (m ∷ gs) k x h = let rest = has-room g gs k x h in omega arit
 some_span : (s t : ℤ × ℤ) → Some s ≡ Some t → t ≡ s
 some_span s t e = cc
 
--- where the value that goes is strictly within, the row group stays as it is
+-- if the value to retract is strictly within, the row group stays as it is
 pub left-within : (g : ℕ) (gs : List Extrema) (k : Option Key) (v : ℤ) (o : Option (ℤ × ℤ)) (s : ℤ × ℤ) → fin.get (group_at gs g) k ≡ Some (widened v o) → fin.get (group_at gs g) k ≡ Some s → s.0 <ℤ v → v <ℤ s.1
     → gs ≡ slice_set gs g (put_span (group_at gs g) k o)
 left-within g gs k v o s seen found low high =
     let rest = within v o s (some_span _ _ (sym found ∙ seen)) low high in
     sym (ap (λ p. slice_set gs g (put_span (group_at gs g) k p)) rest ∙ ap (slice_set gs g) (put-same (group_at gs g) k s found) ∙ set-own gs g fin.empty)
 
--- where a value that comes is within, the row group stays as it is
+-- if an added value is within, the row group stays as it is
 pub seen-within : (g : ℕ) (gs : List Extrema) (k : Option Key) (v : ℤ) (s : ℤ × ℤ) → fin.get (group_at gs g) k ≡ Some s → s.0 ≤ℤ v → v ≤ℤ s.1 → gs ≡ slice_set gs g (with_seen (group_at gs g) (k, v))
 seen-within g gs k v s found low high =
     let m = group_at gs g in

@@ -16,8 +16,8 @@ use Rattle.far_aggregates.specs.Known.{AreKnown, IsNoted}
 use Rattle.far_aggregates.proofs.ExtremaLaws.{same_or_not}
 use Rattle.far_aggregates.proofs.ListLaws.{index-replicate}
 
-pub known-roomy : (plain : List (Option (ℤ × ℤ))) (groups new : List Extrema) (g : ℕ) → new ≡ with_room g groups → AreKnown plain groups → AreKnown plain new
-known-roomy plain groups new g is known h span noted =
+pub known-reserved : (plain : List (Option (ℤ × ℤ))) (groups new : List Extrema) (g : ℕ) → new ≡ with_room g groups → AreKnown plain groups → AreKnown plain new
+known-reserved plain groups new g is known h span noted =
     ap (λ (gs : List Extrema). fin.get (group_at gs h) None) is
     ∙ ap (λ (m : Extrema). fin.get m None) (index-replicate groups (g + 1 - length groups) h fin.empty)
     ∙ known h span noted
@@ -64,9 +64,9 @@ pub put-beside : (m : Extrema) (key : Option Key) (o : Option (ℤ × ℤ)) → 
 put-beside m None o is = absurd cc
 put-beside m (Some k) o is = get_put m (Some k) o None
 
-pub seen-plain : (m : Extrema) (key : Option Key) (v : ℤ) (stood : Option (ℤ × ℤ)) → is_some key ≡ false → stood ≡ fin.get m key → Some (widened v stood) ≡ fin.get (with_seen m (key, v)) None
-seen-plain m None v stood is there = ap (λ o. Some (widened v o)) there ∙ sym (get_inserted m None (widened v (fin.get m None)))
-seen-plain m (Some k) v stood is there = absurd cc
+pub seen-plain : (m : Extrema) (key : Option Key) (v : ℤ) (previous : Option (ℤ × ℤ)) → is_some key ≡ false → previous ≡ fin.get m key → Some (widened v previous) ≡ fin.get (with_seen m (key, v)) None
+seen-plain m None v previous is there = ap (λ o. Some (widened v o)) there ∙ sym (get_inserted m None (widened v (fin.get m None)))
+seen-plain m (Some k) v previous is there = absurd cc
 
 pub seen-beside : (m : Extrema) (key : Option Key) (v : ℤ) → is_some key ≡ true → fin.get (with_seen m (key, v)) None ≡ fin.get m None
 seen-beside m None v is = absurd cc

@@ -1,4 +1,4 @@
--- A pair that need not go may be left out: what is kept is the same.
+-- A pair that need not be retracted may be left out: what is kept is the same.
 use Rattle.std.proofs.Common.{inl, inr, ◌≡◌, ◌≢◌, ℕ, zero, suc, ◌<◌, ◌≤◌, ◌/◌, List, [], ◌∷◌, length, map, refl, sym, ap, ◌∙◌, subst, arith, ◌+◌, Option, None, Some, slice_get, slice_set}
 use Rattle.std.specs.Prelude.{ℤ, option_map}
 use Rattle.std.specs.FinMap as fin
@@ -12,22 +12,22 @@ use Rattle.far_types.specs.Table.{Place, in_group}
 use Rattle.far_types.proofs.ByKeyMaps.{get_inserted}
 use Rattle.far_extrema.specs.Live.{group_at}
 use Rattle.far_aggregates.specs.declared.aggregate.Aggregate.{Aggregate}
-use Rattle.far_aggregates.specs.declared.aggregate.Kept.{Kept}
-use Rattle.far_aggregates.specs.declared.aggregate.Kept.TheVariants as kept
-use Rattle.far_aggregates.specs.declared.coming.Coming.{Coming}
+use Rattle.far_aggregates.specs.declared.aggregate.Accumulator.{Accumulator}
+use Rattle.far_aggregates.specs.declared.aggregate.Accumulator.TheVariants as accumulator
+use Rattle.far_aggregates.specs.declared.deltas.Delta.{Delta}
 use Rattle.far_aggregates.specs.declared.pending.Pending.{Pending}
-use Rattle.far_aggregates.specs.Kept.{Slot, Change, pairs_here, Keeps}
-use Rattle.far_aggregates.specs.Changes.{Gives, change_of}
-use Rattle.far_aggregates.specs.Coming.{coming_of, come_of, kept_more, added}
-use Rattle.far_aggregates.specs.Going.{kept_less, taken, KeptMayTake, MayTake, EachMayTake}
-use Rattle.far_aggregates.specs.Pending.{gone_on, GoesOn}
-use Rattle.far_aggregates.specs.Rooms.{KeptHasRoom, HasRoom, HaveRoom}
+use Rattle.far_aggregates.specs.Accumulators.{Slot, Change, pairs_here, Keeps}
+use Rattle.far_aggregates.specs.Pairs.{Gives, change_of}
+use Rattle.far_aggregates.specs.Deltas.{delta_of, row_delta, accumulator_more, added}
+use Rattle.far_aggregates.specs.Retract.{accumulator_less, retracted, AccumulatorMayRetract, MayRetract, EachMayRetract}
+use Rattle.far_aggregates.specs.Pending.{all_retracted, RetractsAll}
+use Rattle.far_aggregates.specs.Reserve.{AccumulatorHasRoom, HasRoom, HaveRoom}
 use Rattle.far_aggregates.specs.LeavingOut.{NeedNotGo, IsLeftOut, EachLeftOut}
 use Rattle.far_aggregates.specs.Until.{zip_all}
 use Rattle.far_aggregates.proofs.ExtremaLaws.{left-within, same_or_not}
 use Rattle.far_aggregates.proofs.PendingLaws.{get-set_other}
 
--- what stands under the key of a pair that came
+-- what stands under the key of a delta
 seen-under_key : (m : Extrema) (p : Pair) (k : Option Key) (span : ℤ × ℤ) → fin.get m p.0 ≡ Some span → p.0 ≡ k → fin.get (with_seen m p) k ≡ Some (widened p.1 (Some span))
 seen-under_key m p k span is same =
     ap (fin.get (with_seen m p)) (sym same)
@@ -41,60 +41,60 @@ none-span : (span : ℤ × ℤ) → None ≡ Some span → ⊥
 none-span span h = cc
 
 module _ (g : ℕ) (here : List Place) where
-  needless-kept : (spec : Spec) (k : Kept) (p pair : Pair) → KeptHasRoom g k → NeedNotGo (Some (coming_of g k p)) (Some pair) → KeptMayTake spec g here (kept_more g k p) pair
-      → kept_less spec g here (kept_more g k p) pair ≡ kept_more g k p
-  needless-kept spec (kept.Totals live) p pair room s may = absurd (none-span s.0 s.1)
-  needless-kept spec (kept.Extrema live) p pair room s may =
+  needless-kept : (spec : Spec) (k : Accumulator) (p pair : Pair) → AccumulatorHasRoom g k → NeedNotGo (Some (delta_of g k p)) (Some pair) → AccumulatorMayRetract spec g here (accumulator_more g k p) pair
+      → accumulator_less spec g here (accumulator_more g k p) pair ≡ accumulator_more g k p
+  needless-kept spec (accumulator.Totals live) p pair room s may = absurd (none-span s.0 s.1)
+  needless-kept spec (accumulator.Extrema live) p pair room s may =
       let m = group_at live.groups g in
       let gs = slice_set live.groups g (with_seen m p) in
       let wide = widened p.1 (Some s.0) in
       let found : fin.get (group_at gs g) pair.0 ≡ Some wide =
       ap (λ (n : Extrema). fin.get n pair.0) (get_or-set_same live.groups g (with_seen m p) fin.empty room) ∙ seen-under_key m p pair.0 s.0 s.1 s.2 in
-      ap (λ (hs : List Extrema). kept.Extrema (record live { groups = hs })) (sym (left-within g gs pair.0 pair.1 (fin.get (extrema (pairs_here spec here)) pair.0) wide may found s.3 s.4))
+      ap (λ (hs : List Extrema). accumulator.Extrema (record live { groups = hs })) (sym (left-within g gs pair.0 pair.1 (fin.get (extrema (pairs_here spec here)) pair.0) wide may found s.3 s.4))
 
-  -- of one slot, of which a pair came or none
-  needless-slot : (a : Aggregate) (o c : Change) → KeptHasRoom g a.kept → NeedNotGo (option_map (coming_of g a.kept) o) c → MayTake g here (added g (Some a) (option_map (coming_of g a.kept) o)) c
-      → taken g here (added g (Some a) (option_map (coming_of g a.kept) o)) c ≡ added g (Some a) (option_map (coming_of g a.kept) o)
+  -- of one slot, which has a delta or none
+  needless-slot : (a : Aggregate) (o c : Change) → AccumulatorHasRoom g a.accumulator → NeedNotGo (option_map (delta_of g a.accumulator) o) c → MayRetract g here (added g (Some a) (option_map (delta_of g a.accumulator) o)) c
+      → retracted g here (added g (Some a) (option_map (delta_of g a.accumulator) o)) c ≡ added g (Some a) (option_map (delta_of g a.accumulator) o)
   needless-slot a None c room s may = absurd s
   needless-slot a (Some p) None room s may = absurd s
-  needless-slot a (Some p) (Some pair) room s may = ap (λ (k : Kept). Some (record a { kept = k })) (needless-kept a.spec a.kept p pair room s may)
+  needless-slot a (Some p) (Some pair) room s may = ap (λ (k : Accumulator). Some (record a { accumulator = k })) (needless-kept a.spec a.accumulator p pair room s may)
 
-  nothing-taken : (s : Slot) → taken g here s None ≡ s
-  nothing-taken None = refl
-  nothing-taken (Some a) = refl
+  nothing-retracted : (s : Slot) → retracted g here s None ≡ s
+  nothing-retracted None = refl
+  nothing-retracted (Some a) = refl
 
-  nothing-may : (s : Slot) → MayTake g here s None
+  nothing-may : (s : Slot) → MayRetract g here s None
   nothing-may None = tt
   nothing-may (Some a) = tt
 
-  left-may : (s : Slot) (come : Option Coming) (c d : Change) → IsLeftOut come c d → MayTake g here s c → MayTake g here s d
-  left-may s come c d (inl same) may = subst (MayTake g here s) (sym same) may
-  left-may s come c d (inr out) may = subst (MayTake g here s) (sym out.0) (nothing-may s)
+  left-may : (s : Slot) (delta : Option Delta) (c d : Change) → IsLeftOut delta c d → MayRetract g here s c → MayRetract g here s d
+  left-may s delta c d (inl same) may = subst (MayRetract g here s) (sym same) may
+  left-may s delta c d (inr out) may = subst (MayRetract g here s) (sym out.0) (nothing-may s)
 
 module _ (size i : ℕ) (gives : Gives) (here : List Place) where
-  needless : (t : Slot) (c : Change) → HasRoom (i / size) t → NeedNotGo (come_of size i gives t) c → MayTake (i / size) here (added (i / size) t (come_of size i gives t)) c
-      → taken (i / size) here (added (i / size) t (come_of size i gives t)) c ≡ added (i / size) t (come_of size i gives t)
+  needless : (t : Slot) (c : Change) → HasRoom (i / size) t → NeedNotGo (row_delta size i gives t) c → MayRetract (i / size) here (added (i / size) t (row_delta size i gives t)) c
+      → retracted (i / size) here (added (i / size) t (row_delta size i gives t)) c ≡ added (i / size) t (row_delta size i gives t)
   needless None c room s may = refl
   needless (Some a) c room s may = needless-slot (i / size) here a (change_of size i gives (Some a)) c room s may
 
-  left-taken : (t : Slot) (c d : Change) → HasRoom (i / size) t → IsLeftOut (come_of size i gives t) c d → MayTake (i / size) here (added (i / size) t (come_of size i gives t)) c
-      → taken (i / size) here (added (i / size) t (come_of size i gives t)) d ≡ taken (i / size) here (added (i / size) t (come_of size i gives t)) c
-  left-taken t c d room (inl same) may = ap (taken (i / size) here (added (i / size) t (come_of size i gives t))) same
-  left-taken t c d room (inr out) may =
-      ap (taken (i / size) here (added (i / size) t (come_of size i gives t))) out.0
-      ∙ nothing-taken (i / size) here (added (i / size) t (come_of size i gives t))
+  left-retracted : (t : Slot) (c d : Change) → HasRoom (i / size) t → IsLeftOut (row_delta size i gives t) c d → MayRetract (i / size) here (added (i / size) t (row_delta size i gives t)) c
+      → retracted (i / size) here (added (i / size) t (row_delta size i gives t)) d ≡ retracted (i / size) here (added (i / size) t (row_delta size i gives t)) c
+  left-retracted t c d room (inl same) may = ap (retracted (i / size) here (added (i / size) t (row_delta size i gives t))) same
+  left-retracted t c d room (inr out) may =
+      ap (retracted (i / size) here (added (i / size) t (row_delta size i gives t))) out.0
+      ∙ nothing-retracted (i / size) here (added (i / size) t (row_delta size i gives t))
       ∙ sym (needless t c room out.1 may)
 
-  all-left_taken : (slots : List Slot) (cs ds : List Change) → length ds ≡ length cs → HaveRoom (i / size) slots → EachLeftOut (map (come_of size i gives) slots) cs ds
-      → EachMayTake (i / size) here (zip_all (added (i / size)) slots (map (come_of size i gives) slots)) cs
-      → zip_all (taken (i / size) here) (zip_all (added (i / size)) slots (map (come_of size i gives) slots)) ds ≡ zip_all (taken (i / size) here) (zip_all (added (i / size)) slots (map (come_of size i gives) slots)) cs
-  all-left_taken [] cs ds many room out may = refl
-  all-left_taken (t ∷ slots) [] [] many room out may = refl
-  all-left_taken (t ∷ slots) [] (d ∷ ds) many room out may = absurd (omega arith)
-  all-left_taken (t ∷ slots) (c ∷ cs) [] many room out may = absurd (omega arith)
-  all-left_taken (t ∷ slots) (c ∷ cs) (d ∷ ds) many room out may = λ j.
-      left-taken t c d room.0 (out 0 _ c d refl refl refl) (may 0 _ c refl refl) j
-      ∷ all-left_taken slots cs ds (omega arith) room.1 (λ k. out (suc k)) (λ k. may (suc k)) j
+  all-left_retracted : (slots : List Slot) (cs ds : List Change) → length ds ≡ length cs → HaveRoom (i / size) slots → EachLeftOut (map (row_delta size i gives) slots) cs ds
+      → EachMayRetract (i / size) here (zip_all (added (i / size)) slots (map (row_delta size i gives) slots)) cs
+      → zip_all (retracted (i / size) here) (zip_all (added (i / size)) slots (map (row_delta size i gives) slots)) ds ≡ zip_all (retracted (i / size) here) (zip_all (added (i / size)) slots (map (row_delta size i gives) slots)) cs
+  all-left_retracted [] cs ds many room out may = refl
+  all-left_retracted (t ∷ slots) [] [] many room out may = refl
+  all-left_retracted (t ∷ slots) [] (d ∷ ds) many room out may = absurd (omega arith)
+  all-left_retracted (t ∷ slots) (c ∷ cs) [] many room out may = absurd (omega arith)
+  all-left_retracted (t ∷ slots) (c ∷ cs) (d ∷ ds) many room out may = λ j.
+      left-retracted t c d room.0 (out 0 _ c d refl refl refl) (may 0 _ c refl refl) j
+      ∷ all-left_retracted slots cs ds (omega arith) room.1 (λ k. out (suc k)) (λ k. may (suc k)) j
 
 get-there : {X : Type 0} (xs : List X) (k : ℕ) → k < length xs → (x : X) × (slice_get xs k ≡ Some x)
 get-there [] k h = absurd (omega arith)
@@ -106,35 +106,35 @@ get-below [] k x h = cc
 get-below (y ∷ xs) zero x h = omega arith
 get-below (y ∷ xs) (suc k) x h = let rest = get-below xs k x h in omega arith
 
-each-left_may : (g : ℕ) (here : List Place) (comes : List (Option Coming)) (slots : List Slot) (cs ds : List Change) → length ds ≡ length cs → length cs ≡ length comes → EachLeftOut comes cs ds → EachMayTake g here slots cs → EachMayTake g here slots ds
-each-left_may g here comes slots cs ds many as_many out may k s d at is =
+each-left_may : (g : ℕ) (here : List Place) (deltas : List (Option Delta)) (slots : List Slot) (cs ds : List Change) → length ds ≡ length cs → length cs ≡ length deltas → EachLeftOut deltas cs ds → EachMayRetract g here slots cs → EachMayRetract g here slots ds
+each-left_may g here deltas slots cs ds many as_many out may k s d at is =
     let below = get-below ds k d is in
     let c = get-there cs k (omega arith) in
-    let come = get-there comes k (omega arith) in
-    left-may g here s come.0 c.0 d (out k come.0 c.0 d come.1 c.1 is) (may k s c.0 at c.1)
+    let delta = get-there deltas k (omega arith) in
+    left-may g here s delta.0 c.0 d (out k delta.0 c.0 d delta.1 c.1 is) (may k s c.0 at c.1)
 
--- so what is to go may go without them, and then what is kept is the same
-pub left_out-goes : (size place : ℕ) (gives : Gives) (places : List Place) (mid new : List Slot) (comes : List (Option Coming)) (old left : Pending) → HaveRoom (place / size) mid
-    → old.group ≡ place / size → left.group ≡ place / size → comes ≡ map (come_of size place gives) mid → new ≡ zip_all (added (place / size)) mid (map (come_of size place gives) mid)
-    → length left.gone.items ≡ length old.gone.items → length old.gone.items ≡ length mid → length left.gone.items ≤ length new → EachLeftOut comes old.gone.items left.gone.items
-    → GoesOn size (place / size) places new old → GoesOn size (place / size) places new left
-left_out-goes size place gives places mid new comes old left room at there come came many as_many within out goes =
+-- so the pairs may be retracted without them, and then what is kept is the same
+pub left_out-goes : (size place : ℕ) (gives : Gives) (places : List Place) (mid new : List Slot) (deltas : List (Option Delta)) (old left : Pending) → HaveRoom (place / size) mid
+    → old.group ≡ place / size → left.group ≡ place / size → deltas ≡ map (row_delta size place gives) mid → new ≡ zip_all (added (place / size)) mid (map (row_delta size place gives) mid)
+    → length left.to_retract.items ≡ length old.to_retract.items → length old.to_retract.items ≡ length mid → length left.to_retract.items ≤ length new → EachLeftOut deltas old.to_retract.items left.to_retract.items
+    → RetractsAll size (place / size) places new old → RetractsAll size (place / size) places new left
+left_out-goes size place gives places mid new deltas old left room at there delta applied many as_many within out goes =
     let g = place / size in
     let here = in_group size g places in
-    let may : EachMayTake g here new old.gone.items = subst (λ n. EachMayTake n here new old.gone.items) at goes.may.may in
-    let few : length comes ≡ length mid = ap length come ∙ length-map mid (come_of size place gives) in
-    let outs : EachLeftOut (map (come_of size place gives) mid) old.gone.items left.gone.items = subst (λ l. EachLeftOut l old.gone.items left.gone.items) come out in
-    let mays : EachMayTake g here (zip_all (added g) mid (map (come_of size place gives) mid)) old.gone.items = subst (λ l. EachMayTake g here l old.gone.items) came may in
-    let same : zip_all (taken g here) new left.gone.items ≡ zip_all (taken g here) new old.gone.items =
-    ap (λ l. zip_all (taken g here) l left.gone.items) came ∙ all-left_taken size place gives here mid old.gone.items left.gone.items many room outs mays ∙ ap (λ l. zip_all (taken g here) l old.gone.items) (sym came) in
-    let gone : gone_on here new left ≡ gone_on here new old = ap (λ n. zip_all (taken n here) new left.gone.items) there ∙ same ∙ ap (λ n. zip_all (taken n here) new old.gone.items) (sym at) in
+    let may : EachMayRetract g here new old.to_retract.items = subst (λ n. EachMayRetract n here new old.to_retract.items) at goes.may.may in
+    let few : length deltas ≡ length mid = ap length delta ∙ length-map mid (row_delta size place gives) in
+    let outs : EachLeftOut (map (row_delta size place gives) mid) old.to_retract.items left.to_retract.items = subst (λ l. EachLeftOut l old.to_retract.items left.to_retract.items) delta out in
+    let mays : EachMayRetract g here (zip_all (added g) mid (map (row_delta size place gives) mid)) old.to_retract.items = subst (λ l. EachMayRetract g here l old.to_retract.items) applied may in
+    let same : zip_all (retracted g here) new left.to_retract.items ≡ zip_all (retracted g here) new old.to_retract.items =
+    ap (λ l. zip_all (retracted g here) l left.to_retract.items) applied ∙ all-left_retracted size place gives here mid old.to_retract.items left.to_retract.items many room outs mays ∙ ap (λ l. zip_all (retracted g here) l old.to_retract.items) (sym applied) in
+    let to_retract : all_retracted here new left ≡ all_retracted here new old = ap (λ n. zip_all (retracted n here) new left.to_retract.items) there ∙ same ∙ ap (λ n. zip_all (retracted n here) new old.to_retract.items) (sym at) in
     record {
       at = there;
       may = record {
         len = within;
-        may = subst (λ n. EachMayTake n here new left.gone.items) (sym there) (each-left_may g here comes new old.gone.items left.gone.items many (as_many ∙ sym few) out may);
+        may = subst (λ n. EachMayRetract n here new left.to_retract.items) (sym there) (each-left_may g here deltas new old.to_retract.items left.to_retract.items many (as_many ∙ sym few) out may);
       };
-      kept = subst (Keeps size places) (sym gone) goes.kept;
+      kept = subst (Keeps size places) (sym to_retract) goes.kept;
     }
 
 get-written : {X : Type 0} (xs : List X) (i : ℕ) (c d : X) → slice_get xs i ≡ Some c → slice_get (slice_set xs i d) i ≡ Some d
@@ -143,21 +143,21 @@ get-written (x ∷ xs) zero c d h = refl
 get-written (x ∷ xs) (suc i) c d h = get-written xs i c d h
 
 -- one more may be left out
-module _ (i : ℕ) (comes : List (Option Coming)) (old now : List Change) (come : Option Coming) (c d : Change) (came : slice_get comes i ≡ Some come) (goes : slice_get now i ≡ Some c)
-    (rest : (k : ℕ) → i ≤ k → slice_get now k ≡ slice_get old k) (s : IsLeftOut come c d) (out : EachLeftOut comes old now) where
-  own-left_out : (m : Option Coming) (a b : Change) → slice_get comes i ≡ Some m → slice_get old i ≡ Some a → slice_get (slice_set now i d) i ≡ Some b → IsLeftOut m a b
+module _ (i : ℕ) (deltas : List (Option Delta)) (old now : List Change) (delta : Option Delta) (c d : Change) (applied : slice_get deltas i ≡ Some delta) (goes : slice_get now i ≡ Some c)
+    (rest : (k : ℕ) → i ≤ k → slice_get now k ≡ slice_get old k) (s : IsLeftOut delta c d) (out : EachLeftOut deltas old now) where
+  own-left_out : (m : Option Delta) (a b : Change) → slice_get deltas i ≡ Some m → slice_get old i ≡ Some a → slice_get (slice_set now i d) i ≡ Some b → IsLeftOut m a b
   own-left_out m a b p q r =
-      let one : come ≡ m = same-some come m (sym came ∙ p) in
+      let one : delta ≡ m = same-some delta m (sym applied ∙ p) in
       let two : c ≡ a = same-some c a (sym goes ∙ rest i (omega arith) ∙ q) in
       let three : d ≡ b = same-some d b (sym (get-written now i c d goes) ∙ r) in
-      subst (λ e. IsLeftOut e a b) one (subst (λ e. IsLeftOut come e b) two (subst (IsLeftOut come c) three s))
+      subst (λ e. IsLeftOut e a b) one (subst (λ e. IsLeftOut delta e b) two (subst (IsLeftOut delta c) three s))
 
-  other-left_out : (k : ℕ) → k ≢ i → (m : Option Coming) (a b : Change) → slice_get comes k ≡ Some m → slice_get old k ≡ Some a → slice_get (slice_set now i d) k ≡ Some b → IsLeftOut m a b
+  other-left_out : (k : ℕ) → k ≢ i → (m : Option Delta) (a b : Change) → slice_get deltas k ≡ Some m → slice_get old k ≡ Some a → slice_get (slice_set now i d) k ≡ Some b → IsLeftOut m a b
   other-left_out k n m a b p q r = out k m a b p q (sym (get-set_other now i k d n) ∙ r)
 
-  pub left_out-more : EachLeftOut comes old (slice_set now i d)
+  pub left_out-more : EachLeftOut deltas old (slice_set now i d)
   left_out-more k m a b p q r = elim (same_or_not k i) [
-    | inl e ↦ own-left_out m a b (ap (slice_get comes) (sym e) ∙ p) (ap (slice_get old) (sym e) ∙ q) (ap (slice_get (slice_set now i d)) (sym e) ∙ r)
+    | inl e ↦ own-left_out m a b (ap (slice_get deltas) (sym e) ∙ p) (ap (slice_get old) (sym e) ∙ q) (ap (slice_get (slice_set now i d)) (sym e) ∙ r)
     | inr n ↦ other-left_out k n m a b p q r
   ]
 
@@ -165,5 +165,5 @@ module _ (i : ℕ) (comes : List (Option Coming)) (old now : List Change) (come 
   rest-more k h = get-set_other now i k d (λ e. absurd (omega arith)) ∙ rest k (omega arith)
 
 -- what is not changed is left out nowhere
-pub nothing-left_out : (comes : List (Option Coming)) (old : List Change) → EachLeftOut comes old old
-nothing-left_out comes old k m a b p q r = inl (same-some b a (sym r ∙ q))
+pub nothing-left_out : (deltas : List (Option Delta)) (old : List Change) → EachLeftOut deltas old old
+nothing-left_out deltas old k m a b p q r = inl (same-some b a (sym r ∙ q))

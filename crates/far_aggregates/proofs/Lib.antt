@@ -1,6 +1,6 @@
 pub mod AnswerLaws
 pub mod BuiltLaws
-pub mod ComingLaws
+pub mod DeltaLaws
 pub mod CountLaws
 pub mod EditLaws
 pub mod ExtremaLaws
@@ -17,7 +17,7 @@ pub mod PlainLaws
 pub mod ReadLaws
 pub mod RecountLaws
 pub mod RegisterLaws
-pub mod RoomLaws
+pub mod ReserveLaws
 pub mod ScanLaws
 pub mod ServedLaws
 pub mod UntilLaws

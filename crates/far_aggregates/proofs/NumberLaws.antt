@@ -2,7 +2,7 @@
 use Rattle.std.proofs.Common.{◌≡◌, ℕ, zero, suc, ◌+◌, ◌-◌, ◌<◌, ◌≤◌, List, [], ◌∷◌, ◌++◌, length, map, refl, ap, ◌∙◌, subst, arith, Option, None, Some, slice_get, replicate}
 use Rattle.std.specs.Prelude.{IsSome, IfNone}
 use Rattle.far_types.specs.Table.{Place, Registered}
-use Rattle.far_aggregates.specs.Kept.{Slot, registered_in, registered_of, KeepsSlot, Keeps}
+use Rattle.far_aggregates.specs.Accumulators.{Slot, registered_in, registered_of, KeepsSlot, Keeps}
 use Rattle.far_aggregates.specs.Aggregates.{joined, free_from, aggregate_in, is_left}
 use Rattle.far_aggregates.specs.Scans.{has_unbuilt}
 

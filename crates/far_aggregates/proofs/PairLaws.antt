@@ -8,8 +8,8 @@ use Rattle.far_types.specs.Changes.{with_seen}
 use Rattle.far_types.specs.Pairs.{Pair}
 use Rattle.far_types.specs.Table.{Place, place_pair}
 use Rattle.far_types.proofs.TotalLaws.{extrema-cons, extrema-among}
-use Rattle.far_aggregates.specs.Kept.{Change}
-use Rattle.far_aggregates.specs.Changes.{with_seen_change}
+use Rattle.far_aggregates.specs.Accumulators.{Change}
+use Rattle.far_aggregates.specs.Pairs.{with_seen_change}
 
 extrema-last : (xs : List Pair) (p : Pair) → extrema (xs ++ p ∷ []) ≡ with_seen (extrema xs) p
 extrema-last xs p = extrema-among xs p [] ∙ ap (λ l. extrema (p ∷ l)) (append-nil xs) ∙ extrema-cons p xs

@@ -12,15 +12,15 @@ use Rattle.far_types.specs.Table.{Place, Registered, groups, is_unbuilt, left}
 use Rattle.far_offload.specs.declared.partial.PartialDone.{PartialDone}
 use Rattle.far_offload.specs.Partials.{partial_of}
 use Rattle.far_aggregates.specs.declared.aggregate.Aggregate.{Aggregate}
-use Rattle.far_aggregates.specs.declared.aggregate.Kept.{Kept}
-use Rattle.far_aggregates.specs.declared.aggregate.Kept.TheVariants as kept
+use Rattle.far_aggregates.specs.declared.aggregate.Accumulator.{Accumulator}
+use Rattle.far_aggregates.specs.declared.aggregate.Accumulator.TheVariants as accumulator
 use Rattle.far_aggregates.specs.Aggregates.{ask_refusal}
-use Rattle.far_aggregates.specs.Kept.{KeepsSlot, fold_of, pairs_here, registered_in}
-use Rattle.far_aggregates.specs.Recounting.{partial_at, partials_from, KeptMayMerge, IsMerged}
-use Rattle.far_aggregates.specs.Scans.{IsScanned, KeptMayScan}
+use Rattle.far_aggregates.specs.Accumulators.{KeepsSlot, fold_of, pairs_here, registered_in}
+use Rattle.far_aggregates.specs.Recounting.{partial_at, partials_from, AccumulatorMayMerge, IsMerged}
+use Rattle.far_aggregates.specs.Scans.{IsScanned, AccumulatorMayScan}
 use Rattle.far_aggregates.proofs.ScanLaws.{cleared-other, left-cleared}
 
--- all of some row groups are left
+-- all of some row groups are pending
 all-left : (n : ℕ) → left (replicate n true) ≡ n
 all-left zero = refl
 all-left (suc n) = let e = sum_by-cons (λ (b : Bool). cond b 1 0) true (replicate n true) in let rest = all-left n in omega arith
@@ -31,26 +31,26 @@ left-at (suc n) zero within = refl
 left-at (suc n) (suc k) within = left-at n k (omega arith)
 
 module _ (spec : Spec) (g : ℕ) (here : List Place) where
-  abbrev done_for : Kept → PartialDone
+  abbrev done_for : Accumulator → PartialDone
   done_for k = partial_of (fold_of k) (pairs_here spec here)
 
-  may : (k : Kept) → KeptMayScan spec g here k → KeptMayMerge g (done_for k) k
-  may (kept.Totals live) m = m
-  may (kept.Extrema live) m = m
+  may : (k : Accumulator) → AccumulatorMayScan spec g here k → AccumulatorMayMerge g (done_for k) k
+  may (accumulator.Totals live) m = m
+  may (accumulator.Extrema live) m = m
 
-  merged : (k k' : Kept) → IsMerged g (done_for k) k k' → IsScanned spec g here k k'
-  merged (kept.Totals live) k' m = m
-  merged (kept.Extrema live) (kept.Totals new) m = absurd m
-  merged (kept.Extrema live) (kept.Extrema new) m = m
+  merged : (k k' : Accumulator) → IsMerged g (done_for k) k k' → IsScanned spec g here k k'
+  merged (accumulator.Totals live) k' m = m
+  merged (accumulator.Extrema live) (accumulator.Totals new) m = absurd m
+  merged (accumulator.Extrema live) (accumulator.Extrema new) m = m
 
-  module _ (k : Kept) (same : fold_of k ≡ spec.fold) (done : PartialDone) (folded : done ≡ partial_of spec.fold (pairs_here spec here)) where
+  module _ (k : Accumulator) (same : fold_of k ≡ spec.fold) (done : PartialDone) (folded : done ≡ partial_of spec.fold (pairs_here spec here)) where
     is : done ≡ done_for k
     is = folded ∙ ap (λ f. partial_of f (pairs_here spec here)) (sym same)
 
-    pub may-merge : KeptMayScan spec g here k → KeptMayMerge g done k
-    may-merge m = subst (λ d. KeptMayMerge g d k) (sym is) (may k m)
+    pub may-merge : AccumulatorMayScan spec g here k → AccumulatorMayMerge g done k
+    may-merge m = subst (λ d. AccumulatorMayMerge g d k) (sym is) (may k m)
 
-    pub merged-scanned : (k' : Kept) → IsMerged g done k k' → IsScanned spec g here k k'
+    pub merged-scanned : (k' : Accumulator) → IsMerged g done k k' → IsScanned spec g here k k'
     merged-scanned k' m = merged k k' (subst (λ d. IsMerged g d k k') is m)
 
 -- the partials of some row groups are as many
@@ -63,7 +63,7 @@ module _ (spec : Spec) (size count : ℕ) (partials : List PartialDone) where
   abbrev AreThose : List Place → Type 0
   AreThose all = partials ≡ partials_from spec size all 0 (groups size count)
 
-  -- the row groups below a number are built in, and these are the partials of the others
+  -- the row groups below a number are merged, and these are the partials of the others
   pub record AreMerged (aggregate : Aggregate) (number : ℕ) (rest : List PartialDone) : Type 0 where
     pub same_spec : aggregate.spec ≡ spec
     pub all : number + length rest ≡ groups size count
@@ -72,7 +72,7 @@ module _ (spec : Spec) (size count : ℕ) (partials : List PartialDone) where
     pub others : (all : List Place) → AreThose all → rest ≡ partials_from spec size all number (length rest)
     pub kept : (all : List Place) → length all ≡ count → AreThose all → KeepsSlot size all (Some aggregate)
 
-  -- nothing is built in yet
+  -- nothing is merged yet
   pub none-merged : (cloned : Spec) → cloned ≡ spec → (a : Aggregate) → registered_in (Some a) ≡ Some (record { spec = cloned; registration = 0; unbuilt = replicate (groups size count) true })
       → ((all : List Place) → length all ≡ count → KeepsSlot size all (Some a)) → length partials ≡ groups size count → AreMerged a 0 partials
   none-merged cloned equal a registered kept long =
@@ -95,7 +95,7 @@ module _ (spec : Spec) (size count : ℕ) (partials : List PartialDone) where
     next-left : is_unbuilt a.unbuilt number ≡ true
     next-left = are.flags number (omega arith) (let e = are.all in omega arith)
 
-    -- and one row group more is built in
+    -- and one row group more is merged
     pub one-merged : b.spec ≡ a.spec → b.unbuilt ≡ slice_set a.unbuilt number false
         → ((all : List Place) → partial ≡ partial_at a.spec size all number → KeepsSlot size all (Some a) → KeepsSlot size all (Some b)) → AreMerged b (number + 1) rest
     one-merged same cleared kept = record {
@@ -107,7 +107,7 @@ module _ (spec : Spec) (size count : ℕ) (partials : List PartialDone) where
       kept = λ all few those. kept all (next-is all those ∙ ap (λ s. partial_at s size all number) (sym are.same_spec)) (are.kept all few those);
     }
 
-  -- no row group is left once there are no more partials
+  -- no row group is pending once there are no more partials
   pub none-left : (a : Aggregate) (number : ℕ) (rest : List PartialDone) → AreMerged a number rest → length rest ≡ 0 → left a.unbuilt ≡ 0
   none-left a number rest are none = let all = are.all in let some = are.some in omega arith
 

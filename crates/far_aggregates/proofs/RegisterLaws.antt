@@ -10,9 +10,9 @@ use Rattle.std.proofs.lemmas.Nat.{le-div}
 use Rattle.far_types.specs.declared.spec.Spec.{Spec}
 use Rattle.far_types.specs.Answers.{totals, extrema}
 use Rattle.far_types.specs.Table.{Place, Registered, groups, all_unbuilt, is_unbuilt, left, in_group, place_pair}
-use Rattle.far_aggregates.specs.declared.aggregate.Kept.{Kept}
-use Rattle.far_aggregates.specs.declared.aggregate.Kept.TheVariants as kept
-use Rattle.far_aggregates.specs.Kept.{Slot, registered_in, registered_of, group_pairs, built_group, fold_of, KeepsNothing, KeepsSlot}
+use Rattle.far_aggregates.specs.declared.aggregate.Accumulator.{Accumulator}
+use Rattle.far_aggregates.specs.declared.aggregate.Accumulator.TheVariants as accumulator
+use Rattle.far_aggregates.specs.Accumulators.{Slot, registered_in, registered_of, group_pairs, built_group, fold_of, KeepsNothing, KeepsSlot}
 use Rattle.far_aggregates.proofs.BuiltLaws.{built-none}
 use Rattle.far_aggregates.proofs.ListLaws.{map-set_like}
 
@@ -112,22 +112,22 @@ nothing_built spec size ps g pos = elim (above_or_not g (groups size (length ps)
 ]
 
 -- an aggregate that is registered now keeps what it is to keep
-new-kept : (size : ℕ) (ps : List Place) (spec : Spec) (registration : ℕ) (k : Kept) → 0 < size → fold_of k ≡ spec.fold → KeepsNothing (groups size (length ps)) k
-    → KeepsSlot size ps (Some (record { spec = spec; registration = registration; unbuilt = all_unbuilt size ps; kept = k }))
-new-kept size ps spec registration (kept.Totals live) g f h = (
+new-kept : (size : ℕ) (ps : List Place) (spec : Spec) (registration : ℕ) (k : Accumulator) → 0 < size → fold_of k ≡ spec.fold → KeepsNothing (groups size (length ps)) k
+    → KeepsSlot size ps (Some (record { spec = spec; registration = registration; unbuilt = all_unbuilt size ps; accumulator = k }))
+new-kept size ps spec registration (accumulator.Totals live) g f h = (
   f,
   (
     h.1 ∙ sym (ap totals (built-none spec size (all_unbuilt size ps) 0 ps (λ k l. all_unbuilt-there size ps k g (omega arith)))),
     h.0 ∙ sym (count-replicate (groups size (length ps))),
   ),
 )
-new-kept size ps spec registration (kept.Extrema live) g f h = (
+new-kept size ps spec registration (accumulator.Extrema live) g f h = (
   f,
   ((λ i. ap (λ l. slice_index_or l i fin.empty) h.1 ∙ nothing_built spec size ps i g), h.0 ∙ sym (count-replicate (groups size (length ps)))),
 )
 
-pub new-keeps : (size : ℕ) (ps : List Place) (spec : Spec) (registration count : ℕ) (unbuilt : List Bool) (k : Kept) → 0 < size → count ≡ groups size (length ps) → fold_of k ≡ spec.fold → unbuilt ≡ replicate count true → KeepsNothing count k
-    → KeepsSlot size ps (Some (record { spec = spec; registration = registration; unbuilt = unbuilt; kept = k }))
+pub new-keeps : (size : ℕ) (ps : List Place) (spec : Spec) (registration count : ℕ) (unbuilt : List Bool) (k : Accumulator) → 0 < size → count ≡ groups size (length ps) → fold_of k ≡ spec.fold → unbuilt ≡ replicate count true → KeepsNothing count k
+    → KeepsSlot size ps (Some (record { spec = spec; registration = registration; unbuilt = unbuilt; accumulator = k }))
 new-keeps size ps spec registration count unbuilt k g n f flags h =
-    subst (λ u. KeepsSlot size ps (Some (record { spec = spec; registration = registration; unbuilt = u; kept = k }))) (sym (flags ∙ ap (λ m. replicate m true) n))
+    subst (λ u. KeepsSlot size ps (Some (record { spec = spec; registration = registration; unbuilt = u; accumulator = k }))) (sym (flags ∙ ap (λ m. replicate m true) n))
     (new-kept size ps spec registration k g f (subst (λ m. KeepsNothing m k) n h))

@@ -1,4 +1,4 @@
--- What a row group that is built in adds to what is kept.
+-- What a row group that is scanned adds to an aggregate.
 use Rattle.std.proofs.Common.{inl, inr, ◌≡◌, ◌≢◌, ℕ, zero, suc, ◌+◌, ◌-◌, ◌*◌, ◌/◌, ◌<◌, ◌≤◌, Bool, true, false, cond, List, [], ◌∷◌, ◌++◌, length, map, take, drop, refl, sym, ap, ◌∙◌, subst, arith, None, Some, slice_get, slice_set, slice_index_or, replicate, length-append, length-drop, ◌^◌}
 use Rattle.std.specs.Prelude.{nat_eq}
 use Rattle.std.specs.List.{filter_map, cons_option}
@@ -26,19 +26,19 @@ use Rattle.far_offload.specs.Partials.{partial_of, pairs_over}
 use Rattle.far_offload.proofs.HandLaws.{at-hand}
 use Rattle.far_groups.proofs.PairLaws.{can_join}
 use Rattle.far_aggregates.specs.declared.aggregate.Aggregate.{Aggregate}
-use Rattle.far_aggregates.specs.declared.aggregate.Kept.{Kept}
-use Rattle.far_aggregates.specs.declared.aggregate.Kept.TheVariants as kept
-use Rattle.far_aggregates.specs.Kept.{Slot, Change, built_pairs, pairs_here, group_pairs, built_group, fold_of, IsKept, KeepsSlot}
-use Rattle.far_aggregates.proofs.RoomLaws.{same-kept}
-use Rattle.far_aggregates.specs.Scans.{has_unbuilt, IsScanned, IsSame, KeptMayScan}
+use Rattle.far_aggregates.specs.declared.aggregate.Accumulator.{Accumulator}
+use Rattle.far_aggregates.specs.declared.aggregate.Accumulator.TheVariants as accumulator
+use Rattle.far_aggregates.specs.Accumulators.{Slot, Change, built_pairs, pairs_here, group_pairs, built_group, fold_of, IsKept, KeepsSlot}
+use Rattle.far_aggregates.proofs.ReserveLaws.{same-kept}
+use Rattle.far_aggregates.specs.Scans.{has_unbuilt, IsScanned, IsSame, AccumulatorMayScan}
 use Rattle.far_aggregates.specs.Aggregates.{joined}
-use Rattle.far_aggregates.specs.Changes.{with_change}
+use Rattle.far_aggregates.specs.Pairs.{with_change}
 use Rattle.far_aggregates.proofs.BuiltLaws.{length-built}
 use Rattle.far_aggregates.proofs.ListLaws.{index-replicate}
 use Rattle.far_aggregates.proofs.PairLaws.{pairs-few}
 use Rattle.far_aggregates.proofs.ExtremaLaws.{same_or_not}
 
--- the flag of a row group that is unbuilt is there
+-- the flag of a row group that is pending is there
 flag-there : (unbuilt : List Bool) (g : ℕ) → is_unbuilt unbuilt g ≡ true → g < length unbuilt
 flag-there [] g h = cc
 flag-there (b ∷ unbuilt) zero h = omega arith
@@ -50,7 +50,7 @@ cleared-same unbuilt g h = get_or-set_same unbuilt g false false (flag-there unb
 pub cleared-other : (unbuilt : List Bool) (g k : ℕ) → k ≢ g → is_unbuilt (slice_set unbuilt g false) k ≡ is_unbuilt unbuilt k
 cleared-other unbuilt g k n = get_or-set_other unbuilt g k false false n
 
--- one row group less is left
+-- one row group less is pending
 pub left-cleared : (unbuilt : List Bool) (g : ℕ) → is_unbuilt unbuilt g ≡ true → left (slice_set unbuilt g false) + 1 ≡ left unbuilt
 left-cleared [] g h = cc
 left-cleared (true ∷ unbuilt) zero h = let a = sum_by-cons (λ (b : Bool). cond b 1 0) true unbuilt in let b = sum_by-cons (λ (b : Bool). cond b 1 0) false unbuilt in omega arith
@@ -160,36 +160,36 @@ module _ (spec : Spec) (size : ℕ) (unbuilt : List Bool) (g : ℕ) (there : is_
   pub left-some : left unbuilt ≡ 0 → ⊥
   left-some h = let e = left-cleared unbuilt g there in absurd (omega arith)
 
--- what is kept after a row group was built in
-pub kept-scanned : (size : ℕ) (ps : List Place) (a : Aggregate) (k k' : Kept) (g : ℕ) → is_unbuilt a.unbuilt g ≡ true → 0 < size → IsKept size ps a k → IsScanned a.spec g (in_group size g ps) k k' → IsKept size ps (record a { unbuilt = slice_set a.unbuilt g false }) k'
-kept-scanned size ps a (kept.Totals live) k' g there pos h s = subst (IsKept size ps (record a { unbuilt = slice_set a.unbuilt g false })) (sym s) (
+-- an aggregate after a row group was scanned
+pub kept-scanned : (size : ℕ) (ps : List Place) (a : Aggregate) (k k' : Accumulator) (g : ℕ) → is_unbuilt a.unbuilt g ≡ true → 0 < size → IsKept size ps a k → IsScanned a.spec g (in_group size g ps) k k' → IsKept size ps (record a { unbuilt = slice_set a.unbuilt g false }) k'
+kept-scanned size ps a (accumulator.Totals live) k' g there pos h s = subst (IsKept size ps (record a { unbuilt = slice_set a.unbuilt g false })) (sym s) (
   ap (λ m. joined_totals m (totals (group_pairs a.spec size g ps))) h.0 ∙ totals-scanned a.spec size a.unbuilt g there ps pos,
   ap (λ n. n - 1) h.1 ∙ left-scanned a.spec size a.unbuilt g there,
 )
-kept-scanned size ps a (kept.Extrema live) (kept.Totals new) g there pos h s = absurd s
-kept-scanned size ps a (kept.Extrema live) (kept.Extrema new) g there pos h s = (
+kept-scanned size ps a (accumulator.Extrema live) (accumulator.Totals new) g there pos h s = absurd s
+kept-scanned size ps a (accumulator.Extrema live) (accumulator.Extrema new) g there pos h s = (
   (λ i. ap (λ gs. slice_index_or gs i fin.empty) s.1 ∙ groups-scanned a.spec size a.unbuilt g there ps live.groups h.0 i),
   s.0 ∙ ap (λ n. n - 1) h.1 ∙ left-scanned a.spec size a.unbuilt g there,
 )
 
-pub fold-scanned : (spec : Spec) (size g : ℕ) (ps : List Place) (k k' : Kept) → IsScanned spec g (in_group size g ps) k k' → fold_of k' ≡ fold_of k
-fold-scanned spec size g ps (kept.Totals live) k' s = ap fold_of s
-fold-scanned spec size g ps (kept.Extrema live) (kept.Totals new) s = absurd s
-fold-scanned spec size g ps (kept.Extrema live) (kept.Extrema new) s = refl
+pub fold-scanned : (spec : Spec) (size g : ℕ) (ps : List Place) (k k' : Accumulator) → IsScanned spec g (in_group size g ps) k k' → fold_of k' ≡ fold_of k
+fold-scanned spec size g ps (accumulator.Totals live) k' s = ap fold_of s
+fold-scanned spec size g ps (accumulator.Extrema live) (accumulator.Totals new) s = absurd s
+fold-scanned spec size g ps (accumulator.Extrema live) (accumulator.Extrema new) s = refl
 
 -- and where it was not
-same-in : (size : ℕ) (ps : List Place) (a : Aggregate) (k k' : Kept) → IsSame k k' → IsKept size ps a k → IsKept size ps a k'
-same-in size ps a (kept.Totals live) k' s h = subst (IsKept size ps a) (sym s) h
-same-in size ps a (kept.Extrema live) (kept.Totals new) s h = absurd s
-same-in size ps a (kept.Extrema live) (kept.Extrema new) s h = (λ i. ap (λ gs. slice_index_or gs i fin.empty) s.1 ∙ h.0 i, s.0 ∙ h.1)
+same-in : (size : ℕ) (ps : List Place) (a : Aggregate) (k k' : Accumulator) → IsSame k k' → IsKept size ps a k → IsKept size ps a k'
+same-in size ps a (accumulator.Totals live) k' s h = subst (IsKept size ps a) (sym s) h
+same-in size ps a (accumulator.Extrema live) (accumulator.Totals new) s h = absurd s
+same-in size ps a (accumulator.Extrema live) (accumulator.Extrema new) s h = (λ i. ap (λ gs. slice_index_or gs i fin.empty) s.1 ∙ h.0 i, s.0 ∙ h.1)
 
-same-fold : (k k' : Kept) → IsSame k k' → fold_of k' ≡ fold_of k
-same-fold (kept.Totals live) k' s = ap fold_of s
-same-fold (kept.Extrema live) (kept.Totals new) s = absurd s
-same-fold (kept.Extrema live) (kept.Extrema new) s = refl
+same-fold : (k k' : Accumulator) → IsSame k k' → fold_of k' ≡ fold_of k
+same-fold (accumulator.Totals live) k' s = ap fold_of s
+same-fold (accumulator.Extrema live) (accumulator.Totals new) s = absurd s
+same-fold (accumulator.Extrema live) (accumulator.Extrema new) s = refl
 
-pub slot-same : (size : ℕ) (ps : List Place) (a : Aggregate) (k : Kept) → IsSame a.kept k → KeepsSlot size ps (Some a) → KeepsSlot size ps (Some (record a { kept = k }))
-slot-same size ps a k s h = (same-fold a.kept k s ∙ h.0, same-kept size ps a (record a { kept = k }) k refl refl (same-in size ps a a.kept k s h.1))
+pub slot-same : (size : ℕ) (ps : List Place) (a : Aggregate) (k : Accumulator) → IsSame a.accumulator k → KeepsSlot size ps (Some a) → KeepsSlot size ps (Some (record a { accumulator = k }))
+slot-same size ps a k s h = (same-fold a.accumulator k s ∙ h.0, same-kept size ps a (record a { accumulator = k }) k refl refl (same-in size ps a a.accumulator k s h.1))
 
 -- a row group has no more places than there are
 pub group-length : (size g : ℕ) (ps : List Place) → length (in_group size g ps) ≤ length ps
@@ -204,24 +204,24 @@ group-few spec size g ps =
     let b = group-length size g ps in
     omega arith
 
-pub may_scan : (size : ℕ) (ps : List Place) (a : Aggregate) (k : Kept) (g : ℕ) → is_unbuilt a.unbuilt g ≡ true → length ps ≤ 2 ^ 24 → IsKept size ps a k → KeptMayScan a.spec g (in_group size g ps) k
-may_scan size ps a (kept.Totals live) g there few h = (
+pub may_scan : (size : ℕ) (ps : List Place) (a : Aggregate) (k : Accumulator) (g : ℕ) → is_unbuilt a.unbuilt g ≡ true → length ps ≤ 2 ^ 24 → IsKept size ps a k → AccumulatorMayScan a.spec g (in_group size g ps) k
+may_scan size ps a (accumulator.Totals live) g there few h = (
   (λ e. left-some a.spec size a.unbuilt g there (sym h.1 ∙ e)),
   subst (λ m. CanJoin m (totals (group_pairs a.spec size g ps))) (sym h.0)
       (let b = length-built a.spec size a.unbuilt 0 ps in
       let c = group-few a.spec size g ps in
       can_join (built_pairs a.spec size a.unbuilt 0 ps) (group_pairs a.spec size g ps) (omega arith)),
 )
-may_scan size ps a (kept.Extrema live) g there few h = (
+may_scan size ps a (accumulator.Extrema live) g there few h = (
   (λ e. left-some a.spec size a.unbuilt g there (sym h.1 ∙ e)),
   h.0 g ∙ ap (λ b. cond b fin.empty (extrema (group_pairs a.spec size g ps))) there,
 )
 
-pub slot-scanned : (size : ℕ) (ps : List Place) (a : Aggregate) (g : ℕ) (flags : List Bool) (k : Kept) → is_unbuilt a.unbuilt g ≡ true → 0 < size → KeepsSlot size ps (Some a) → flags ≡ slice_set a.unbuilt g false → IsScanned a.spec g (in_group size g ps) a.kept k
-    → KeepsSlot size ps (Some (record a { unbuilt = flags; kept = k }))
+pub slot-scanned : (size : ℕ) (ps : List Place) (a : Aggregate) (g : ℕ) (flags : List Bool) (k : Accumulator) → is_unbuilt a.unbuilt g ≡ true → 0 < size → KeepsSlot size ps (Some a) → flags ≡ slice_set a.unbuilt g false → IsScanned a.spec g (in_group size g ps) a.accumulator k
+    → KeepsSlot size ps (Some (record a { unbuilt = flags; accumulator = k }))
 slot-scanned size ps a g flags k there pos h e s =
-    subst (λ u. KeepsSlot size ps (Some (record a { unbuilt = u; kept = k }))) (sym e)
-    (fold-scanned a.spec size g ps a.kept k s ∙ h.0, same-kept size ps (record a { unbuilt = slice_set a.unbuilt g false }) (record a { unbuilt = slice_set a.unbuilt g false; kept = k }) k refl refl (kept-scanned size ps a a.kept k g there pos h.1 s))
+    subst (λ u. KeepsSlot size ps (Some (record a { unbuilt = u; accumulator = k }))) (sym e)
+    (fold-scanned a.spec size g ps a.accumulator k s ∙ h.0, same-kept size ps (record a { unbuilt = slice_set a.unbuilt g false }) (record a { unbuilt = slice_set a.unbuilt g false; accumulator = k }) k refl refl (kept-scanned size ps a a.accumulator k g there pos h.1 s))
 
 pub has-below : (slots : List Slot) (g a : ℕ) → has_unbuilt g (joined (slice_get slots a)) ≡ true → a < length slots
 has-below [] g a h = cc

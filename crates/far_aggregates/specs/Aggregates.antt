@@ -6,7 +6,7 @@ use Rattle.far_types.specs.declared.refusal.Refusal.TheVariants as refusal
 use Rattle.far_types.specs.declared.answer.Answer.{Answer}
 use Rattle.far_types.specs.Answers.{answer_over}
 use Rattle.far_types.specs.Table.{Place, Registered, rows_of, is_unbuilt, left}
-use Rattle.far_aggregates.specs.Kept.{Slot, registered_of}
+use Rattle.far_aggregates.specs.Accumulators.{Slot, registered_of}
 
 abbrev pub joined : {A : Type 0} → Option (Option A) → Option A
 joined None = None
@@ -22,20 +22,20 @@ free_from a (Some aggregate ∷ rest) = free_from (a + 1) rest
 abbrev pub aggregate_in : List Slot → ℕ → Option Registered
 aggregate_in slots a = joined (slice_get (registered_of slots) a)
 
--- whether a row group is still to be built into an aggregate
+-- whether a row group is pending in an aggregate
 abbrev pub is_left : Option Registered → ℕ → Bool
 is_left aggregate g = option_map_or (λ r. is_unbuilt r.unbuilt g) aggregate false
 
--- an aggregate answers where no row group is left to be built in
+-- an aggregate answers if no row group is pending
 abbrev pub ask_refusal : Option Registered → Option Refusal
 ask_refusal None = Some refusal.NoAggregate
 ask_refusal (Some aggregate) = cond (left aggregate.unbuilt == 0) None (Some (refusal.Building (left aggregate.unbuilt)))
 
--- a row group less is left to be built in
+-- a row group less is pending
 abbrev pub built_in : ℕ → Registered → Registered
 built_in g aggregate = record aggregate { unbuilt = slice_set aggregate.unbuilt g false }
 
--- this is the answer of an aggregate over the rows of these places, and nothing is left to be built in
+-- this is the answer of an aggregate over the rows of these places, and no row group is pending
 abbrev pub Answers : List Place → Option Registered → Answer → Type 0
 Answers places None answer = ⊥
 Answers places (Some aggregate) answer = (left aggregate.unbuilt ≡ 0) × (answer ≡ answer_over aggregate.spec (rows_of places))

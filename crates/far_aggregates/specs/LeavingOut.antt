@@ -1,19 +1,19 @@
--- Pairs that need not go, since what is kept stays the same without them.
+-- Pairs that need not be retracted, since the aggregates are the same without that.
 use Rattle.std.specs.Prelude.{◌≡◌, ◌⊎◌, ℕ, ℤ, ◌<ℤ◌, List, Option, None, Some, slice_get}
 use Rattle.far_types.specs.Changes.{widened}
-use Rattle.far_aggregates.specs.declared.coming.Coming.{Coming}
-use Rattle.far_aggregates.specs.Kept.{Change}
+use Rattle.far_aggregates.specs.declared.deltas.Delta.{Delta}
+use Rattle.far_aggregates.specs.Accumulators.{Change}
 
--- the value that goes is strictly within what stands under its key in the row group, with the value that came
-abbrev pub NeedNotGo : Option Coming → Change → Type 0
+-- the value to retract is strictly within what stands under its key in the row group, with the delta's value
+abbrev pub NeedNotGo : Option Delta → Change → Type 0
 NeedNotGo None change = ⊥
-NeedNotGo (Some come) None = ⊥
-NeedNotGo (Some come) (Some pair) = (span : ℤ × ℤ) × (come.stood ≡ Some span) × (come.pair.0 ≡ pair.0) × ((widened come.pair.1 (Some span)).0 <ℤ pair.1) × (pair.1 <ℤ (widened come.pair.1 (Some span)).1)
+NeedNotGo (Some delta) None = ⊥
+NeedNotGo (Some delta) (Some pair) = (span : ℤ × ℤ) × (delta.previous ≡ Some span) × (delta.pair.0 ≡ pair.0) × ((widened delta.pair.1 (Some span)).0 <ℤ pair.1) × (pair.1 <ℤ (widened delta.pair.1 (Some span)).1)
 
--- a pair is as it was, or is left out since it need not go
-abbrev pub IsLeftOut : Option Coming → Change → Change → Type 0
-IsLeftOut come old new = (new ≡ old) ⊎ ((new ≡ None) × NeedNotGo come old)
+-- a pair is as it was, or is left out since it need not be retracted
+abbrev pub IsLeftOut : Option Delta → Change → Change → Type 0
+IsLeftOut delta old new = (new ≡ old) ⊎ ((new ≡ None) × NeedNotGo delta old)
 
 -- likewise each
-abbrev pub EachLeftOut : List (Option Coming) → List Change → List Change → Type 0
-EachLeftOut comes old new = (k : ℕ) (come : Option Coming) (c d : Change) → slice_get comes k ≡ Some come → slice_get old k ≡ Some c → slice_get new k ≡ Some d → IsLeftOut come c d
+abbrev pub EachLeftOut : List (Option Delta) → List Change → List Change → Type 0
+EachLeftOut deltas old new = (k : ℕ) (delta : Option Delta) (c d : Change) → slice_get deltas k ≡ Some delta → slice_get old k ≡ Some c → slice_get new k ≡ Some d → IsLeftOut delta c d

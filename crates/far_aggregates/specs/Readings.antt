@@ -16,7 +16,7 @@ is_totals fold.Extrema = false
 abbrev pub all_values : Spec → List Place → ℕ × ℤ
 all_values spec places = tally (map (λ (pair : Pair). pair.1) (pairs_of spec (rows_of places)))
 
--- an aggregate of totals without key column is plain: where nothing is left it has one count and one sum
+-- an aggregate of totals without key column is plain: if no row group is pending it has one count and one sum
 abbrev pub plain_in : List Place → Option Registered → Option (ℕ × ℤ)
 plain_in places None = None
 plain_in places (Some aggregate) = cond (is_totals aggregate.spec.fold && is_none aggregate.spec.key && left aggregate.unbuilt == 0) (Some (all_values aggregate.spec places)) None

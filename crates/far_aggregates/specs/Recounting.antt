@@ -9,9 +9,9 @@ use Rattle.far_groups.specs.Live.{CanJoin}
 use Rattle.far_offload.specs.declared.partial.PartialDone.{PartialDone}
 use Rattle.far_offload.specs.declared.partial.PartialDone.TheVariants as partial
 use Rattle.far_offload.specs.Partials.{partial_of}
-use Rattle.far_aggregates.specs.declared.aggregate.Kept.{Kept}
-use Rattle.far_aggregates.specs.declared.aggregate.Kept.TheVariants as kept
-use Rattle.far_aggregates.specs.Kept.{group_pairs}
+use Rattle.far_aggregates.specs.declared.aggregate.Accumulator.{Accumulator}
+use Rattle.far_aggregates.specs.declared.aggregate.Accumulator.TheVariants as accumulator
+use Rattle.far_aggregates.specs.Accumulators.{group_pairs}
 
 -- what the live places of a row group come to
 abbrev pub partial_at : Spec → ℕ → List Place → ℕ → PartialDone
@@ -22,17 +22,17 @@ abbrev pub partials_from : Spec → ℕ → List Place → ℕ → ℕ → List 
 partials_from spec size places g zero = []
 partials_from spec size places g (suc n) = partial_at spec size places g ∷ partials_from spec size places (g + 1) n
 
--- a partial of the same fold may be merged: a row group is left; the counts stay small, and no row of the row group is in the extrema
-abbrev pub KeptMayMerge : ℕ → PartialDone → Kept → Type 0
-KeptMayMerge g (partial.Totals done) (kept.Totals live) = (live.left ≡ 0 → ⊥) × CanJoin live.totals done.totals
-KeptMayMerge g (partial.Totals done) (kept.Extrema live) = ⊥
-KeptMayMerge g (partial.Extrema seen) (kept.Totals live) = ⊥
-KeptMayMerge g (partial.Extrema seen) (kept.Extrema live) = (live.left ≡ 0 → ⊥) × (group_at live.groups g ≡ fin.empty)
+-- a partial of the same fold may be merged: a row group is pending; the counts stay small, and no row of the row group is in the extrema
+abbrev pub AccumulatorMayMerge : ℕ → PartialDone → Accumulator → Type 0
+AccumulatorMayMerge g (partial.Totals done) (accumulator.Totals live) = (live.left ≡ 0 → ⊥) × CanJoin live.totals done.totals
+AccumulatorMayMerge g (partial.Totals done) (accumulator.Extrema live) = ⊥
+AccumulatorMayMerge g (partial.Extrema seen) (accumulator.Totals live) = ⊥
+AccumulatorMayMerge g (partial.Extrema seen) (accumulator.Extrema live) = (live.left ≡ 0 → ⊥) × (group_at live.groups g ≡ fin.empty)
 
 -- the rows that a partial stands for are in what is kept. Which keys have room is left open
-abbrev pub IsMerged : ℕ → PartialDone → Kept → Kept → Type 0
-IsMerged g (partial.Totals done) (kept.Totals live) new = new ≡ kept.Totals (record { left = live.left - 1; totals = joined_totals live.totals done.totals })
-IsMerged g (partial.Totals done) (kept.Extrema live) new = ⊥
-IsMerged g (partial.Extrema seen) (kept.Totals live) new = ⊥
-IsMerged g (partial.Extrema seen) (kept.Extrema live) (kept.Totals new) = ⊥
-IsMerged g (partial.Extrema seen) (kept.Extrema live) (kept.Extrema new) = (new.left ≡ live.left - 1) × (new.groups ≡ slice_set (with_room g live.groups) g seen)
+abbrev pub IsMerged : ℕ → PartialDone → Accumulator → Accumulator → Type 0
+IsMerged g (partial.Totals done) (accumulator.Totals live) new = new ≡ accumulator.Totals (record { left = live.left - 1; totals = joined_totals live.totals done.totals })
+IsMerged g (partial.Totals done) (accumulator.Extrema live) new = ⊥
+IsMerged g (partial.Extrema seen) (accumulator.Totals live) new = ⊥
+IsMerged g (partial.Extrema seen) (accumulator.Extrema live) (accumulator.Totals new) = ⊥
+IsMerged g (partial.Extrema seen) (accumulator.Extrema live) (accumulator.Extrema new) = (new.left ≡ live.left - 1) × (new.groups ≡ slice_set (with_room g live.groups) g seen)

@@ -1,4 +1,4 @@
--- A row group that is built in.
+-- A row group that is scanned into an aggregate.
 use Rattle.std.specs.Prelude.{◌≡◌, ℕ, ◌-◌, ◌≤◌, ◌^◌, Bool, false, List, length, slice_set, Option, None, Some}
 use Rattle.std.specs.FinMap as fin
 use Rattle.far_types.specs.declared.spec.Spec.{Spec}
@@ -7,12 +7,12 @@ use Rattle.far_types.specs.Changes.{joined_totals}
 use Rattle.far_types.specs.Table.{Place, Registered, in_group, is_unbuilt}
 use Rattle.far_extrema.specs.Live.{with_room, group_at}
 use Rattle.far_groups.specs.Live.{CanJoin}
-use Rattle.far_aggregates.specs.declared.aggregate.Kept.{Kept}
-use Rattle.far_aggregates.specs.declared.aggregate.Kept.TheVariants as kept
-use Rattle.far_aggregates.specs.Kept.{Slot, pairs_here, KeepsSlot}
+use Rattle.far_aggregates.specs.declared.aggregate.Accumulator.{Accumulator}
+use Rattle.far_aggregates.specs.declared.aggregate.Accumulator.TheVariants as accumulator
+use Rattle.far_aggregates.specs.Accumulators.{Slot, pairs_here, KeepsSlot}
 use Rattle.far_aggregates.specs.Aggregates.{built_in}
 
--- whether a row group is still to be built into what stands in a slot
+-- whether a row group is pending in what stands in a slot
 abbrev pub has_unbuilt : ℕ → Slot → Bool
 has_unbuilt g None = false
 has_unbuilt g (Some a) = is_unbuilt a.unbuilt g
@@ -22,21 +22,21 @@ built_slot g None = None
 built_slot g (Some aggregate) = Some (built_in g aggregate)
 
 -- the rows of one row group more, at these places, are in what is kept. Which keys have room is left open
-abbrev pub IsScanned : Spec → ℕ → List Place → Kept → Kept → Type 0
-IsScanned spec g here (kept.Totals live) new = new ≡ kept.Totals (record { left = live.left - 1; totals = joined_totals live.totals (totals (pairs_here spec here)) })
-IsScanned spec g here (kept.Extrema live) (kept.Totals new) = ⊥
-IsScanned spec g here (kept.Extrema live) (kept.Extrema new) = (new.left ≡ live.left - 1) × (new.groups ≡ slice_set (with_room g live.groups) g (extrema (pairs_here spec here)))
+abbrev pub IsScanned : Spec → ℕ → List Place → Accumulator → Accumulator → Type 0
+IsScanned spec g here (accumulator.Totals live) new = new ≡ accumulator.Totals (record { left = live.left - 1; totals = joined_totals live.totals (totals (pairs_here spec here)) })
+IsScanned spec g here (accumulator.Extrema live) (accumulator.Totals new) = ⊥
+IsScanned spec g here (accumulator.Extrema live) (accumulator.Extrema new) = (new.left ≡ live.left - 1) × (new.groups ≡ slice_set (with_room g live.groups) g (extrema (pairs_here spec here)))
 
 -- the same rows are in. Which keys have room is left open
-abbrev pub IsSame : Kept → Kept → Type 0
-IsSame (kept.Totals live) new = new ≡ kept.Totals live
-IsSame (kept.Extrema live) (kept.Totals new) = ⊥
-IsSame (kept.Extrema live) (kept.Extrema new) = (new.left ≡ live.left) × (new.groups ≡ live.groups)
+abbrev pub IsSame : Accumulator → Accumulator → Type 0
+IsSame (accumulator.Totals live) new = new ≡ accumulator.Totals live
+IsSame (accumulator.Extrema live) (accumulator.Totals new) = ⊥
+IsSame (accumulator.Extrema live) (accumulator.Extrema new) = (new.left ≡ live.left) × (new.groups ≡ live.groups)
 
--- a row group is left; the counts stay small, and no row of the row group is in the extrema
-abbrev pub KeptMayScan : Spec → ℕ → List Place → Kept → Type 0
-KeptMayScan spec g here (kept.Totals live) = (live.left ≡ 0 → ⊥) × CanJoin live.totals (totals (pairs_here spec here))
-KeptMayScan spec g here (kept.Extrema live) = (live.left ≡ 0 → ⊥) × (group_at live.groups g ≡ fin.empty)
+-- a row group is pending; the counts stay small, and no row of the row group is in the extrema
+abbrev pub AccumulatorMayScan : Spec → ℕ → List Place → Accumulator → Type 0
+AccumulatorMayScan spec g here (accumulator.Totals live) = (live.left ≡ 0 → ⊥) × CanJoin live.totals (totals (pairs_here spec here))
+AccumulatorMayScan spec g here (accumulator.Extrema live) = (live.left ≡ 0 → ⊥) × (group_at live.groups g ≡ fin.empty)
 
 -- what is kept is that of some places, which are few, and those of the row group are these
 abbrev pub SlotMayBuild : ℕ → ℕ → List Place → Slot → Type 0

@@ -1,12 +1,12 @@
 // One aggregate that is kept up to date.
 use super::known::KnownExtrema;
-use super::unbuilt::Unbuilt;
+use super::pending_groups::PendingGroups;
 use far_groups::LiveTotals;
 use far_types::Spec;
 
-/// What is kept of the rows of the row groups that are built in.
+/// The running value of an aggregate: what the rows of the scanned row groups come to.
 #[derive(Drop)]
-pub enum Kept {
+pub enum Accumulator {
     Totals(LiveTotals),
     Extrema(KnownExtrema),
 }
@@ -17,6 +17,6 @@ pub struct Aggregate {
     pub spec: Spec,
     /// How many registrations were made before this one.
     pub registration: u64,
-    pub unbuilt: Unbuilt,
-    pub kept: Kept,
+    pub unbuilt: PendingGroups,
+    pub accumulator: Accumulator,
 }

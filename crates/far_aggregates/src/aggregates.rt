@@ -12,15 +12,15 @@ ghost use Rattle.far_types.specs.Table.{Place, groups, in_group};
 use super::aggregate::Aggregate;
 use super::answers::answer;
 use super::changed::Changed;
-use super::changes::changes;
-use super::coming::{back_all, come_in};
-use super::going::{needs_rows, take_all, take_totals};
+use super::deltas::{apply_deltas, undo_all};
 use super::leaving_out::leave_out;
 use super::lend_group::LendGroup;
+use super::pairs::row_pairs;
 use super::pending::Pending;
 use super::readings::{first_unbuilt, plain};
 use super::registrations::{aggregate_at, forget, free_number, register};
-use super::rooms::make_rooms;
+use super::reserve::reserve_all;
+use super::retract::{needs_rows, retract_all, retract_totals};
 use super::scans::build_at;
 use super::spare_keys::SpareKeys;
 use far_types::{Answer, CellRef, LendCells, Refusal, Spec};
@@ -28,9 +28,9 @@ use std::alloc::Global;
 use std::marker::Model;
 use std::mem;
 
-/// The aggregates of a table, under their numbers: at most 32. An edit of the rows has three parts: what comes of the new row
-/// is brought in, which may be refused; the rows are changed, which may be refused too; and then what the old row gave goes
-/// out, which cannot fail. Contracts see what stands under each number that was ever used.
+/// The aggregates of a table, under their numbers: at most 32. An edit of the rows has three parts. The deltas of the new row
+/// are applied, which may be refused. The rows are changed, which may be refused too. Then the pairs of the old row are
+/// retracted, which cannot fail. Contracts see what stands under each number that was ever used.
 #[derive(Drop)]
 pub struct Aggregates {
     slots: Vec<Option<Aggregate>>,
@@ -44,7 +44,7 @@ impl Model for Aggregates {
     ghost use Rattle.std.specs.Coded.{codes};
     ghost use Rattle.far_groups.specs.Live.{coded_live as coded_totals_live};
     ghost use Rattle.far_extrema.specs.Live.{coded_live as coded_extrema_live};
-    ghost use Rattle.far_aggregates.specs.Kept.{Slot};
+    ghost use Rattle.far_aggregates.specs.Accumulators.{Slot};
 
     ghost Value = { List Slot };
 
@@ -57,12 +57,12 @@ impl Model for Aggregates {
 
 impl Aggregates {
     ghost use Rattle.far_aggregates.specs.Aggregates.{free_from, aggregate_in, is_left, ask_refusal, Answers};
-    ghost use Rattle.far_aggregates.specs.Going.{EachIsPlain};
-    ghost use Rattle.far_aggregates.specs.Kept.{Keeps, PlacesFit, registered_of};
+    ghost use Rattle.far_aggregates.specs.Retract.{EachIsPlain};
+    ghost use Rattle.far_aggregates.specs.Accumulators.{Keeps, PlacesFit, registered_of};
     ghost use Rattle.far_aggregates.specs.Lending.{SlotIsServed, AreServed};
     ghost use Rattle.far_aggregates.specs.Readings.{plain_in};
     ghost use Rattle.far_aggregates.specs.Scans.{built_slot};
-    ghost use Rattle.far_aggregates.specs.Pending.{AreKept, KeepsAsBefore, IsAliveAt, MayGoBack, gone_back, GoesBack, MayGoOn, gone_on, GoesOn};
+    ghost use Rattle.far_aggregates.specs.Pending.{AreKept, KeepsAsBefore, IsAliveAt, MayUndoAll, all_undone, UndoesAll, MayRetractAll, all_retracted, RetractsAll};
 
     /// No aggregate. Takes no memory.
     pub fn new(alloc: Global) -> Aggregates
@@ -91,8 +91,8 @@ impl Aggregates {
         free_number(self.slots.as_slice())
     }
 
-    /// Registers an aggregate under the lowest free number, over so many places: all row groups that hold one are still to be
-    /// built in. Refused with `NoMemory` (1) alone, and then nothing is changed.
+    /// Registers an aggregate under the lowest free number, over so many places: all row groups that hold one are
+    /// pending. Refused with `NoMemory` (1) alone, and then nothing is changed.
     pub fn register(
         &mut self,
         alloc: Global,
@@ -138,7 +138,7 @@ impl Aggregates {
         Some(aggregate.registration)
     }
 
-    /// Whether a row group is still to be built into the aggregate of a number: false where there is none. Takes no memory.
+    /// Whether a row group is pending in the aggregate of a number: false if there is none. Allocates nothing.
     pub fn is_left(&self, a: u32, group: u32) -> bool
         ensures { result ≡ is_left (aggregate_in self.now a) group }
     {
@@ -148,7 +148,7 @@ impl Aggregates {
         }
     }
 
-    /// An aggregate and a row group that is still to be built into it, or `None` where there is none. Takes no memory.
+    /// An aggregate and a row group that is pending in it, or `None` if there is none. Allocates nothing.
     pub fn first_unbuilt(&self) -> Option<(u32, u32)>
         ensures some { IfSome result (λ at. is_left (aggregate_in self.now at.0) at.1 ≡ true) }
         ensures none { IfNone result ((a : ℕ) → (g : ℕ) → is_left (aggregate_in self.now a) g ≡ false) }
@@ -157,7 +157,7 @@ impl Aggregates {
     }
 
     /// What the aggregate of a number answers over the rows for which all are kept. Refused with `NoAggregate` (12) exactly
-    /// where there is none, with `Building` (15) and how many row groups are left exactly where that is not 0, else with
+    /// if there is none, with `Building` (15) and how many row groups are pending exactly if that is not 0, else with
     /// `NoMemory` (1) alone.
     pub fn answer(&self, alloc: Global, a: u32) -> Result<Answer, Refusal>
         ensures ok { IfOk result (λ answer. (size : ℕ) → (places : List Place) → 0 < size → Keeps size places self.now → Answers places (aggregate_in self.now a) answer) }
@@ -169,8 +169,8 @@ impl Aggregates {
         answer(alloc, aggregate)
     }
 
-    /// How many rows the aggregate of a number folds, and the sum of their values, where it is of totals without key column:
-    /// `None` for another, and where row groups are still to be built in. Takes no memory.
+    /// How many rows the aggregate of a number folds, and the sum of their values, if it is of totals without key column:
+    /// `None` for another, and while row groups are pending. Allocates nothing.
     pub fn plain(&self, a: u32) -> Option<(u64, i128)>
         ensures { (size : ℕ) → (places : List Place) → Keeps size places self.now → result ≡ plain_in places (aggregate_in self.now a) }
     {
@@ -178,8 +178,8 @@ impl Aggregates {
         plain(aggregate)
     }
 
-    /// Builds the rows of a row group into the aggregate of a number into which they are still to be built. Refused with
-    /// `NoMemory` (1) alone, and then all answer as before.
+    /// Scans the rows of a row group into the aggregate of a number in which it is pending. Refused with `NoMemory` (1)
+    /// alone, and then all answer as before.
     pub fn build_at<G: LendGroup>(
         &mut self,
         alloc: Global,
@@ -200,10 +200,10 @@ impl Aggregates {
         build_at(alloc, &mut self.slots, a, group, size, number)
     }
 
-    /// Brings in what comes of a row that is to be appended at a place, the first that is not there yet. Once the rows have
-    /// it, `end` ends the edit; where they refuse it, `back` undoes this. Refused with `NoMemory` (1) alone, and then
+    /// Applies the deltas of a row that is to be appended at a place, the first that is not there yet. Once the rows have
+    /// it, `end` ends the edit; if they refuse it, `undo` undoes the deltas. Refused with `NoMemory` (1) alone, and then
     /// all answer as before.
-    pub fn come_in<R: LendCells>(
+    pub fn apply_deltas<R: LendCells>(
         &mut self,
         alloc: Global,
         row: &R,
@@ -213,8 +213,8 @@ impl Aggregates {
         requires size { 0 < size }
         requires few { place ≤ 2 ^ 24 }
         requires kept { (places : List Place) × AreKept size places self.old }
-        ensures came { OnOk result ((places : List Place) → (cells : List Cell) → length places ≡ place → R.cells row.now ≡ cells_of cells → Keeps size places self.old → Keeps size (places_after (edit.Insert cells) places) self.new) }
-        ensures back { IfOk result (GoesBack self.old self.new) }
+        ensures applied { OnOk result ((places : List Place) → (cells : List Cell) → length places ≡ place → R.cells row.now ≡ cells_of cells → Keeps size places self.old → Keeps size (places_after (edit.Insert cells) places) self.new) }
+        ensures undo { IfOk result (UndoesAll self.old self.new) }
         ensures unchanged { OnErr result (KeepsAsBefore self.old self.new) }
         ensures registered { registered_of self.new ≡ registered_of self.old }
         ensures memory { IfErr result (λ e. e ≡ Refusal.NoMemory) }
@@ -224,17 +224,33 @@ impl Aggregates {
             return Ok(Pending::nothing(alloc));
         }
         let group = (place / size as usize) as u32;
-        let Pending { came, mut gone, .. } = mem::replace(&mut self.lists, Pending::nothing(alloc));
+        let Pending {
+            applied,
+            mut to_retract,
+            ..
+        } = mem::replace(&mut self.lists, Pending::nothing(alloc));
         let slots = self.slots.as_mut_slice();
-        make_rooms(slots, group);
-        let came = come_in(&mut self.spare_keys, came, slots, row, size, place, group)?;
-        gone.clear();
-        Ok(Pending { group, came, gone })
+        reserve_all(slots, group);
+        let applied = apply_deltas(
+            &mut self.spare_keys,
+            applied,
+            slots,
+            row,
+            size,
+            place,
+            group,
+        )?;
+        to_retract.clear();
+        Ok(Pending {
+            group,
+            applied,
+            to_retract,
+        })
     }
 
-    /// Brings in what comes of a place's row with another cell in a column, which the row has, beside what the row gives as
-    /// it is. Once the rows have the cell, `take` takes that; where they refuse it, `back` undoes this. Refused with
-    /// `NoMemory` (1) alone, and then all answer as before.
+    /// Applies the deltas of a place's row with another cell in a column, which the row has, and looks up the pairs of the row
+    /// as it is. Once the rows have the cell, `retract` retracts those; if they refuse it, `undo` undoes the deltas. Refused
+    /// with `NoMemory` (1) alone, and then all answer as before.
     pub fn change_in<R: LendCells>(
         &mut self,
         alloc: Global,
@@ -248,32 +264,48 @@ impl Aggregates {
         requires few { place ≤ 2 ^ 24 }
         requires column { IsSome (R.cells row.now column) }
         requires kept { (places : List Place) × AreKept size places self.old }
-        ensures goes { IfOk result (λ pending. (places : List Place) → IsAliveAt (R.cells row.now) place places → AreKept size places self.old → PlacesFit (places_after (edit.Set place column (lent_cell cell.entry)) places) → GoesOn size (place / size) (places_after (edit.Set place column (lent_cell cell.entry)) places) self.new pending) }
-        ensures back { IfOk result (GoesBack self.old self.new) }
+        ensures goes { IfOk result (λ pending. (places : List Place) → IsAliveAt (R.cells row.now) place places → AreKept size places self.old → PlacesFit (places_after (edit.Set place column (lent_cell cell.entry)) places) → RetractsAll size (place / size) (places_after (edit.Set place column (lent_cell cell.entry)) places) self.new pending) }
+        ensures undo { IfOk result (UndoesAll self.old self.new) }
         ensures unchanged { OnErr result (KeepsAsBefore self.old self.new) }
         ensures registered { registered_of self.new ≡ registered_of self.old }
         ensures memory { IfErr result (λ e. e ≡ Refusal.NoMemory) }
     {
         let group = (place / size as usize) as u32;
-        let Pending { came, gone, .. } = mem::replace(&mut self.lists, Pending::nothing(alloc));
+        let Pending {
+            applied,
+            to_retract,
+            ..
+        } = mem::replace(&mut self.lists, Pending::nothing(alloc));
         let slots = self.slots.as_mut_slice();
-        make_rooms(slots, group);
-        let gone = changes(&mut self.spare_keys, gone, slots, row, size, place, group)?;
-        let changed = Changed { row, column, cell };
-        let came = come_in(
+        reserve_all(slots, group);
+        let to_retract = row_pairs(
             &mut self.spare_keys,
-            came,
+            to_retract,
+            slots,
+            row,
+            size,
+            place,
+            group,
+        )?;
+        let changed = Changed { row, column, cell };
+        let applied = apply_deltas(
+            &mut self.spare_keys,
+            applied,
             slots,
             &changed,
             size,
             place,
             group,
         )?;
-        let gone = leave_out(&mut self.spare_keys, gone, came.as_slice());
-        Ok(Pending { group, came, gone })
+        let to_retract = leave_out(&mut self.spare_keys, to_retract, applied.as_slice());
+        Ok(Pending {
+            group,
+            applied,
+            to_retract,
+        })
     }
 
-    /// Looks up what the row of a place that is to be removed gives. Once the place is dead, `take` takes that; where it
+    /// Looks up the pairs of a place's row that is to be removed. Once the place is dead, `retract` retracts them; if it
     /// stays alive there is nothing to undo. Refused with `NoMemory` (1) alone. All answer as before.
     pub fn leave<R: LendCells>(
         &mut self,
@@ -284,74 +316,90 @@ impl Aggregates {
     ) -> Result<Pending, Refusal>
         requires size { 0 < size }
         requires few { place ≤ 2 ^ 24 }
-        ensures goes { IfOk result (λ pending. (places : List Place) → IsAliveAt (R.cells row.now) place places → AreKept size places self.old → GoesOn size (place / size) (places_after (edit.Remove place) places) self.new pending) }
+        ensures goes { IfOk result (λ pending. (places : List Place) → IsAliveAt (R.cells row.now) place places → AreKept size places self.old → RetractsAll size (place / size) (places_after (edit.Remove place) places) self.new pending) }
         ensures unchanged { KeepsAsBefore self.old self.new }
         ensures registered { registered_of self.new ≡ registered_of self.old }
         ensures memory { IfErr result (λ e. e ≡ Refusal.NoMemory) }
     {
         let group = (place / size as usize) as u32;
-        let Pending { mut came, gone, .. } = mem::replace(&mut self.lists, Pending::nothing(alloc));
+        let Pending {
+            mut applied,
+            to_retract,
+            ..
+        } = mem::replace(&mut self.lists, Pending::nothing(alloc));
         let slots = self.slots.as_mut_slice();
-        make_rooms(slots, group);
-        let gone = changes(&mut self.spare_keys, gone, slots, row, size, place, group)?;
-        came.clear();
-        Ok(Pending { group, came, gone })
+        reserve_all(slots, group);
+        let to_retract = row_pairs(
+            &mut self.spare_keys,
+            to_retract,
+            slots,
+            row,
+            size,
+            place,
+            group,
+        )?;
+        applied.clear();
+        Ok(Pending {
+            group,
+            applied,
+            to_retract,
+        })
     }
 
-    /// Takes back what an edit brought in that the rows refused. Takes no memory.
-    pub fn back(&mut self, pending: Pending)
-        requires { MayGoBack self.old pending }
-        ensures back { self.new ≡ gone_back self.old pending }
+    /// Undoes the deltas of an edit that the rows refused. Allocates nothing.
+    pub fn undo(&mut self, pending: Pending)
+        requires { MayUndoAll self.old pending }
+        ensures undo { self.new ≡ all_undone self.old pending }
         ensures registered { registered_of self.new ≡ registered_of self.old }
     {
-        back_all(
+        undo_all(
             self.slots.as_mut_slice(),
             pending.group,
-            pending.came.as_slice(),
+            pending.applied.as_slice(),
         );
         self.end(pending);
     }
 
-    /// Ends an edit that the rows have, where nothing is left to go out: its lists, and the strings of its text keys, are kept
-    /// for the next. Takes no memory.
+    /// Ends an edit that the rows have, if there is nothing to retract: its lists, and the strings of its text keys, are kept
+    /// for the next. Allocates nothing.
     pub fn end(&mut self, pending: Pending)
         ensures same { self.new ≡ self.old }
     {
         self.lists = pending.emptied(&mut self.spare_keys);
     }
 
-    /// Takes out what the row gave before an edit, which the rows have: the row group lends its columns as they are now. Its
-    /// rows are looked at only where the least or the greatest value of a key went. Takes no memory.
-    pub fn take<G: LendGroup>(&mut self, group: &G, pending: Pending)
-        requires may { MayGoOn (G.places group.now) self.old pending }
+    /// Retracts the pairs that the row gave before an edit, which the rows have: the row group lends its columns as they are
+    /// now. Its rows are read only if the least or the greatest value of a key is retracted. Allocates nothing.
+    pub fn retract<G: LendGroup>(&mut self, group: &G, pending: Pending)
+        requires may { MayRetractAll (G.places group.now) self.old pending }
         requires served { AreServed (G.has group.now) (registered_of self.old) }
-        ensures taken { self.new ≡ gone_on (G.places group.now) self.old pending }
+        ensures retracted { self.new ≡ all_retracted (G.places group.now) self.old pending }
         ensures registered { registered_of self.new ≡ registered_of self.old }
     {
-        take_all(
+        retract_all(
             self.slots.as_mut_slice(),
             group,
             pending.group,
-            pending.gone.as_slice(),
+            pending.to_retract.as_slice(),
         );
         self.end(pending);
     }
 
-    /// Whether `take` may have to look at the rows of the row group: what goes goes out of extrema too. Takes no memory.
+    /// Whether `retract` may have to read the rows of the row group: a pair is retracted from extrema. Allocates nothing.
     pub fn needs_rows(&self, pending: &Pending) -> bool
-        ensures { result ≡ false → EachIsPlain self.now pending.now.gone.items }
+        ensures { result ≡ false → EachIsPlain self.now pending.now.to_retract.items }
     {
-        needs_rows(self.slots.as_slice(), pending.gone.as_slice())
+        needs_rows(self.slots.as_slice(), pending.to_retract.as_slice())
     }
 
-    /// Does what `take` does, where `needs_rows` says that no rows are needed: none are lent. Takes no memory.
-    pub fn take_totals(&mut self, pending: Pending)
-        requires may { (here : List Place) × MayGoOn here self.old pending }
-        requires plain { EachIsPlain self.old pending.gone.items }
-        ensures taken { (here : List Place) → self.new ≡ gone_on here self.old pending }
+    /// Does what `retract` does, if `needs_rows` says that no rows are needed: none are lent. Allocates nothing.
+    pub fn retract_totals(&mut self, pending: Pending)
+        requires may { (here : List Place) × MayRetractAll here self.old pending }
+        requires plain { EachIsPlain self.old pending.to_retract.items }
+        ensures retracted { (here : List Place) → self.new ≡ all_retracted here self.old pending }
         ensures registered { registered_of self.new ≡ registered_of self.old }
     {
-        take_totals(self.slots.as_mut_slice(), pending.gone.as_slice());
+        retract_totals(self.slots.as_mut_slice(), pending.to_retract.as_slice());
         self.end(pending);
     }
 }

@@ -5,7 +5,7 @@ ghost use Rattle.far_types.specs.Changes.{widened, with_seen};
 ghost use Rattle.far_extrema.specs.Live.{all_groups, group_at};
 ghost use Rattle.far_aggregates.specs.Known.{IsNoted};
 
-use far_extrema::{GroupExtrema, LiveExtrema, RowsLeft, Span};
+use far_extrema::{GroupExtrema, LiveExtrema, MinMax, RowsLeft};
 use far_types::{Answer, Key, Refusal};
 use std::alloc::Global;
 use std::marker::Model;
@@ -15,7 +15,7 @@ use std::marker::Model;
 #[derive(Drop)]
 pub struct KnownExtrema {
     live: LiveExtrema,
-    plain: Vec<Option<Span>>,
+    plain: Vec<Option<MinMax>>,
 }
 
 impl Model for KnownExtrema {
@@ -33,7 +33,7 @@ impl Model for KnownExtrema {
 
 /// A place in the list for what stands under no key in a row group, where that is the row group after the last. Where memory is
 /// refused there is none, and nothing will be noted.
-fn make_place(plain: &mut Vec<Option<Span>>, group: usize)
+fn make_place(plain: &mut Vec<Option<MinMax>>, group: usize)
     ensures { plain.new.items ≡ plain.old.items }
 {
     if group == plain.len() {
@@ -43,7 +43,7 @@ fn make_place(plain: &mut Vec<Option<Span>>, group: usize)
 
 /// Notes what stands under no key in a row group, or that it is not known. Where the list has no place for it, and behind
 /// the row group after the last, nothing is noted. Takes no memory.
-fn note(plain: &mut Vec<Option<Span>>, group: usize, span: Option<Span>)
+fn note(plain: &mut Vec<Option<MinMax>>, group: usize, span: Option<MinMax>)
     ensures { IsNoted plain.old.items group span plain.new.items }
 {
     if group < plain.len() {
@@ -56,7 +56,7 @@ fn note(plain: &mut Vec<Option<Span>>, group: usize, span: Option<Span>)
 /// What is noted to stand under no key in a row group. The span is taken apart and made anew, so that its numbers are passed
 /// on in registers.
 #[inline(always)]
-fn noted_in(plain: &[Option<Span>], group: usize) -> Option<Span>
+fn noted_in(plain: &[Option<MinMax>], group: usize) -> Option<MinMax>
     ensures { IfSome result (λ span. slice_get plain.now group ≡ Some (Some span)) }
 {
     match plain.get(group) {
@@ -67,7 +67,7 @@ fn noted_in(plain: &[Option<Span>], group: usize) -> Option<Span>
 
 /// Whether a value is within a span, if there is one.
 #[inline(always)]
-fn is_within(value: i64, span: Option<Span>) -> bool
+fn is_within(value: i64, span: Option<MinMax>) -> bool
     ensures { IsTrue result → (s : ℤ × ℤ) × (span ≡ Some s) × (s.0 ≤ℤ value) × (value ≤ℤ s.1) }
 {
     match span {
@@ -76,16 +76,16 @@ fn is_within(value: i64, span: Option<Span>) -> bool
     }
 }
 
-/// One folded row more under no key, where what stands there is noted or looked up. Returns what stood there.
+/// One folded row more under no key, whose least and greatest value are noted or looked up. Returns the previous ones.
 fn see_noted(
     live: &mut LiveExtrema,
     group: u32,
     value: i64,
-    noted: Option<Span>,
-) -> Result<Option<Span>, Refusal>
+    noted: Option<MinMax>,
+) -> Result<Option<MinMax>, Refusal>
     requires room { group < length live.old.groups }
     requires noted { IfSome noted (λ span. fin.get (group_at live.old.groups group) None ≡ Some span) }
-    ensures stood { IfOk result (λ stood. stood ≡ fin.get (group_at live.old.groups group) None) }
+    ensures previous { IfOk result (λ previous. previous ≡ fin.get (group_at live.old.groups group) None) }
     ensures ok { OnOk result (live.new ≡ record live.old { groups = slice_set live.old.groups group (with_seen (group_at live.old.groups group) (None, value)) }) }
     ensures err { OnErr result (live.new ≡ live.old) }
     ensures only_new { OnErr result (fin.get (group_at live.old.groups group) None ≡ None) }
@@ -102,10 +102,10 @@ fn see_noted(
 
 /// The least and the greatest with a value more.
 #[inline(always)]
-fn wider(value: i64, stood: Option<Span>) -> Span
-    ensures { result ≡ widened value stood }
+fn wider(value: i64, previous: Option<MinMax>) -> MinMax
+    ensures { result ≡ widened value previous }
 {
-    match stood {
+    match previous {
         Some((least, greatest)) => (value.min(least), value.max(greatest)),
         None => (value, value),
     }
@@ -148,9 +148,9 @@ impl KnownExtrema {
 
     /// As `see_under`, for a row under no key: where what stands there is noted, a value within that costs no look-up, and
     /// nothing is written.
-    fn see_plain(&mut self, group: u32, value: i64) -> Result<Option<Span>, Refusal>
+    fn see_plain(&mut self, group: u32, value: i64) -> Result<Option<MinMax>, Refusal>
         requires { group < length self.old.groups }
-        ensures stood { IfOk result (λ stood. stood ≡ fin.get (group_at self.old.groups group) None) }
+        ensures previous { IfOk result (λ previous. previous ≡ fin.get (group_at self.old.groups group) None) }
         ensures ok { OnOk result (self.new ≡ record self.old { groups = slice_set self.old.groups group (with_seen (group_at self.old.groups group) (None, value)) }) }
         ensures err { OnErr result (self.new ≡ self.old) }
         ensures only_new { OnErr result (fin.get (group_at self.old.groups group) None ≡ None) }
@@ -161,9 +161,13 @@ impl KnownExtrema {
             return Ok(noted);
         }
         make_place(&mut self.plain, group as usize);
-        let stood = see_noted(&mut self.live, group, value, noted)?;
-        note(&mut self.plain, group as usize, Some(wider(value, stood)));
-        Ok(stood)
+        let previous = see_noted(&mut self.live, group, value, noted)?;
+        note(
+            &mut self.plain,
+            group as usize,
+            Some(wider(value, previous)),
+        );
+        Ok(previous)
     }
 
     /// As `LiveExtrema::see_under`.
@@ -173,9 +177,9 @@ impl KnownExtrema {
         group: u32,
         key: &Option<Key>,
         value: i64,
-    ) -> Result<Option<Span>, Refusal>
+    ) -> Result<Option<MinMax>, Refusal>
         requires { group < length self.old.groups }
-        ensures stood { IfOk result (λ stood. stood ≡ fin.get (group_at self.old.groups group) key.now) }
+        ensures previous { IfOk result (λ previous. previous ≡ fin.get (group_at self.old.groups group) key.now) }
         ensures ok { OnOk result (self.new ≡ record self.old { groups = slice_set self.old.groups group (with_seen (group_at self.old.groups group) (key.now, value)) }) }
         ensures err { OnErr result (self.new ≡ self.old) }
         ensures only_new { OnErr result (fin.get (group_at self.old.groups group) key.now ≡ None) }
@@ -188,7 +192,7 @@ impl KnownExtrema {
     }
 
     /// As `LiveExtrema::put_span`.
-    pub fn put_span(&mut self, group: u32, key: &Option<Key>, span: Option<Span>)
+    pub fn put_span(&mut self, group: u32, key: &Option<Key>, span: Option<MinMax>)
         requires room { group < length self.old.groups }
         requires there { fin.get (group_at self.old.groups group) key.now ≢ None }
         ensures { self.new ≡ record self.old { groups = slice_set self.old.groups group (put_span (group_at self.old.groups group) key.now span) } }
@@ -203,7 +207,7 @@ impl KnownExtrema {
     fn shrink_plain<R: RowsLeft>(&mut self, group: u32, value: i64, rows: &R)
         requires room { group < length self.old.groups }
         requires at_hand { R.at_hand rows.now }
-        requires stood { fin.get (group_at self.old.groups group) None ≡ Some (widened value (R.extremes rows.now)) }
+        requires previous { fin.get (group_at self.old.groups group) None ≡ Some (widened value (R.extremes rows.now)) }
         ensures { self.new ≡ record self.old { groups = slice_set self.old.groups group (put_span (group_at self.old.groups group) None (R.extremes rows.now)) } }
     {
         if let Some(span) = noted_in(self.plain.as_slice(), group as usize) {
@@ -219,7 +223,7 @@ impl KnownExtrema {
     pub fn shrink<R: RowsLeft>(&mut self, group: u32, key: &Option<Key>, value: i64, rows: &R)
         requires room { group < length self.old.groups }
         requires at_hand { R.at_hand rows.now }
-        requires stood { fin.get (group_at self.old.groups group) key.now ≡ Some (widened value (R.extremes rows.now)) }
+        requires previous { fin.get (group_at self.old.groups group) key.now ≡ Some (widened value (R.extremes rows.now)) }
         ensures { self.new ≡ record self.old { groups = slice_set self.old.groups group (put_span (group_at self.old.groups group) key.now (R.extremes rows.now)) } }
     {
         match key {

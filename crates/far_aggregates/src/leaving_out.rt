@@ -1,12 +1,12 @@
-// Pairs that need not go out of extrema.
+// Pairs that need not be retracted from extrema.
 ghost use Rattle.std.specs.Prelude.{◌≡◌, ◌<ℤ◌, Some, IsTrue, length};
 ghost use Rattle.far_types.specs.Changes.{widened};
 ghost use Rattle.far_aggregates.specs.LeavingOut.{NeedNotGo, IsLeftOut, EachLeftOut};
 
-use super::changes::Pair;
-use super::coming::Coming;
+use super::deltas::Delta;
+use super::pairs::Pair;
 use super::spare_keys::SpareKeys;
-use far_extrema::Span;
+use far_extrema::MinMax;
 use far_types::Key;
 
 /// Whether two keys are one.
@@ -23,66 +23,66 @@ fn are_same(key: &Option<Key>, other: &Option<Key>) -> bool
 }
 
 /// What stands under a key with a value more.
-fn wide(span: Span, pair: &Pair) -> Span
+fn wide(span: MinMax, pair: &Pair) -> MinMax
     ensures { result ≡ widened pair.now.1 (Some span) }
 {
     (pair.1.min(span.0), pair.1.max(span.1))
 }
 
 /// Whether the value of a pair is neither the least nor the greatest.
-fn is_inside(pair: &Pair, span: Span) -> bool
+fn is_inside(pair: &Pair, span: MinMax) -> bool
     ensures { IsTrue result → (span.0 <ℤ pair.now.1) × (pair.now.1 <ℤ span.1) }
 {
     span.0 < pair.1 && pair.1 < span.1
 }
 
-/// Whether a pair need not go: its value is strictly within what stands under its key since another value came there.
-fn need_not_go(come: &Option<Coming>, gone: &Option<Pair>) -> bool
-    ensures { IsTrue result → NeedNotGo come.now gone.now }
+/// Whether a pair need not be retracted: its value is strictly within what stands under its key since the delta was applied.
+fn need_not_go(delta: &Option<Delta>, to_retract: &Option<Pair>) -> bool
+    ensures { IsTrue result → NeedNotGo delta.now to_retract.now }
 {
-    if let Some(come) = come {
-        if let Some(span) = come.stood {
-            if let Some(pair) = gone {
-                return is_inside(pair, wide(span, &come.pair)) && are_same(&come.pair.0, &pair.0);
+    if let Some(delta) = delta {
+        if let Some(span) = delta.previous {
+            if let Some(pair) = to_retract {
+                return is_inside(pair, wide(span, &delta.pair)) && are_same(&delta.pair.0, &pair.0);
             }
         }
     }
     false
 }
 
-/// A pair that need not go is left out. Its key becomes a spare one.
-fn leave_out_one(keys: &mut SpareKeys, come: &Option<Coming>, gone: &mut Option<Pair>)
-    ensures { IsLeftOut come.now gone.old gone.new }
+/// Leaves out a pair that need not be retracted. Its key becomes a spare one.
+fn leave_out_one(keys: &mut SpareKeys, delta: &Option<Delta>, to_retract: &mut Option<Pair>)
+    ensures { IsLeftOut delta.now to_retract.old to_retract.new }
 {
-    if need_not_go(come, gone) {
-        if let Some(pair) = gone.take() {
+    if need_not_go(delta, to_retract) {
+        if let Some(pair) = to_retract.take() {
             keys.keep(pair);
         }
     }
 }
 
-/// The pairs that need not go are left out.
-fn leave_out_each(keys: &mut SpareKeys, gone: &mut [Option<Pair>], comes: &[Option<Coming>])
-    requires { length gone.old ≡ length comes.now }
-    ensures len { length gone.new ≡ length gone.old }
-    ensures left_out { EachLeftOut comes.now gone.old gone.new }
+/// Leaves out the pairs that need not be retracted.
+fn leave_out_each(keys: &mut SpareKeys, to_retract: &mut [Option<Pair>], deltas: &[Option<Delta>])
+    requires { length to_retract.old ≡ length deltas.now }
+    ensures len { length to_retract.new ≡ length to_retract.old }
+    ensures left_out { EachLeftOut deltas.now to_retract.old to_retract.new }
 {
-    for i in 0..gone.len() {
-        leave_out_one(keys, &comes[i], &mut gone[i]);
+    for i in 0..to_retract.len() {
+        leave_out_one(keys, &deltas[i], &mut to_retract[i]);
     }
 }
 
-/// The pairs that are to go without those that need not, so that nobody looks up again what stands under their keys.
+/// The pairs to retract without those that need not be, so that nobody looks up again what stands under their keys.
 pub fn leave_out(
     keys: &mut SpareKeys,
     pairs: Vec<Option<Pair>>,
-    comes: &[Option<Coming>],
+    deltas: &[Option<Delta>],
 ) -> Vec<Option<Pair>>
-    requires { length pairs.items ≡ length comes.now }
+    requires { length pairs.items ≡ length deltas.now }
     ensures len { length result.items ≡ length pairs.items }
-    ensures left_out { EachLeftOut comes.now pairs.items result.items }
+    ensures left_out { EachLeftOut deltas.now pairs.items result.items }
 {
-    let mut gone = pairs;
-    leave_out_each(keys, gone.as_mut_slice(), comes);
-    gone
+    let mut to_retract = pairs;
+    leave_out_each(keys, to_retract.as_mut_slice(), deltas);
+    to_retract
 }

@@ -5,8 +5,8 @@ ghost use Rattle.far_aggregates.specs.Lending.{IsOfPlaces};
 
 use far_offload::Column;
 
-/// What has columns of one row group at hand: aggregates are built, and extrema narrowed, from what it lends, wherever the
-/// columns lie.
+/// What has columns of one row group at hand: aggregates scan what it lends, and extrema shrink by it, wherever the columns
+/// lie.
 pub trait LendGroup {
     /// The places of the row group, in order.
     ghost places: { Self → List Place };

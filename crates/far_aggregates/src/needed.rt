@@ -34,7 +34,7 @@ fn lent<'a, G: LendGroup>(group: &'a G, number: Option<u32>, other: u32) -> Colu
 }
 
 /// The columns that an aggregate needs: that of its value, that of its key and those of its tests, of which there are at
-/// most 4. They lie in an array, so that an extreme is narrowed without memory. What is left of it has the number of the
+/// most 4. They lie in an array, so that extrema shrink without memory. What is left of it has the number of the
 /// value's column, which stands first, so that it is never found. Takes no memory.
 pub fn needed_columns<'a, G: LendGroup>(spec: &Spec, group: &'a G) -> [Column<'a>; 6]
     requires { IsServed (G.has group.now) spec.now }

@@ -1,18 +1,18 @@
 // What an edit has begun in the aggregates.
 ghost use Rattle.std.specs.Prelude.{◌≡◌, []};
 
-use super::changes::Pair;
-use super::coming::Coming;
+use super::deltas::Delta;
+use super::pairs::Pair;
 use super::spare_keys::SpareKeys;
 use std::alloc::Global;
 
-/// What an edit brought into the aggregates, and what is still to go out of them once the rows are changed. An edit that the
-/// rows refuse after all hands it to `Aggregates::back`, one that changed them to `Aggregates::take`.
+/// The deltas that an edit applied, and the pairs to retract once the rows are changed. An edit that the rows refuse after all
+/// hands it to `Aggregates::undo`, one that changed them to `Aggregates::retract`.
 #[derive(Drop)]
 pub struct Pending {
     pub(crate) group: u32,
-    pub(crate) came: Vec<Option<Coming>>,
-    pub(crate) gone: Vec<Option<Pair>>,
+    pub(crate) applied: Vec<Option<Delta>>,
+    pub(crate) to_retract: Vec<Option<Pair>>,
 }
 
 impl Pending {
@@ -25,27 +25,31 @@ impl Pending {
 
     /// Of no edit. Takes no memory.
     pub(crate) fn nothing(alloc: Global) -> Pending
-        ensures came { result.came.items ≡ [] }
+        ensures applied { result.applied.items ≡ [] }
     {
         Pending {
             group: 0,
-            came: Vec::new(alloc),
-            gone: Vec::new(alloc),
+            applied: Vec::new(alloc),
+            to_retract: Vec::new(alloc),
         }
     }
 
     /// The lists without their pairs, for the next edit. Their text keys become spare ones. Takes no memory.
     pub(crate) fn emptied(self, keys: &mut SpareKeys) -> Pending
-        ensures came { result.came.items ≡ [] }
-        ensures gone { result.gone.items ≡ [] }
+        ensures applied { result.applied.items ≡ [] }
+        ensures to_retract { result.to_retract.items ≡ [] }
     {
         let Pending {
             group,
-            mut came,
-            mut gone,
+            mut applied,
+            mut to_retract,
         } = self;
-        keys.keep_came(&mut came);
-        keys.keep_gone(&mut gone);
-        Pending { group, came, gone }
+        keys.keep_deltas(&mut applied);
+        keys.keep_pairs(&mut to_retract);
+        Pending {
+            group,
+            applied,
+            to_retract,
+        }
     }
 }

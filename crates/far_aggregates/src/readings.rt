@@ -1,14 +1,14 @@
 // What is read of the aggregates without asking them.
 ghost use Rattle.std.specs.Prelude.{◌≡◌, ◌<◌, ◌≤◌, ℕ, List, Some, None, true, false, cond, ◌&&◌, ◌==◌, is_none, length, slice_get, IfSome, IfNone};
 ghost use Rattle.far_types.specs.Table.{Place};
-ghost use Rattle.far_aggregates.specs.Kept.{KeepsSlot, registered_in};
+ghost use Rattle.far_aggregates.specs.Accumulators.{KeepsSlot, registered_in};
 ghost use Rattle.far_aggregates.specs.Readings.{plain_in};
 ghost use Rattle.far_aggregates.specs.Scans.{has_unbuilt};
 ghost use Rattle.far_aggregates.specs.Aggregates.{joined};
 
-use super::aggregate::{Aggregate, Kept};
+use super::aggregate::{Accumulator, Aggregate};
 
-/// The first row group that is still to be built in, with the lowest number of an aggregate that lacks it.
+/// The first row group that is pending, with the lowest number of an aggregate that lacks it.
 pub fn first_unbuilt(slots: &[Option<Aggregate>]) -> Option<(u32, u32)>
     requires { length slots.now ≤ 32 }
     ensures some { IfSome result (λ at. has_unbuilt at.1 (joined (slice_get slots.now at.0)) ≡ true) }
@@ -24,18 +24,18 @@ pub fn first_unbuilt(slots: &[Option<Aggregate>]) -> Option<(u32, u32)>
     None
 }
 
-/// The count and the sum of an aggregate of totals without key column, where nothing is left to be built in.
+/// The count and the sum of an aggregate of totals without key column, if no row group is pending.
 pub fn plain(aggregate: &Aggregate) -> Option<(u64, i128)>
     ensures { (size : ℕ) → (places : List Place) → KeepsSlot size places (Some aggregate.now) → result ≡ plain_in places (registered_in (Some aggregate.now)) }
 {
-    match &aggregate.kept {
-        Kept::Totals(live) => {
+    match &aggregate.accumulator {
+        Accumulator::Totals(live) => {
             if aggregate.spec.key.is_none() && live.left() == 0 {
                 Some(live.plain())
             } else {
                 None
             }
         }
-        Kept::Extrema(_) => None,
+        Accumulator::Extrema(_) => None,
     }
 }

@@ -2,7 +2,7 @@
 ghost use Rattle.std.specs.Prelude.{◌≡◌, ◌<◌, ◌≤◌, ◌^◌, ℕ, List, Some, true, false, length, slice_set, OnOk, IfOk, IfErr};
 ghost use Rattle.far_types.specs.Answers.{answer_over};
 ghost use Rattle.far_types.specs.Table.{Place, groups, is_unbuilt, rows_of};
-ghost use Rattle.far_aggregates.specs.Kept.{KeepsSlot};
+ghost use Rattle.far_aggregates.specs.Accumulators.{KeepsSlot};
 ghost use Rattle.far_aggregates.specs.Recounting.{partial_at, partials_from};
 
 use super::aggregate::Aggregate;
@@ -13,7 +13,7 @@ use far_offload::PartialDone;
 use far_types::{Answer, Refusal, Spec};
 use std::alloc::Global;
 
-/// Merges what a row group comes to into an aggregate into which it is still to be built. Refused with `NoMemory` (1) alone.
+/// Merges what a row group comes to into an aggregate in which it is pending. Refused with `NoMemory` (1) alone.
 fn merge_next(
     aggregate: &mut Aggregate,
     size: u32,
@@ -28,7 +28,7 @@ fn merge_next(
     ensures kept { OnOk result ((places : List Place) → partial ≡ partial_at aggregate.old.spec size places number → KeepsSlot size places (Some aggregate.old) → KeepsSlot size places (Some aggregate.new)) }
     ensures memory { IfErr result (λ e. e ≡ Refusal.NoMemory) }
 {
-    merge_in(&mut aggregate.kept, number, partial)?;
+    merge_in(&mut aggregate.accumulator, number, partial)?;
     aggregate.unbuilt.clear(number as usize);
     Ok(())
 }

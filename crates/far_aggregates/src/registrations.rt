@@ -2,12 +2,12 @@
 ghost use Rattle.std.specs.Prelude.{◌≡◌, ◌<◌, ◌≤◌, ◌+◌, ◌^◌, ℕ, List, Some, None, true, length, replicate, slice_get, slice_set, IfOk, IfErr, IfSome, OnOk, OnErr};
 ghost use Rattle.std.specs.Option.{option_copied};
 ghost use Rattle.far_types.specs.Table.{Place, groups, is_unbuilt};
-ghost use Rattle.far_aggregates.specs.Kept.{Keeps, KeepsSlot, KeepsNothing, fold_of, registered_in, registered_of};
+ghost use Rattle.far_aggregates.specs.Accumulators.{Keeps, KeepsSlot, KeepsNothing, fold_of, registered_in, registered_of};
 ghost use Rattle.far_aggregates.specs.Aggregates.{free_from, joined};
 
-use super::aggregate::{Aggregate, Kept};
+use super::aggregate::{Accumulator, Aggregate};
 use super::known::KnownExtrema;
-use super::unbuilt::Unbuilt;
+use super::pending_groups::PendingGroups;
 use far_groups::LiveTotals;
 use far_types::{Fold, Refusal, Spec};
 use std::alloc::Global;
@@ -50,18 +50,18 @@ pub fn group_count(size: u32, places: usize) -> usize
     (places + size as usize - 1) / size as usize
 }
 
-/// Nothing is in, and as many row groups are left.
-fn nothing_kept(alloc: Global, fold: Fold, left: u32) -> Kept
+/// The accumulator of no row, while so many row groups are pending.
+fn nothing_kept(alloc: Global, fold: Fold, left: u32) -> Accumulator
     ensures fold { fold_of result ≡ fold }
     ensures nothing { KeepsNothing left result }
 {
     match fold {
-        Fold::Totals => Kept::Totals(LiveTotals::new(alloc, left)),
-        Fold::Extrema => Kept::Extrema(KnownExtrema::new(alloc, left)),
+        Fold::Totals => Accumulator::Totals(LiveTotals::new(alloc, left)),
+        Fold::Extrema => Accumulator::Extrema(KnownExtrema::new(alloc, left)),
     }
 }
 
-/// An aggregate with nothing built in: all row groups that hold one of so many places are left.
+/// An aggregate with nothing scanned: all row groups that hold one of so many places are pending.
 pub fn new_aggregate(
     alloc: Global,
     spec: Spec,
@@ -76,11 +76,11 @@ pub fn new_aggregate(
     ensures memory { IfErr result (λ e. e ≡ Refusal.NoMemory) }
 {
     let groups = group_count(size, places);
-    let unbuilt = Unbuilt::all(alloc, groups)?;
+    let unbuilt = PendingGroups::all(alloc, groups)?;
     Ok(Aggregate {
         registration,
         unbuilt,
-        kept: nothing_kept(alloc, spec.fold, groups as u32),
+        accumulator: nothing_kept(alloc, spec.fold, groups as u32),
         spec,
     })
 }

@@ -1,4 +1,4 @@
-// A row group that is built into an aggregate.
+// A row group that is scanned into an aggregate.
 ghost use Rattle.std.specs.Prelude.{◌≡◌, ◌≢◌, ◌-◌, ◌<◌, ◌≤◌, ◌^◌, ℕ, List, true, length, slice_get, slice_set, IfOk, OnOk, OnErr, IfErr};
 ghost use Rattle.far_types.specs.declared.spec.Fold.TheVariants as folds;
 ghost use Rattle.far_types.specs.Answers.{totals};
@@ -6,13 +6,13 @@ ghost use Rattle.far_types.specs.Changes.{joined_totals};
 ghost use Rattle.far_types.specs.Table.{Place, in_group};
 ghost use Rattle.far_groups.specs.Live.{CanJoin};
 ghost use Rattle.far_offload.specs.Partials.{partial_of};
-ghost use Rattle.far_aggregates.specs.Kept.{KeepsSlot, Keeps, fold_of, pairs_here, registered_in, registered_of};
+ghost use Rattle.far_aggregates.specs.Accumulators.{KeepsSlot, Keeps, fold_of, pairs_here, registered_in, registered_of};
 ghost use Rattle.far_aggregates.specs.Lending.{IsServed, SlotIsServed};
-ghost use Rattle.far_aggregates.specs.Scans.{built_slot, has_unbuilt, IsScanned, IsSame, KeptMayScan, SlotMayBuild};
+ghost use Rattle.far_aggregates.specs.Scans.{built_slot, has_unbuilt, IsScanned, IsSame, AccumulatorMayScan, SlotMayBuild};
 ghost use Rattle.far_aggregates.specs.Aggregates.{joined};
-ghost use Rattle.far_aggregates.specs.Recounting.{KeptMayMerge, IsMerged};
+ghost use Rattle.far_aggregates.specs.Recounting.{AccumulatorMayMerge, IsMerged};
 
-use super::aggregate::{Aggregate, Kept};
+use super::aggregate::{Accumulator, Aggregate};
 use super::lend_group::LendGroup;
 use super::needed::needed_columns;
 use far_groups::LiveTotals;
@@ -36,18 +36,22 @@ pub fn fold_group<G: LendGroup>(
 }
 
 /// The rows that a partial stands for are in too. Refused with `NoMemory` (1) alone, and then what is in stays the same.
-pub fn merge_in(kept: &mut Kept, number: u32, partial: PartialDone) -> Result<(), Refusal>
-    requires { KeptMayMerge number partial kept.old }
-    ensures ok { OnOk result (IsMerged number partial kept.old kept.new) }
-    ensures err { OnErr result (IsSame kept.old kept.new) }
+pub fn merge_in(
+    accumulator: &mut Accumulator,
+    number: u32,
+    partial: PartialDone,
+) -> Result<(), Refusal>
+    requires { AccumulatorMayMerge number partial accumulator.old }
+    ensures ok { OnOk result (IsMerged number partial accumulator.old accumulator.new) }
+    ensures err { OnErr result (IsSame accumulator.old accumulator.new) }
     ensures memory { IfErr result (λ e. e ≡ Refusal.NoMemory) }
 {
-    match kept {
-        Kept::Totals(live) => match partial {
+    match accumulator {
+        Accumulator::Totals(live) => match partial {
             PartialDone::Totals(totals) => live.merge(&totals),
             PartialDone::Extrema(_) => unreachable!(),
         },
-        Kept::Extrema(live) => match partial {
+        Accumulator::Extrema(live) => match partial {
             PartialDone::Totals(_) => unreachable!(),
             PartialDone::Extrema(extrema) => {
                 live.make_room_for(number, &extrema)?;
@@ -58,7 +62,7 @@ pub fn merge_in(kept: &mut Kept, number: u32, partial: PartialDone) -> Result<()
     }
 }
 
-/// The rows of a row group come into totals in which a row group is left. Refused with `NoMemory` (1) alone, and then
+/// Adds the rows of a row group to totals in which a row group is pending. Refused with `NoMemory` (1) alone, and then
 /// these stay the same.
 pub fn scan_totals<G: LendGroup>(
     alloc: Global,
@@ -82,28 +86,28 @@ pub fn scan_totals<G: LendGroup>(
 /// The rows of a row group are in too. Refused with `NoMemory` (1) alone, and then what is in stays the same.
 fn scan<G: LendGroup>(
     alloc: Global,
-    kept: &mut Kept,
+    accumulator: &mut Accumulator,
     spec: &Spec,
     group: &G,
     number: u32,
 ) -> Result<(), Refusal>
     requires few { length (G.places group.now) ≤ 2 ^ 24 }
     requires served { IsServed (G.has group.now) spec.now }
-    requires fold { fold_of kept.old ≡ spec.now.fold }
-    requires may_scan { KeptMayScan spec.now number (G.places group.now) kept.old }
-    ensures ok { OnOk result (IsScanned spec.now number (G.places group.now) kept.old kept.new) }
-    ensures err { OnErr result (IsSame kept.old kept.new) }
+    requires fold { fold_of accumulator.old ≡ spec.now.fold }
+    requires may_scan { AccumulatorMayScan spec.now number (G.places group.now) accumulator.old }
+    ensures ok { OnOk result (IsScanned spec.now number (G.places group.now) accumulator.old accumulator.new) }
+    ensures err { OnErr result (IsSame accumulator.old accumulator.new) }
     ensures memory { IfErr result (λ e. e ≡ Refusal.NoMemory) }
 {
-    if let Kept::Totals(live) = kept {
+    if let Accumulator::Totals(live) = accumulator {
         return scan_totals(alloc, live, spec, group);
     }
     let partial = fold_group(alloc, spec, group)?;
-    merge_in(kept, number, partial)
+    merge_in(accumulator, number, partial)
 }
 
-/// Builds the rows of a row group into an aggregate into which they are still to be built. Refused with `NoMemory` (1)
-/// alone, and then it answers as before.
+/// Scans the rows of a row group into an aggregate in which it is pending. Refused with `NoMemory` (1) alone, and then it
+/// answers as before.
 fn build_in<G: LendGroup>(
     alloc: Global,
     slot: &mut Option<Aggregate>,
@@ -121,13 +125,19 @@ fn build_in<G: LendGroup>(
     ensures memory { IfErr result (λ e. e ≡ Refusal.NoMemory) }
 {
     if let Some(aggregate) = slot {
-        scan(alloc, &mut aggregate.kept, &aggregate.spec, group, number)?;
+        scan(
+            alloc,
+            &mut aggregate.accumulator,
+            &aggregate.spec,
+            group,
+            number,
+        )?;
         aggregate.unbuilt.clear(number as usize);
     }
     Ok(())
 }
 
-/// Builds the rows of a row group into the aggregate of a number. Refused with `NoMemory` (1) alone, and then it answers
+/// Scans the rows of a row group into the aggregate of a number. Refused with `NoMemory` (1) alone, and then it answers
 /// as before.
 pub fn build_at<G: LendGroup>(
     alloc: Global,

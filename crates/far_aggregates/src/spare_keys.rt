@@ -3,12 +3,12 @@ ghost use Rattle.std.specs.Prelude.{◌≡◌, ◌<◌, ◌≤◌, ◌++◌, [],
 ghost use Rattle.far_types.specs.declared.key.Key.TheVariants as keys;
 ghost use Rattle.far_aggregates.specs.SpareKeys.{text_key};
 
-use super::changes::Pair;
-use super::coming::Coming;
+use super::deltas::Delta;
+use super::pairs::Pair;
 use far_types::{CellRef, Key, Refusal};
 use std::alloc::Global;
 
-/// How many keys an edit has at most: one that comes and one that goes for each of 32 aggregates.
+/// How many keys an edit has at most: that of a delta and that of a retracted pair for each of 32 aggregates.
 const MOST: usize = 64;
 
 /// Text keys of edits that have ended. The next edit writes its texts into their strings, so a key mostly allocates only
@@ -56,22 +56,22 @@ impl SpareKeys {
         }
     }
 
-    /// Empties the list of what came in an edit that has ended, and keeps its text keys. Takes no memory.
-    pub fn keep_came(&mut self, came: &mut Vec<Option<Coming>>)
-        ensures { came.new.items ≡ [] }
+    /// Empties the list of the deltas of an edit that has ended, and keeps their text keys. Allocates nothing.
+    pub fn keep_deltas(&mut self, applied: &mut Vec<Option<Delta>>)
+        ensures { applied.new.items ≡ [] }
     {
-        while let Some(come) = came.pop() {
-            if let Some(Coming { pair, .. }) = come {
+        while let Some(delta) = applied.pop() {
+            if let Some(Delta { pair, .. }) = delta {
                 self.keep(pair);
             }
         }
     }
 
-    /// Empties the list of what went in an edit that has ended, and keeps its text keys. Takes no memory.
-    pub fn keep_gone(&mut self, gone: &mut Vec<Option<Pair>>)
-        ensures { gone.new.items ≡ [] }
+    /// Empties the list of the retracted pairs of an edit that has ended, and keeps their text keys. Allocates nothing.
+    pub fn keep_pairs(&mut self, to_retract: &mut Vec<Option<Pair>>)
+        ensures { to_retract.new.items ≡ [] }
     {
-        while let Some(pair) = gone.pop() {
+        while let Some(pair) = to_retract.pop() {
             if let Some(pair) = pair {
                 self.keep(pair);
             }

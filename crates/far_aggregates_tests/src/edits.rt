@@ -1,7 +1,7 @@
 // Tests of far_aggregates: edits that take no memory.
 ghost use Rattle.std.specs.Prelude.{◌≡◌, ◌+◌, ◌<◌, ◌^◌, [], List, length, IfOk, OnOk};
 ghost use Rattle.far_types.specs.Table.{Place};
-ghost use Rattle.far_aggregates.specs.Kept.{Keeps};
+ghost use Rattle.far_aggregates.specs.Accumulators.{Keeps};
 ghost use Rattle.far_aggregates.specs.Pending.{AreKept};
 
 use crate::cases::must_be;
@@ -53,7 +53,7 @@ fn append(
     requires kept { (places : List Place) × (length places ≡ place) × AreKept 4 places aggregates.old }
     ensures { OnOk result ((places : List Place) × (length places ≡ place + 1) × AreKept 4 places aggregates.new) }
 {
-    let pending = aggregates.come_in(alloc, sale, 4, place)?;
+    let pending = aggregates.apply_deltas(alloc, sale, 4, place)?;
     aggregates.end(pending);
     Ok(())
 }

@@ -28,7 +28,7 @@ use Rattle.far_types.proofs.ByKeyMaps as map_in
 use Rattle.far_extrema.proofs.GroupLaws.{past_room}
 use Rattle.far_extrema.specs.Spans.{put_span}
 use Rattle.far_extrema.specs.Live.{all_groups, group_at}
-use Rattle.far_extrema.specs.Holders.{Holding, Holders, holders_of, span_in, span_at, room_in, room_at, picked, group_in, groups_in, roomy_in, line_of, HaveRoom, IsTopped, IsPut, IsGroup, HaveSameSpans, HaveSameRoom}
+use Rattle.far_extrema.specs.Holders.{Holding, Holders, holders_of, span_in, span_at, room_in, room_at, picked, group_in, groups_in, reserved_in, line_of, HaveRoom, IsTopped, IsPut, IsGroup, HaveSameSpans, HaveSameRoom}
 use Rattle.far_extrema.proofs.SpreadLaws.{off, here, order}
 
 abbrev kept_keys : {V : Type 0} → (Option Key → Option V) → List (Option Key) → List (Option Key × V)
@@ -68,8 +68,8 @@ pub get-group_in : (m : Holders) (g : ℕ) (q : Option Key) → fin.get (group_i
 get-group_in m g = get-picked (span_at m g) m (λ q none. ap (λ o. span_in o g) none)
 
 -- and its room
-pub get-roomy : (m : Holders) (q : Option Key) → fin.get (roomy_in m) q ≡ room_at m q
-get-roomy m = get-picked (room_at m) m (λ q none. ap room_in none)
+pub get-reserved : (m : Holders) (q : Option Key) → fin.get (reserved_in m) q ≡ room_at m q
+get-reserved m = get-picked (room_at m) m (λ q none. ap room_in none)
 
 pub length-groups_in : (m : Holders) (n : ℕ) → length (groups_in m n) ≡ n
 length-groups_in m zero = refl
@@ -149,8 +149,8 @@ pub same-groups : (m m' : Holders) (n : ℕ) → HaveSameSpans m m' → groups_i
 same-groups m m' n alike_spans = alike m' m n (λ g l. same _ _ (λ q. get-group_in m' g q ∙ alike_spans g q ∙ sym (get-group_in m g q)))
 
 -- and the same room the same keys that have it
-pub same-roomy : (m m' : Holders) → HaveSameRoom m m' → roomy_in m' ≡ roomy_in m
-same-roomy m m' alike_room = same _ _ (λ q. get-roomy m' q ∙ alike_room q ∙ sym (get-roomy m q))
+pub same-reserved : (m m' : Holders) → HaveSameRoom m m' → reserved_in m' ≡ reserved_in m
+same-reserved m m' alike_room = same _ _ (λ q. get-reserved m' q ∙ alike_room q ∙ sym (get-reserved m q))
 
 -- what all row groups have under a key
 get-all : (m : Holders) (n : ℕ) (q : Option Key) → fin.get (all_groups (groups_in m n)) q ≡ joined_to n (λ g. span_at m g q)
@@ -328,9 +328,9 @@ put-own m g k x there h q = elim (h == g) as (λ a. (h == g) ≡ a → span_at m
 
 -- a value that is seen
 pub seen-in : (m m' : Holders) (room g : ℕ) (k : Option Key) (v : ℤ) (o : Option (ℤ × ℤ)) → HaveRoom room m → span_at m g k ≡ o → g < room → IsPut m g k (Some (widened v o)) m' → groups_in m' room ≡ slice_set (groups_in m room) g (with_seen (group_at (groups_in m room) g) (k, v))
-seen-in m m' room g k v o kept stood l put =
+seen-in m m' room g k v o kept previous l put =
     put-in m m' room g k (Some (widened v o)) l put
-    ∙ ap (λ p. slice_set (groups_in m room) g (put_span (group_at (groups_in m room) g) k (Some (widened v p)))) (sym (get-group_at m room g k kept ∙ stood))
+    ∙ ap (λ p. slice_set (groups_in m room) g (put_span (group_at (groups_in m room) g) k (Some (widened v p)))) (sym (get-group_at m room g k kept ∙ previous))
 
 -- nothing is there in an empty map
 pub room-empty : (m : Holders) (room : ℕ) → ((q : Option Key) → fin.get m q ≡ None) → HaveRoom room m

@@ -93,10 +93,10 @@ pub below-slot : (b : ℕ) (o : Option (ℤ × ℤ)) (high : ℕ) → b < high �
 below-slot b o high l q h = below-slotted b (o ∷ []) q (omega arith)
 
 -- one slot is written
-pub set-slot : (g : ℕ) (stood o : Option (ℤ × ℤ)) → IsSet (slotted g (stood ∷ [])) g o (slotted g (o ∷ []))
-set-slot g stood o q = elim (q == g) as (λ t. (q == g) ≡ t → at (slotted g (o ∷ [])) q ≡ cond t o (at (slotted g (stood ∷ [])) q)) [
+pub set-slot : (g : ℕ) (previous o : Option (ℤ × ℤ)) → IsSet (slotted g (previous ∷ [])) g o (slotted g (o ∷ []))
+set-slot g previous o q = elim (q == g) as (λ t. (q == g) ≡ t → at (slotted g (o ∷ [])) q ≡ cond t o (at (slotted g (previous ∷ [])) q)) [
   | true ↦ λ e. let same = here q g e in ap (at (slotted g (o ∷ []))) same ∙ own o
-  | false ↦ λ e. off_one o e ∙ sym (off_one stood e)
+  | false ↦ λ e. off_one o e ∙ sym (off_one previous e)
 ] refl where
   own : (p : Option (ℤ × ℤ)) → at (slotted g (p ∷ [])) g ≡ p
   own None = refl

@@ -55,9 +55,9 @@ abbrev pub groups_in : Holders → ℕ → List Extrema
 groups_in holders zero = []
 groups_in holders (suc n) = groups_in holders n ++ group_in holders n ∷ []
 
--- the keys that have room
-abbrev pub roomy_in : Holders → ByKey (Bool)
-roomy_in holders = picked (room_at holders) (fin.keys holders)
+-- the keys for which room is reserved
+abbrev pub reserved_in : Holders → ByKey (Bool)
+reserved_in holders = picked (room_at holders) (fin.keys holders)
 
 -- no key occurs in a row group from this number on
 abbrev pub HaveRoom : ℕ → Holders → Type 0

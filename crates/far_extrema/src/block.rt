@@ -4,7 +4,7 @@ ghost use Rattle.std.specs.Option.{option_copied};
 ghost use Rattle.far_types.specs.Changes.{join_spans, together};
 ghost use Rattle.far_extrema.specs.Spreads.{at, IsTopOf, IsFrom, IsBelow, IsSet};
 
-use super::spans::{Span, together};
+use super::spans::{MinMax, together};
 use std::marker::Model;
 
 /// How many row groups a block holds.
@@ -14,7 +14,7 @@ const SLOTS: u32 = 16;
 #[derive(Drop)]
 pub struct Block {
     first: u32,
-    slots: [Option<Span>; 16],
+    slots: [Option<MinMax>; 16],
 }
 
 impl Model for Block {
@@ -30,7 +30,7 @@ impl Model for Block {
 
 impl Block {
     /// The block in whose range a row group is, with this span there and none elsewhere. Takes no memory.
-    pub fn new(group: u32, span: Option<Span>) -> Block
+    pub fn new(group: u32, span: Option<MinMax>) -> Block
         ensures spans { IsSet [] group span result.spans }
         ensures first { result.first ≡ group - group % 16 }
     {
@@ -63,7 +63,7 @@ impl Block {
     }
 
     /// The span of a row group where it stands, or `None` where the key does not occur in it.
-    pub fn look_up(&self, group: u32) -> Option<&Span>
+    pub fn look_up(&self, group: u32) -> Option<&MinMax>
         ensures { option_copied result ≡ at self.now.spans group }
     {
         if self.covers(group) {
@@ -77,7 +77,7 @@ impl Block {
     }
 
     /// A span, or none, in place of that of a row group of the range. Takes no memory.
-    pub fn put(&mut self, group: u32, span: Option<Span>)
+    pub fn put(&mut self, group: u32, span: Option<MinMax>)
         requires first { self.old.first ≤ group }
         requires last { group < self.old.first + 16 }
         ensures set { IsSet self.old.spans group span self.new.spans }
@@ -87,7 +87,7 @@ impl Block {
     }
 
     /// The span of all row groups together, or `None` where there is none.
-    pub fn joined(&self) -> Option<Span>
+    pub fn joined(&self) -> Option<MinMax>
         ensures { IsTopOf self.now.spans result }
     {
         let mut top = None;
@@ -110,7 +110,7 @@ pub fn range_of(group: u32) -> (u32, u32)
 }
 
 /// The least and the greatest of two spans together, where they are there.
-pub fn either(span: Option<Span>, more: Option<Span>) -> Option<Span>
+pub fn either(span: Option<MinMax>, more: Option<MinMax>) -> Option<MinMax>
     ensures { result ≡ together join_spans span more }
 {
     match (span, more) {

@@ -4,7 +4,7 @@ ghost use Rattle.far_types.specs.Changes.{widened};
 ghost use Rattle.far_extrema.specs.Spreads.{at, IsSet, IsTopOf};
 
 use super::rows_left::RowsLeft;
-use super::spans::{Span, is_inside, is_within, together};
+use super::spans::{MinMax, is_inside, is_within, together};
 use super::tournament::{Spare, Tournament};
 use far_types::Refusal;
 use std::alloc::Global;
@@ -29,7 +29,7 @@ impl Model for Holder {
 
 impl Holder {
     /// One row group, and no room for another. Takes no memory.
-    pub fn new(group: u32, span: Span) -> Holder
+    pub fn new(group: u32, span: MinMax) -> Holder
         ensures spans { result.spans ≡ (group, span) ∷ [] }
         ensures room { result.room ≡ false }
     {
@@ -51,7 +51,7 @@ impl Holder {
     }
 
     /// The span of a row group, or `None` where the key does not occur in it.
-    pub fn span(&self, group: u32) -> Option<Span>
+    pub fn span(&self, group: u32) -> Option<MinMax>
         ensures { result ≡ at self.now.spans group }
     {
         match &self.groups {
@@ -61,7 +61,7 @@ impl Holder {
     }
 
     /// The span of all row groups together, or `None` where there is none.
-    pub fn top(&self) -> Option<Span>
+    pub fn top(&self) -> Option<MinMax>
         ensures is { result ≡ self.now.top }
         ensures top { IsTopOf self.now.spans result }
     {
@@ -79,8 +79,8 @@ impl Holder {
         self.groups.is_none() && self.spare.is_none()
     }
 
-    /// Room for a row group more. Refused with `NoMemory` (1) alone, and then nothing is changed.
-    pub fn make_room(&mut self, alloc: Global) -> Result<(), Refusal>
+    /// Reserves room for a row group more. Refused with `NoMemory` (1) alone, and then nothing is changed.
+    pub fn reserve(&mut self, alloc: Global) -> Result<(), Refusal>
         ensures spans { self.new.spans ≡ self.old.spans }
         ensures room { OnOk result (self.new.room ≡ true) }
         ensures err { OnErr result (self.new ≡ self.old) }
@@ -93,7 +93,7 @@ impl Holder {
     }
 
     /// A row group more, which leaves the room as it is. Refused with `NoMemory` (1) alone, and then nothing is changed.
-    fn add(&mut self, alloc: Global, group: u32, span: Span) -> Result<(), Refusal>
+    fn add(&mut self, alloc: Global, group: u32, span: MinMax) -> Result<(), Refusal>
         requires { at self.old.spans group ≡ None }
         ensures ok { OnOk result (IsSet self.old.spans group (Some span) self.new.spans) }
         ensures room { self.new.room ≡ self.old.room }
@@ -112,22 +112,22 @@ impl Holder {
     }
 
     /// A value more in a row group whose span is known: a value within that changes nothing. Takes no memory.
-    fn widen(&mut self, group: u32, stood: Span, value: i64)
-        requires { at self.old.spans group ≡ Some stood }
-        ensures spans { IsSet self.old.spans group (Some (widened value (Some stood))) self.new.spans }
+    fn widen(&mut self, group: u32, previous: MinMax, value: i64)
+        requires { at self.old.spans group ≡ Some previous }
+        ensures spans { IsSet self.old.spans group (Some (widened value (Some previous))) self.new.spans }
         ensures room { self.new.room ≡ self.old.room }
     {
-        if is_within(value, stood) {
+        if is_within(value, previous) {
             return;
         }
-        let wide = together((value, value), stood);
+        let wide = together((value, value), previous);
         self.put(group, wide);
     }
 
-    /// A value more in a row group, which leaves the room as it is. Returns the span that stood there, or `None` where the
+    /// A value more in a row group, which leaves the room as it is. Returns the previous span there, or `None` where the
     /// key did not occur. Refused with `NoMemory` (1) alone, where the key is new there, and then nothing is changed.
-    pub fn see(&mut self, alloc: Global, group: u32, value: i64) -> Result<Option<Span>, Refusal>
-        ensures stood { IfOk result (λ stood. stood ≡ at self.old.spans group) }
+    pub fn see(&mut self, alloc: Global, group: u32, value: i64) -> Result<Option<MinMax>, Refusal>
+        ensures previous { IfOk result (λ previous. previous ≡ at self.old.spans group) }
         ensures ok { OnOk result (IsSet self.old.spans group (Some (widened value (at self.old.spans group))) self.new.spans) }
         ensures room { self.new.room ≡ self.old.room }
         ensures err { OnErr result (self.new ≡ self.old) }
@@ -147,7 +147,7 @@ impl Holder {
     }
 
     /// A row group more, which takes the room. Takes no memory.
-    pub fn fill(&mut self, group: u32, span: Span)
+    pub fn fill(&mut self, group: u32, span: MinMax)
         requires room { self.old.room ≡ true }
         requires new { at self.old.spans group ≡ None }
         ensures { IsSet self.old.spans group (Some span) self.new.spans }
@@ -166,7 +166,7 @@ impl Holder {
     }
 
     /// A span in place of that of a row group in which the key occurs. Takes no memory.
-    pub fn put(&mut self, group: u32, span: Span)
+    pub fn put(&mut self, group: u32, span: MinMax)
         requires { at self.old.spans group ≢ None }
         ensures spans { IsSet self.old.spans group (Some span) self.new.spans }
         ensures room { self.new.room ≡ self.old.room }
@@ -203,9 +203,9 @@ impl Holder {
 
     /// A value less in a row group, of which the rows are left. They are read only if the value was the least or the
     /// greatest. Returns the span that is left, or `None` if the key occurs there no more. Allocates nothing.
-    pub fn shrink<R: RowsLeft>(&mut self, group: u32, value: i64, rows: &R) -> Option<Span>
+    pub fn shrink<R: RowsLeft>(&mut self, group: u32, value: i64, rows: &R) -> Option<MinMax>
         requires at_hand { R.at_hand rows.now }
-        requires stood { at self.old.spans group ≡ Some (widened value (R.extremes rows.now)) }
+        requires previous { at self.old.spans group ≡ Some (widened value (R.extremes rows.now)) }
         ensures left { result ≡ R.extremes rows.now }
         ensures spans { IsSet self.old.spans group (R.extremes rows.now) self.new.spans }
         ensures room { self.new.room ≡ self.old.room }

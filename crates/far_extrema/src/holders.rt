@@ -12,7 +12,7 @@ ghost use Rattle.far_extrema.specs.Holders.{holders_of, span_at, room_at, line_o
 
 use super::holder::Holder;
 use super::rows_left::RowsLeft;
-use super::spans::{Span, Spans};
+use super::spans::{MinMax, Spans};
 use super::tournament::Spare;
 use far_types::{Key, Refusal, clone_key};
 use std::alloc::Global;
@@ -22,7 +22,7 @@ use std::collections::BTreeMap;
 pub type Holders = BTreeMap<Option<Key>, Holder>;
 
 /// The span of a key in a row group. Takes no memory.
-pub fn span_in(holders: &Holders, group: u32, key: &Option<Key>) -> Option<Span>
+pub fn span_in(holders: &Holders, group: u32, key: &Option<Key>) -> Option<MinMax>
     ensures { result ≡ span_at (holders_of holders.now.entries) group key.now }
 {
     match holders.get(key) {
@@ -31,8 +31,8 @@ pub fn span_in(holders: &Holders, group: u32, key: &Option<Key>) -> Option<Span>
     }
 }
 
-/// A value more under a key in a row group. One look-up brings it in where the key is known. Returns the span that stood
-/// there, or `None`. A clone of the key is made where it is new. Refused with `NoMemory` (1) alone, where the key is new in the
+/// A value more under a key in a row group. One look-up brings it in where the key is known. Returns the previous
+/// span there, or `None`. A clone of the key is made where it is new. Refused with `NoMemory` (1) alone, where the key is new in the
 /// row group, and then nothing is changed.
 pub fn see_in(
     holders: &mut Holders,
@@ -40,8 +40,8 @@ pub fn see_in(
     group: u32,
     key: &Option<Key>,
     value: i64,
-) -> Result<Option<Span>, Refusal>
-    ensures stood { IfOk result (λ stood. stood ≡ span_at (holders_of holders.old.entries) group key.now) }
+) -> Result<Option<MinMax>, Refusal>
+    ensures previous { IfOk result (λ previous. previous ≡ span_at (holders_of holders.old.entries) group key.now) }
     ensures ok { OnOk result (IsPut (holders_of holders.old.entries) group key.now (Some (widened value (span_at (holders_of holders.old.entries) group key.now))) (holders_of holders.new.entries)) }
     ensures room { OnOk result (HaveSameRoom (holders_of holders.old.entries) (holders_of holders.new.entries)) }
     ensures err { OnErr result (holders_of holders.new.entries ≡ holders_of holders.old.entries) }
@@ -58,7 +58,7 @@ pub fn see_in(
 }
 
 /// A span in place of that of a key in a row group. Takes no memory.
-pub fn set_in(holders: &mut Holders, group: u32, key: &Option<Key>, span: Span)
+pub fn set_in(holders: &mut Holders, group: u32, key: &Option<Key>, span: MinMax)
     requires { span_at (holders_of holders.old.entries) group key.now ≢ None }
     ensures spans { IsPut (holders_of holders.old.entries) group key.now (Some span) (holders_of holders.new.entries) }
     ensures room { HaveSameRoom (holders_of holders.old.entries) (holders_of holders.new.entries) }
@@ -96,9 +96,9 @@ pub fn shrink_in<R: RowsLeft>(
     key: &Option<Key>,
     value: i64,
     rows: &R,
-) -> Option<Span>
+) -> Option<MinMax>
     requires at_hand { R.at_hand rows.now }
-    requires stood { span_at (holders_of holders.old.entries) group key.now ≡ Some (widened value (R.extremes rows.now)) }
+    requires previous { span_at (holders_of holders.old.entries) group key.now ≡ Some (widened value (R.extremes rows.now)) }
     ensures left { result ≡ R.extremes rows.now }
     ensures spans { IsPut (holders_of holders.old.entries) group key.now (R.extremes rows.now) (holders_of holders.new.entries) }
     ensures room { HaveSameRoom (holders_of holders.old.entries) (holders_of holders.new.entries) }
@@ -116,15 +116,15 @@ pub fn shrink_in<R: RowsLeft>(
     None
 }
 
-/// Room for a row group more of a key. Refused with `NoMemory` (1) alone.
-fn make_room_in(holders: &mut Holders, alloc: Global, key: &Option<Key>) -> Result<(), Refusal>
+/// Reserves room for a row group more of a key. Refused with `NoMemory` (1) alone.
+fn reserve_in(holders: &mut Holders, alloc: Global, key: &Option<Key>) -> Result<(), Refusal>
     ensures spans { HaveSameSpans (holders_of holders.old.entries) (holders_of holders.new.entries) }
     ensures kept { KeepsRoom (holders_of holders.old.entries) (holders_of holders.new.entries) }
     ensures room { OnOk result (room_at (holders_of holders.new.entries) key.now ≢ None) }
     ensures memory { IfErr result (λ e. e ≡ Refusal.NoMemory) }
 {
     match holders.get_mut(key) {
-        Some(holder) => holder.make_room(alloc),
+        Some(holder) => holder.reserve(alloc),
         None => {
             let spare = Spare::new(alloc)?;
             holders.insert(clone_key(key)?, Holder::with_room(spare))?;
@@ -133,20 +133,20 @@ fn make_room_in(holders: &mut Holders, alloc: Global, key: &Option<Key>) -> Resu
     }
 }
 
-/// Room for a row group more of each of these keys. Refused with `NoMemory` (1) alone, and then some may have it.
-pub fn make_rooms(holders: &mut Holders, alloc: Global, spans: &Spans) -> Result<(), Refusal>
+/// Reserves room for a row group more of each of these keys. Refused with `NoMemory` (1) alone, and then some may have it.
+pub fn reserve_all(holders: &mut Holders, alloc: Global, spans: &Spans) -> Result<(), Refusal>
     ensures spans { HaveSameSpans (holders_of holders.old.entries) (holders_of holders.new.entries) }
     ensures room { OnOk result (HasRoomFor (extrema_of spans.now.entries) (holders_of holders.new.entries)) }
     ensures memory { IfErr result (λ e. e ≡ Refusal.NoMemory) }
 {
     for (key, _) in spans {
-        make_room_in(holders, alloc, key)?;
+        reserve_in(holders, alloc, key)?;
     }
     Ok(())
 }
 
 /// A row group more for a key that has room. Takes no memory.
-fn fill_in(holders: &mut Holders, group: u32, key: &Option<Key>, span: Span)
+fn fill_in(holders: &mut Holders, group: u32, key: &Option<Key>, span: MinMax)
     requires room { room_at (holders_of holders.old.entries) key.now ≢ None }
     requires new { span_at (holders_of holders.old.entries) group key.now ≡ None }
     ensures spans { IsPut (holders_of holders.old.entries) group key.now (Some span) (holders_of holders.new.entries) }
@@ -186,7 +186,7 @@ pub fn clear_in(holders: &mut Holders, group: u32)
 }
 
 /// A line of an answer.
-fn line(key: Option<Key>, span: Span) -> (Option<Key>, i64, i64)
+fn line(key: Option<Key>, span: MinMax) -> (Option<Key>, i64, i64)
     ensures { result ≡ (key, span.0, span.1) }
 {
     (key, span.0, span.1)

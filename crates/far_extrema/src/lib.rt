@@ -15,4 +15,4 @@ mod tournament;
 pub use group_extrema::GroupExtrema;
 pub use live_extrema::LiveExtrema;
 pub use rows_left::RowsLeft;
-pub use spans::Span;
+pub use spans::MinMax;

@@ -5,21 +5,21 @@ ghost use Rattle.far_extrema.specs.Holders.{holders_of};
 
 use super::group_extrema::GroupExtrema;
 use super::holders::{
-    Holders, clear_in, fill_all, leave_in, lines, make_rooms, see_in, set_in, shrink_in, span_in,
+    Holders, clear_in, fill_all, leave_in, lines, reserve_all, see_in, set_in, shrink_in, span_in,
 };
 use super::rows_left::RowsLeft;
-use super::spans::{Span, is_within, together};
+use super::spans::{MinMax, is_within, together};
 use far_types::{Answer, ExtremaLines, Key, Refusal};
 use std::alloc::Global;
 use std::collections::BTreeMap;
 use std::marker::Model;
 
 /// The least and the greatest value under each key, kept up to date row group by row group, and how many row groups
-/// are still to be built in. By key there is a tournament of the row groups in which it occurs. So a span that changes
+/// are pending: not yet scanned. By key there is a tournament of the row groups in which it occurs. So a span that changes
 /// costs a look-up by key and a few steps for each doubling of the row groups, and an answer costs nothing for a row
 /// group.
 ///
-/// Contracts see how many are left, and for each row group for which room was made, in their order, the extrema of
+/// Contracts see how many are pending, and for each row group for which room was made, in their order, the extrema of
 /// its rows.
 #[derive(Drop)]
 pub struct LiveExtrema {
@@ -31,13 +31,13 @@ pub struct LiveExtrema {
 
 impl Model for LiveExtrema {
     ghost use Rattle.far_extrema.specs.Live.{Live, coded_live};
-    ghost use Rattle.far_extrema.specs.Holders.{holders_of, groups_in, roomy_in, HaveRoom};
+    ghost use Rattle.far_extrema.specs.Holders.{holders_of, groups_in, reserved_in, HaveRoom};
 
     ghost Value = { Live };
 
     ghost coded = { coded_live };
 
-    ghost view = { λ live. record { left = live.left; groups = groups_in (holders_of live.holders.entries) live.room; roomy = roomy_in (holders_of live.holders.entries) } };
+    ghost view = { λ live. record { left = live.left; groups = groups_in (holders_of live.holders.entries) live.room; reserved = reserved_in (holders_of live.holders.entries) } };
 
     ghost invariant = { λ live. HaveRoom live.room (holders_of live.holders.entries) };
 }
@@ -49,7 +49,7 @@ impl LiveExtrema {
     ghost use Rattle.far_extrema.specs.Live.{with_room, group_at, HasRoomFor};
     ghost use Rattle.far_extrema.specs.Spans.{put_span};
 
-    /// No row group has room, and as many are still to be built in. Takes no memory.
+    /// No row group has room, and so many are pending. Takes no memory.
     pub fn new(alloc: Global, left: u32) -> LiveExtrema
         ensures left { result.left ≡ left }
         ensures empty { result.groups ≡ [] }
@@ -62,7 +62,7 @@ impl LiveExtrema {
         }
     }
 
-    /// How many row groups are still to be built in.
+    /// How many row groups are pending.
     pub fn left(&self) -> u32
         ensures { result ≡ self.now.left }
     {
@@ -86,22 +86,22 @@ impl LiveExtrema {
         ensures err { OnErr result (self.new.groups ≡ self.old.groups) }
         ensures memory { IfErr result (λ e. e ≡ Refusal.NoMemory) }
     {
-        make_rooms(&mut self.holders, self.alloc, extrema.spans())?;
+        reserve_all(&mut self.holders, self.alloc, extrema.spans())?;
         self.make_room(group);
         Ok(())
     }
 
-    /// One folded row more in a row group. Returns what stood under its key there, or `None` where it did not occur: `put_span`
-    /// of that takes the row back. Costs one look-up, where the key occurs in some row group. A clone of the key is made where
+    /// One folded row more in a row group. Returns the previous span of its key there, or `None` if it did not occur:
+    /// `put_span` of that undoes the row. Costs one look-up, where the key occurs in some row group. A clone of the key is made where
     /// it is new. Refused with `NoMemory` (1) alone, where the key is new in the row group, and then nothing is changed.
     pub fn see_under(
         &mut self,
         group: u32,
         key: &Option<Key>,
         value: i64,
-    ) -> Result<Option<Span>, Refusal>
+    ) -> Result<Option<MinMax>, Refusal>
         requires { group < length self.old.groups }
-        ensures stood { IfOk result (λ stood. stood ≡ fin.get (group_at self.old.groups group) key.now) }
+        ensures previous { IfOk result (λ previous. previous ≡ fin.get (group_at self.old.groups group) key.now) }
         ensures ok { OnOk result (self.new ≡ record self.old { groups = slice_set self.old.groups group (with_seen (group_at self.old.groups group) (key.now, value)) }) }
         ensures err { OnErr result (self.new ≡ self.old) }
         ensures only_new { OnErr result (fin.get (group_at self.old.groups group) key.now ≡ None) }
@@ -112,29 +112,29 @@ impl LiveExtrema {
 
     /// What `see_under` does, for a caller that knows what stands under the key in the row group: a value within that costs
     /// no look-up. Takes no memory.
-    pub fn see_over(&mut self, group: u32, key: &Option<Key>, value: i64, stood: Span)
+    pub fn see_over(&mut self, group: u32, key: &Option<Key>, value: i64, previous: MinMax)
         requires room { group < length self.old.groups }
-        requires stood { fin.get (group_at self.old.groups group) key.now ≡ Some stood }
+        requires previous { fin.get (group_at self.old.groups group) key.now ≡ Some previous }
         ensures { self.new ≡ record self.old { groups = slice_set self.old.groups group (with_seen (group_at self.old.groups group) (key.now, value)) } }
     {
-        if is_within(value, stood) {
+        if is_within(value, previous) {
             return;
         }
-        let wide = together((value, value), stood);
+        let wide = together((value, value), previous);
         set_in(&mut self.holders, group, key, wide);
     }
 
     /// The least and the greatest value under a key in a row group, or `None` where it does not occur there, as in a
     /// row group without room. Takes no memory.
-    pub fn span(&self, group: u32, key: &Option<Key>) -> Option<Span>
+    pub fn span(&self, group: u32, key: &Option<Key>) -> Option<MinMax>
         ensures { result ≡ fin.get (group_at self.now.groups group) key.now }
     {
         span_in(&self.holders, group, key)
     }
 
-    /// Puts a span in place of the one under a key that occurs in a row group; none makes the key go. With the span that
-    /// stood there, this takes back what `see_under` did. Takes no memory.
-    pub fn put_span(&mut self, group: u32, key: &Option<Key>, span: Option<Span>)
+    /// Puts a span in place of the one under a key that occurs in a row group; none makes the key go. With the
+    /// previous span there, this undoes `see_under`. Takes no memory.
+    pub fn put_span(&mut self, group: u32, key: &Option<Key>, span: Option<MinMax>)
         requires room { group < length self.old.groups }
         requires there { fin.get (group_at self.old.groups group) key.now ≢ None }
         ensures { self.new ≡ record self.old { groups = slice_set self.old.groups group (put_span (group_at self.old.groups group) key.now span) } }
@@ -154,10 +154,10 @@ impl LiveExtrema {
         key: &Option<Key>,
         value: i64,
         rows: &R,
-    ) -> Option<Span>
+    ) -> Option<MinMax>
         requires room { group < length self.old.groups }
         requires at_hand { R.at_hand rows.now }
-        requires stood { fin.get (group_at self.old.groups group) key.now ≡ Some (widened value (R.extremes rows.now)) }
+        requires previous { fin.get (group_at self.old.groups group) key.now ≡ Some (widened value (R.extremes rows.now)) }
         ensures left { result ≡ R.extremes rows.now }
         ensures shrunk { self.new ≡ record self.old { groups = slice_set self.old.groups group (put_span (group_at self.old.groups group) key.now (R.extremes rows.now)) } }
     {
@@ -176,7 +176,7 @@ impl LiveExtrema {
         fill_all(&mut self.holders, group, extrema.spans());
     }
 
-    /// These are the rows of a row group in which no key occurs yet, and one row group less is left. Costs a look-up for
+    /// These are the rows of a row group in which no key occurs yet, and one row group less is pending. Costs a look-up for
     /// each key that is given. Takes no memory.
     pub fn merge(&mut self, group: u32, extrema: GroupExtrema)
         requires room { group < length self.old.groups }
@@ -191,7 +191,7 @@ impl LiveExtrema {
     }
 
     /// The keys that occur in any row group, ascending, each with its least and its greatest value. Costs nothing for a
-    /// row group. Refused with `Building` (15) and how many row groups are left exactly where that is
+    /// row group. Refused with `Building` (15) and how many row groups are pending exactly if that is
     /// not 0, else with `NoMemory` (1) alone.
     pub fn answer(&self, alloc: Global) -> Result<Answer, Refusal>
         ensures ok { IfOk result (λ answer. answer ≡ Answer.Extrema (extrema_lines (all_groups self.now.groups))) }

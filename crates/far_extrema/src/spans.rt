@@ -12,34 +12,34 @@ use std::alloc::Global;
 use std::collections::BTreeMap;
 
 /// The least and the greatest of the values that stand under a key.
-pub type Span = (i64, i64);
+pub type MinMax = (i64, i64);
 
 /// What stands by key.
-pub type Spans = BTreeMap<Option<Key>, Span>;
+pub type Spans = BTreeMap<Option<Key>, MinMax>;
 
 /// The least and the greatest of two spans together.
-pub fn together(span: Span, more: Span) -> Span
+pub fn together(span: MinMax, more: MinMax) -> MinMax
     ensures { result ≡ join_spans span more }
 {
     (span.0.min(more.0), span.1.max(more.1))
 }
 
 /// Whether a value is within a span, so that it changes nothing there.
-pub fn is_within(value: i64, span: Span) -> bool
+pub fn is_within(value: i64, span: MinMax) -> bool
     ensures { IsTrue result → (span.0 ≤ℤ value) × (value ≤ℤ span.1) }
 {
     span.0 <= value && value <= span.1
 }
 
 /// Whether a value is strictly within a span, so that the span stays without it.
-pub fn is_inside(value: i64, span: Span) -> bool
+pub fn is_inside(value: i64, span: MinMax) -> bool
     ensures { IsTrue result → (span.0 <ℤ value) × (value <ℤ span.1) }
 {
     span.0 < value && value < span.1
 }
 
 /// A span more under a key that is there. Says whether it is. Takes no memory.
-fn widen(spans: &mut Spans, key: &Option<Key>, more: Span) -> bool
+fn widen(spans: &mut Spans, key: &Option<Key>, more: MinMax) -> bool
     ensures there { result ≡ is_some (fin.get (extrema_of spans.old.entries) key.now) }
     ensures widened { IsTrue result → extrema_of spans.new.entries ≡ with_span (extrema_of spans.old.entries) key.now more }
     ensures absent { result ≡ false → spans.new.entries ≡ spans.old.entries }
@@ -54,7 +54,7 @@ fn widen(spans: &mut Spans, key: &Option<Key>, more: Span) -> bool
 }
 
 /// A span more under a key, which is dropped where it is there already.
-pub fn see(spans: &mut Spans, key: Option<Key>, more: Span) -> Result<(), Refusal>
+pub fn see(spans: &mut Spans, key: Option<Key>, more: MinMax) -> Result<(), Refusal>
     ensures ok { OnOk result (extrema_of spans.new.entries ≡ with_span (extrema_of spans.old.entries) key more) }
     ensures err { OnErr result (spans.new.entries ≡ spans.old.entries) }
     ensures only_new { OnErr result (fin.get (extrema_of spans.old.entries) key ≡ None) }
@@ -67,7 +67,7 @@ pub fn see(spans: &mut Spans, key: Option<Key>, more: Span) -> Result<(), Refusa
 }
 
 /// A span more under a key, of which a clone is made where it is new.
-pub fn see_under(spans: &mut Spans, key: &Option<Key>, more: Span) -> Result<(), Refusal>
+pub fn see_under(spans: &mut Spans, key: &Option<Key>, more: MinMax) -> Result<(), Refusal>
     ensures ok { OnOk result (extrema_of spans.new.entries ≡ with_span (extrema_of spans.old.entries) key.now more) }
     ensures err { OnErr result (spans.new.entries ≡ spans.old.entries) }
     ensures only_new { OnErr result (fin.get (extrema_of spans.old.entries) key.now ≡ None) }
@@ -80,14 +80,14 @@ pub fn see_under(spans: &mut Spans, key: &Option<Key>, more: Span) -> Result<(),
 }
 
 /// What stands under a key. Takes no memory.
-pub fn span_under(spans: &Spans, key: &Option<Key>) -> Option<Span>
+pub fn span_under(spans: &Spans, key: &Option<Key>) -> Option<MinMax>
     ensures { result ≡ fin.get (extrema_of spans.now.entries) key.now }
 {
     spans.get(key).copied()
 }
 
 /// A span in place of the one under a key that is there; none makes the key go. Takes no memory.
-pub fn put(spans: &mut Spans, key: &Option<Key>, span: Option<Span>)
+pub fn put(spans: &mut Spans, key: &Option<Key>, span: Option<MinMax>)
     requires { fin.get (extrema_of spans.old.entries) key.now ≢ None }
     ensures { extrema_of spans.new.entries ≡ put_span (extrema_of spans.old.entries) key.now span }
 {
@@ -96,7 +96,7 @@ pub fn put(spans: &mut Spans, key: &Option<Key>, span: Option<Span>)
             spans.remove(key);
         }
         Some(span) => match spans.get_mut(key) {
-            Some(stood) => *stood = span,
+            Some(previous) => *previous = span,
             None => unreachable!(),
         },
     }

@@ -5,7 +5,7 @@ ghost use Rattle.far_extrema.specs.Blocks.{slotted};
 ghost use Rattle.far_extrema.specs.Spreads.{at, IsTopOf, IsFrom, IsBelow, IsSet, AreSame};
 
 use super::block::{Block, either, range_of};
-use super::spans::Span;
+use super::spans::MinMax;
 use far_types::Refusal;
 use std::alloc::Global;
 use std::marker::Model;
@@ -25,9 +25,9 @@ pub struct Tournament {
 #[cycle(tournament)]
 #[derive(Drop)]
 enum Node {
-    One(u32, Option<Span>),
-    Few(Option<Span>, Box<Block>),
-    Several(Option<Span>, Box<Branch>),
+    One(u32, Option<MinMax>),
+    Few(Option<MinMax>, Box<Block>),
+    Several(Option<MinMax>, Box<Branch>),
 }
 
 /// The row groups from `first` to `last`: those before `split`, and those from it on.
@@ -98,7 +98,7 @@ impl Model for Tournament {
 
 impl Tournament {
     /// One row group alone. Takes no memory.
-    pub fn new(group: u32, span: Span) -> Tournament
+    pub fn new(group: u32, span: MinMax) -> Tournament
         ensures { result.spans ≡ (group, span) ∷ [] }
     {
         Tournament {
@@ -107,7 +107,7 @@ impl Tournament {
     }
 
     /// The span of all row groups together, or `None` where there is none.
-    pub fn top(&self) -> Option<Span>
+    pub fn top(&self) -> Option<MinMax>
         ensures is { result ≡ self.now.top }
         ensures top { IsTopOf self.now.spans result }
     {
@@ -119,14 +119,14 @@ impl Tournament {
     }
 
     /// The span of a row group, or `None` where the key does not occur in it.
-    pub fn span(&self, group: u32) -> Option<Span>
+    pub fn span(&self, group: u32) -> Option<MinMax>
         ensures { result ≡ at self.now.spans group }
     {
         self.find(group).copied()
     }
 
     /// The span of a row group where it stands. It comes back in registers, so that the way down is a loop.
-    fn find(&self, group: u32) -> Option<&Span>
+    fn find(&self, group: u32) -> Option<&MinMax>
         ensures { option_copied result ≡ at self.now.spans group }
     {
         match &self.node {
@@ -154,17 +154,17 @@ impl Tournament {
 
     /// A span, or none, in place of that of a row group, where there is a slot for it. Says whether there is. Takes no
     /// memory.
-    pub fn set(&mut self, group: u32, span: Option<Span>) -> bool
+    pub fn set(&mut self, group: u32, span: Option<MinMax>) -> bool
         ensures set { IsTrue result → IsSet self.old.spans group span self.new.spans }
         ensures same { result ≡ false → self.new ≡ self.old }
         ensures absent { result ≡ false → at self.old.spans group ≡ None }
     {
         match &mut self.node {
-            Node::One(holder, stood) => {
+            Node::One(holder, previous) => {
                 if *holder != group {
                     return false;
                 }
-                *stood = span;
+                *previous = span;
             }
             Node::Few(top, block) => {
                 let block = &mut **block;
@@ -218,7 +218,7 @@ impl Tournament {
     }
 
     /// A row group more in which the key occurs, which gets a block or a branch that was made for it. Takes no memory.
-    pub fn add(&mut self, spare: Spare, group: u32, span: Span)
+    pub fn add(&mut self, spare: Spare, group: u32, span: MinMax)
         requires { at self.old.spans group ≡ None }
         ensures { IsSet self.old.spans group (Some span) self.new.spans }
     {
@@ -232,8 +232,8 @@ impl Tournament {
             return;
         }
         match &mut self.node {
-            Node::One(holder, stood) => {
-                *self = widened(spare, *holder, *stood, group, span);
+            Node::One(holder, previous) => {
+                *self = widened(spare, *holder, *previous, group, span);
             }
             Node::Few(top, block) => {
                 let block = &mut **block;
@@ -274,7 +274,7 @@ impl Tournament {
     }
 
     /// A row group more, before all that may be here.
-    fn add_before(&mut self, spare: Spare, group: u32, span: Span, first: u32, last: u32)
+    fn add_before(&mut self, spare: Spare, group: u32, span: MinMax, first: u32, last: u32)
         requires from { IsFrom first self.old.spans }
         requires below { IsBelow (last + 1) self.old.spans }
         requires order { first ≤ last }
@@ -295,7 +295,7 @@ impl Tournament {
     }
 
     /// A row group more, after all that may be here.
-    fn add_after(&mut self, spare: Spare, group: u32, span: Span, first: u32, last: u32)
+    fn add_after(&mut self, spare: Spare, group: u32, span: MinMax, first: u32, last: u32)
         requires from { IsFrom first self.old.spans }
         requires below { IsBelow (last + 1) self.old.spans }
         requires order { first ≤ last }
@@ -317,12 +317,18 @@ impl Tournament {
 }
 
 /// A row group alone, and one more in the range of its block. Takes no memory.
-fn widened(spare: Spare, holder: u32, stood: Option<Span>, group: u32, span: Span) -> Tournament
+fn widened(
+    spare: Spare,
+    holder: u32,
+    previous: Option<MinMax>,
+    group: u32,
+    span: MinMax,
+) -> Tournament
     requires first { holder - holder % 16 ≤ group }
     requires last { group < holder - holder % 16 + 16 }
-    ensures { IsSet (slotted holder (stood ∷ [])) group (Some span) result.spans }
+    ensures { IsSet (slotted holder (previous ∷ [])) group (Some span) result.spans }
 {
-    let mut few = Block::new(holder, stood);
+    let mut few = Block::new(holder, previous);
     few.put(group, Some(span));
     let top = few.joined();
     let mut block = spare.block;

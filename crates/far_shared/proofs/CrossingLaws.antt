@@ -24,9 +24,9 @@ use Rattle.far_extrema.specs.contracts.holder.Holder as holder
 use Rattle.far_extrema.specs.contracts.live_extrema.LiveExtrema as extrema
 use Rattle.far_aggregates.proofs.pending.Pending.TheSendSync as pending
 use Rattle.far_aggregates.proofs.spare_keys.SpareKeys.TheSendSync as spare_keys
-use Rattle.far_aggregates.proofs.unbuilt.Unbuilt.TheSendSync as unbuilt
+use Rattle.far_aggregates.proofs.pending_groups.PendingGroups.TheSendSync as pending_groups
 use Rattle.far_aggregates.specs.contracts.known.KnownExtrema as known
-use Rattle.far_aggregates.specs.contracts.aggregate.Kept as kept
+use Rattle.far_aggregates.specs.contracts.aggregate.Accumulator as accumulator
 use Rattle.far_aggregates.specs.contracts.aggregate.Aggregate as aggregate
 use Rattle.far_aggregates.specs.contracts.aggregates.Aggregates as aggregates
 use Rattle.far_table.proofs.table_rows.TableRows.TheSendSync as rows
@@ -82,17 +82,17 @@ known_sync : IsSync known.the_row
 known_sync = view_sync known.TheInside.the_row _ _ _ _ (struct_syncs known.TheInside.the_type (extrema_sync, (search (heap.crosses, sendable) depth 20 fits 3000, tt)))
 
 -- ---- aggregates
-kept_send : IsSend kept.the_field.row
-kept_send = search (known_send, totals.the_send, sendable) depth 30 fits 3000
+accumulator_send : IsSend accumulator.the_field.row
+accumulator_send = search (known_send, totals.the_send, sendable) depth 30 fits 3000
 
-kept_sync : IsSync kept.the_field.row
-kept_sync = search (known_sync, totals.the_sync, sendable) depth 30 fits 3000
+accumulator_sync : IsSync accumulator.the_field.row
+accumulator_sync = search (known_sync, totals.the_sync, sendable) depth 30 fits 3000
 
 aggregate_send : IsSend aggregate.the_row
-aggregate_send = struct_sends aggregate.the_type (spec.the_field_send, (search sendable, (unbuilt.the_send, (kept_send, tt))))
+aggregate_send = struct_sends aggregate.the_type (spec.the_field_send, (search sendable, (pending_groups.the_send, (accumulator_send, tt))))
 
 aggregate_sync : IsSync aggregate.the_row
-aggregate_sync = struct_syncs aggregate.the_type (spec.the_field_sync, (search sendable, (unbuilt.the_sync, (kept_sync, tt))))
+aggregate_sync = struct_syncs aggregate.the_type (spec.the_field_sync, (search sendable, (pending_groups.the_sync, (accumulator_sync, tt))))
 
 aggregates_send : IsSend aggregates.the_row
 aggregates_send = view_send aggregates.TheInside.the_row _ _ _ _ (struct_sends aggregates.TheInside.the_type (heap.Vec-send _ (option.the_send _ aggregate_send), (pending.the_field_send, (spare_keys.the_field_send, tt))))

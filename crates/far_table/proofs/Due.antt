@@ -45,9 +45,9 @@ none-there : (test : ℕ → Bool) (found : Option ℕ) → ((o : ℕ) → test 
 none-there test None each = refl
 none-there test (Some o) each = each o
 
-module _ {K : Type 0} (content : K → List ℕ) (schema : List Kind) (limits : Limits) (held : Rows K) (coming : Values) (edits : ℕ) (kept : AreKept content schema limits held coming edits) where
+module _ {K : Type 0} (content : K → List ℕ) (schema : List Kind) (limits : Limits) (held : Rows K) (new_row : Values) (edits : ℕ) (kept : AreKept content schema limits held new_row edits) where
   abbrev t : TableRows K
-  t = rows_in content schema limits held coming edits
+  t = rows_in content schema limits held new_row edits
 
   -- whether the edits are used up
   abbrev used : Bool
@@ -65,9 +65,9 @@ module _ {K : Type 0} (content : K → List ℕ) (schema : List Kind) (limits : 
   next-group : length held.alive / held.size ≡ length t.places / limits.group
   next-group = λ i. sym (length-places (cells_of content held) held.alive) i / kept.laid.group i
 
-  taken-due : first_of (edit_faults schema limits t.places (edit.Insert (row_of held.slots coming))) ≡ None → option_or (insert_refusal content limits held coming) last ≡ edit_due (asked t) (edit.Insert (row_of held.slots coming))
+  taken-due : first_of (edit_faults schema limits t.places (edit.Insert (row_of held.slots new_row))) ≡ None → option_or (insert_refusal content limits held new_row) last ≡ edit_due (asked t) (edit.Insert (row_of held.slots new_row))
   taken-due free =
-      let e : Edit = edit.Insert (row_of held.slots coming) in
+      let e : Edit = edit.Insert (row_of held.slots new_row) in
       let g = length held.alive / held.size in
       let away = absents held g in
       let over = overfills (map kind_of held.slots) limits e t.places in
@@ -86,8 +86,8 @@ module _ {K : Type 0} (content : K → List ℕ) (schema : List Kind) (limits : 
       ∙ sym (passed (edit_faults schema limits t.places e) (absents held (group_of (asked t) e) ++ (overfills schema limits e t.places, refusal.ChunkFull) ∷ end) free)
 
   -- an insert of the row that was taken, which has no fault of its own
-  pub insert-due : (row : List Cell) → row_of held.slots coming ≡ row → first_of (edit_faults schema limits t.places (edit.Insert row)) ≡ None → option_or (insert_refusal content limits held coming) last ≡ edit_due (asked t) (edit.Insert row)
-  insert-due row is = subst (λ r. first_of (edit_faults schema limits t.places (edit.Insert r)) ≡ None → option_or (insert_refusal content limits held coming) last ≡ edit_due (asked t) (edit.Insert r)) is taken-due
+  pub insert-due : (row : List Cell) → row_of held.slots new_row ≡ row → first_of (edit_faults schema limits t.places (edit.Insert row)) ≡ None → option_or (insert_refusal content limits held new_row) last ≡ edit_due (asked t) (edit.Insert row)
+  insert-due row is = subst (λ r. first_of (edit_faults schema limits t.places (edit.Insert r)) ≡ None → option_or (insert_refusal content limits held new_row) last ≡ edit_due (asked t) (edit.Insert r)) is taken-due
 
   -- a removal of a place that is alive
   pub remove-due : (p : ℕ) → first_of (edit_faults schema limits t.places (edit.Remove p)) ≡ None → option_or (first_of (absents held (p / limits.group))) last ≡ edit_due (asked t) (edit.Remove p)

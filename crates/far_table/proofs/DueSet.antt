@@ -59,9 +59,9 @@ module _ {K : Type 0} (content : K → List ℕ) (held : Rows K) (are : AreRows 
         let object = found-at v.objects (p / v.size) (div_below p v.size (length v.objects) has.some (omega (arith, below, even.1, has.held))) in
         (object.0, ap (option_and_then (λ (w : Texts). slice_get w.objects (p / held.size))) found.1 ∙ (λ k. slice_get v.objects (p / sym even.0 k)) ∙ object.1)
 
-module _ {K : Type 0} (content : K → List ℕ) (schema : List Kind) (limits : Limits) (held : Rows K) (coming : Values) (edits : ℕ) (kept : AreKept content schema limits held coming edits) where
+module _ {K : Type 0} (content : K → List ℕ) (schema : List Kind) (limits : Limits) (held : Rows K) (new_row : Values) (edits : ℕ) (kept : AreKept content schema limits held new_row edits) where
   abbrev t : TableRows K
-  t = rows_in content schema limits held coming edits
+  t = rows_in content schema limits held new_row edits
 
   abbrev used : Bool
   used = edits == limits.edits

@@ -8,7 +8,7 @@ use Rattle.far_types.specs.Table.{Place}
 use Rattle.far_rows.specs.declared.slot.Slot.{Slot}
 use Rattle.far_rows.specs.declared.slot.Slot.TheVariants as slot
 use Rattle.far_rows.specs.Slots.{Values, cell_in, row_of}
-use Rattle.far_aggregates.specs.Kept.{PlacesFit}
+use Rattle.far_aggregates.specs.Accumulators.{PlacesFit}
 
 pub fit-appended : (row : List Cell) (places : List Place) → PlacesFit places → RowFits row → PlacesFit (places ++ record { cells = row; alive = true } ∷ [])
 fit-appended row [] fit fits = (fits, tt)

@@ -23,10 +23,10 @@ use Rattle.far_rows.specs.Effects.{IsPushed}
 use Rattle.far_rows.specs.Places.{places_in}
 use Rattle.far_rows.specs.Refusing.{absents}
 use Rattle.far_rows.specs.Setting.{cell_of, kind_in}
-use Rattle.far_aggregates.specs.Changes.{alive_with}
+use Rattle.far_aggregates.specs.Pairs.{alive_with}
 use Rattle.far_aggregates.specs.declared.pending.Pending.{Pending}
-use Rattle.far_aggregates.specs.Kept.{Slot, Keeps, PlacesFit, registered_of}
-use Rattle.far_aggregates.specs.Pending.{AreKept, GoesOn}
+use Rattle.far_aggregates.specs.Accumulators.{Slot, Keeps, PlacesFit, registered_of}
+use Rattle.far_aggregates.specs.Pending.{AreKept, RetractsAll}
 use Rattle.far_aggregates.proofs.GroupLaws.{length-changed}
 use Rattle.far_table.specs.State.{State, AreChecked}
 use Rattle.far_table.specs.TableRows.{TableRows, asked}
@@ -54,10 +54,10 @@ module _ {K : Type 0} where
   same-live t r was now same live kept = record { registrations_few = live.registrations_few; kept = kept; checked = subst (AreChecked t.schema) (sym same) live.checked }
 
   -- another row is taken
-  pub taken-state : (old new : TableRows K) (r : ℕ) (slots : List Slot) → new ≡ record old { coming = new.coming } → state_of new r slots ≡ state_of old r slots
+  pub taken-state : (old new : TableRows K) (r : ℕ) (slots : List Slot) → new ≡ record old { new_row = new.new_row } → state_of new r slots ≡ state_of old r slots
   taken-state old new r slots stays = ap (λ (t : TableRows K). state_of t r slots) stays
 
-  pub taken-live : (old new : TableRows K) (r : ℕ) (slots : List Slot) → new ≡ record old { coming = new.coming } → IsLive old r slots → IsLive new r slots
+  pub taken-live : (old new : TableRows K) (r : ℕ) (slots : List Slot) → new ≡ record old { new_row = new.new_row } → IsLive old r slots → IsLive new r slots
   taken-live old new r slots stays live = subst (λ (t : TableRows K). IsLive t r slots) (sym stays) record { registrations_few = live.registrations_few; kept = live.kept; checked = live.checked }
 
   -- a call is refused with what is due, and the state that is seen stays
@@ -82,14 +82,14 @@ module _ {K : Type 0} where
   pub made-live : (old new : TableRows K) (e : Edit) (r : ℕ) (was now : List Slot) → IsMade old new e → registered_of now ≡ registered_of was → IsLive old r was → Keeps new.limits.group new.places now → IsLive new r now
   made-live old new e r was now made same live kept = record { registrations_few = live.registrations_few; kept = kept; checked = made-checked old new e r was now made same live }
 
-  -- what is to go out goes out of what is kept of the new places
-  pub goes-after : (old new : TableRows K) (e : Edit) (p : ℕ) (limits : Limits) (now : List Slot) (pending : Pending) → limits ≡ old.limits → IsMade old new e → GoesOn limits.group (p / limits.group) (places_after e old.places) now pending → GoesOn new.limits.group (p / new.limits.group) new.places now pending
+  -- the pairs to retract are retracted from what is kept of the new places
+  pub goes-after : (old new : TableRows K) (e : Edit) (p : ℕ) (limits : Limits) (now : List Slot) (pending : Pending) → limits ≡ old.limits → IsMade old new e → RetractsAll limits.group (p / limits.group) (places_after e old.places) now pending → RetractsAll new.limits.group (p / new.limits.group) new.places now pending
   goes-after old new e p limits now pending same made goes =
       let bounds : limits ≡ new.limits = same ∙ sym made.limits in
-      subst (λ (l : Limits). GoesOn l.group (p / l.group) new.places now pending) bounds (subst (λ (ps : List Place). GoesOn limits.group (p / limits.group) ps now pending) (sym made.places) goes)
+      subst (λ (l : Limits). RetractsAll l.group (p / l.group) new.places now pending) bounds (subst (λ (ps : List Place). RetractsAll limits.group (p / limits.group) ps now pending) (sym made.places) goes)
 
 -- the row that was taken is appended
-module _ {K : Type 0} (content : K → List ℕ) (old mid new : TableRows K) (row : List Cell) (stays : mid ≡ record old { coming = mid.coming }) (taken : row_of mid.held.slots mid.coming ≡ row) (appended : IsAppended content mid new) where
+module _ {K : Type 0} (content : K → List ℕ) (old mid new : TableRows K) (row : List Cell) (stays : mid ≡ record old { new_row = mid.new_row }) (taken : row_of mid.held.slots mid.new_row ≡ row) (appended : IsAppended content mid new) where
   made : IsMade mid new (edit.Insert row)
   made = subst (λ (cells : List Cell). IsMade mid new (edit.Insert cells)) taken appended.made
 
@@ -97,7 +97,7 @@ module _ {K : Type 0} (content : K → List ℕ) (old mid new : TableRows K) (ro
   inserted r was now free same = record {
     due = sym free;
     table = made-table mid new (edit.Insert row) r was now made same ∙ ap (λ (s : State K). edited (edit.Insert row) s.table) (taken-state old mid r was stays);
-    rows = subst (λ (t : TableRows K). (values : Values) × (row_of t.held.slots values ≡ row) × IsPushed content t.held values new.held) stays (mid.coming, taken, appended.held);
+    rows = subst (λ (t : TableRows K). (values : Values) × (row_of t.held.slots values ≡ row) × IsPushed content t.held values new.held) stays (mid.new_row, taken, appended.held);
   }
 
   pub inserted-live : (r : ℕ) (was now : List Slot) → registered_of now ≡ registered_of was → IsLive old r was → Keeps mid.limits.group (places_after (edit.Insert row) mid.places) now → IsLive new r now

@@ -4,7 +4,7 @@ use Rattle.std.specs.Prelude.{OnOk, OnErr}
 use Rattle.std.proofs.lemmas.Result.{on_ok_weaker}
 use Rattle.far_types.specs.declared.refusal.Refusal.{Refusal}
 use Rattle.far_scopes.proofs.Outcomes.{by-outcome}
-use Rattle.far_aggregates.specs.Kept.{Slot}
+use Rattle.far_aggregates.specs.Accumulators.{Slot}
 use Rattle.far_rows.specs.Rows.{Rows}
 use Rattle.far_table.specs.State.{State}
 use Rattle.far_table.specs.TableRows.{TableRows}

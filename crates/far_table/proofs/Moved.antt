@@ -27,7 +27,7 @@ use Rattle.far_rows.specs.Rows.{Rows, cells_of}
 use Rattle.far_rows.specs.Places.{places_in, places_of}
 use Rattle.far_rows.specs.Moving.{object_at, pinned, unpinned, touched}
 use Rattle.far_rows.specs.Jobs.{IsEvacAccepted, IsFetchAccepted, IsAfterInstall, HasNoRoom, after_commit, pins_by}
-use Rattle.far_aggregates.specs.Kept.{PlacesFit}
+use Rattle.far_aggregates.specs.Accumulators.{PlacesFit}
 use Rattle.far_table.specs.TableRows.{TableRows, AreWritten, AreKept, rows_in}
 use Rattle.far_table.specs.Moving.{AreMoved, IsPinned, IsUnpinned, IsTouched, IsCommitted, IsInstalled, IsCompactedOf}
 
@@ -152,7 +152,7 @@ module _ {K A : Type 0} (number_of : K → ℕ) (old now : Rows K) where
   installed-both (Ok done) content fetched accepted back full = record { accepted = accepted; room = λ none. not-refused done refusal.RegionFull (full.1 (accepted, none)); back = back }
   installed-both (Err given) content fetched accepted back full = accepted
 
-module _ {K : Type 0} (content : K → List ℕ) (schema : List Kind) (limits : Limits) (old : Rows K) (coming : Values) (edits : ℕ) where
+module _ {K : Type 0} (content : K → List ℕ) (schema : List Kind) (limits : Limits) (old : Rows K) (new_row : Values) (edits : ℕ) where
   written-still : {X L : Type 0} (m : Movement X K) (now : Movement X L) → AreAsWritten m now → AreWritten limits edits m → AreWritten limits edits now
   written-still m now kept are = record { changes = kept.changes ∙ are.changes; versions = λ o. (let before = are.versions o in let same = kept.versions o in omega (arith, before, same)) }
 
@@ -160,7 +160,7 @@ module _ {K : Type 0} (content : K → List ℕ) (schema : List Kind) (limits : 
     pub still-places : places_in new_content now ≡ places_in content old
     still-places = λ i. places_of (cells i) (still.alive i)
 
-    pub still-kept : AreKept content schema limits old coming edits → AreKept new_content schema limits now coming edits
+    pub still-kept : AreKept content schema limits old new_row edits → AreKept new_content schema limits now new_row edits
     still-kept kept = record {
       bounds = kept.bounds;
       kinds = ap (map kind_of) still.slots ∙ kept.kinds;
@@ -172,17 +172,17 @@ module _ {K : Type 0} (content : K → List ℕ) (schema : List Kind) (limits : 
       numbers = kept.numbers ∙ sym (ap length still.numbers);
       texts = kept.texts ∙ sym (ap length still.texts);
       fit = subst PlacesFit (sym still-places) kept.fit;
-      coming_fit = subst (λ (slots : List Slot). RowFits (row_of slots coming)) (sym still.slots) kept.coming_fit;
+      new_row_fit = subst (λ (slots : List Slot). RowFits (row_of slots new_row)) (sym still.slots) kept.new_row_fit;
     }
 
   -- a call moved objects, or was refused
-  module _ {A : Type 0} (t : TableRows K) (is : rows_in content schema limits old coming edits ≡ t) (r : Result A Refusal) (now : Rows K) (moves : Rows K → Rows K → Type 0) (ok : OnOk r (moves old now)) (err : OnErr r (now ≡ old)) (cells : cells_of content now ≡ cells_of content old) (still : moves old now → AreStill old now) where
-    pub moved-kept : AreKept content schema limits old coming edits → AreKept content schema limits now coming edits
+  module _ {A : Type 0} (t : TableRows K) (is : rows_in content schema limits old new_row edits ≡ t) (r : Result A Refusal) (now : Rows K) (moves : Rows K → Rows K → Type 0) (ok : OnOk r (moves old now)) (err : OnErr r (now ≡ old)) (cells : cells_of content now ≡ cells_of content old) (still : moves old now → AreStill old now) where
+    pub moved-kept : AreKept content schema limits old new_row edits → AreKept content schema limits now new_row edits
     moved-kept kept = still-kept content now cells (by-outcome r ok err still (λ (same : now ≡ old). subst (AreStill old) (sym same) (nothing-still old))) kept
 
-    pub moved-rows : OnOk r (AreMoved moves t (rows_in content schema limits now coming edits))
+    pub moved-rows : OnOk r (AreMoved moves t (rows_in content schema limits now new_row edits))
     moved-rows = on_ok_weaker r (λ (done : moves old now). (
         let places = still-places content now cells (still done) in
-        subst (λ (was : TableRows K). AreMoved moves was (rows_in content schema limits now coming edits)) is
-        record { stays = λ i. record { schema = schema; limits = limits; places = places i; edits = edits; coming = coming; held = now }; held = done }
+        subst (λ (was : TableRows K). AreMoved moves was (rows_in content schema limits now new_row edits)) is
+        record { stays = λ i. record { schema = schema; limits = limits; places = places i; edits = edits; new_row = new_row; held = now }; held = done }
         )) ok

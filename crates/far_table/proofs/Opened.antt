@@ -36,5 +36,5 @@ opened-kept {K = K} content schema limits number bounds n m values blank ints st
   numbers = ap (λ (v : Values). length v.numbers) blank ∙ length-replicate n None ∙ ints;
   texts = ap (λ (v : Values). length v.texts) blank ∙ length-replicate m None ∙ strings;
   fit = tt;
-  coming_fit = blank-fits n m values blank (slots_from 0 0 schema);
+  new_row_fit = blank-fits n m values blank (slots_from 0 0 schema);
 }

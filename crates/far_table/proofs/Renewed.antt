@@ -36,15 +36,15 @@ module _ {K L : Type 0} where
         text_objects = renewed-unwritten r.text_objects tickets.texts renews.texts;
       }
 
-      module _ (schema : List Kind) (limits : Limits) (coming : Values) (edits : ℕ) (now : Rows L) (is : now ≡ renewed_rows r tickets) (cells : cells_of new_content now ≡ cells_of content r) where
+      module _ (schema : List Kind) (limits : Limits) (new_row : Values) (edits : ℕ) (now : Rows L) (is : now ≡ renewed_rows r tickets) (cells : cells_of new_content now ≡ cells_of content r) where
         still : AreStill r now
         still = subst (AreStill r) (sym is) renewed-still
 
-        pub renewed-kept : AreKept content schema limits r coming edits → AreKept new_content schema limits now coming edits
-        renewed-kept kept = still-kept content schema limits r coming edits new_content now cells still kept
+        pub renewed-kept : AreKept content schema limits r new_row edits → AreKept new_content schema limits now new_row edits
+        renewed-kept kept = still-kept content schema limits r new_row edits new_content now cells still kept
 
-        pub renewed-rows : (t : TableRows K) → rows_in content schema limits r coming edits ≡ t → rows_in new_content schema limits now coming edits ≡ renewed_table_rows t tickets
+        pub renewed-rows : (t : TableRows K) → rows_in content schema limits r new_row edits ≡ t → rows_in new_content schema limits now new_row edits ≡ renewed_table_rows t tickets
         renewed-rows t view = (
-            let places = still-places content schema limits r coming edits new_content now cells still in
-            (λ i. record { schema = schema; limits = limits; places = places i; edits = edits; coming = coming; held = is i })
+            let places = still-places content schema limits r new_row edits new_content now cells still in
+            (λ i. record { schema = schema; limits = limits; places = places i; edits = edits; new_row = new_row; held = is i })
             ∙ ap (λ (u : TableRows K). renewed_table_rows u tickets) view)

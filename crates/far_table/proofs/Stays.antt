@@ -28,7 +28,7 @@ use Rattle.far_rows.specs.Rows.{Rows, TextsMoved}
 use Rattle.far_rows.specs.Effects.{IsPushed, KeepsObjects}
 use Rattle.far_rows.specs.Places.{places_in}
 use Rattle.far_rows.specs.Setting.{cell_of, set_in}
-use Rattle.far_aggregates.specs.Kept.{PlacesFit}
+use Rattle.far_aggregates.specs.Accumulators.{PlacesFit}
 use Rattle.far_table.specs.TableRows.{AreWritten, AreKept}
 use Rattle.far_table.proofs.Fits.{fit-appended, fit-set, fit-removed}
 
@@ -70,11 +70,11 @@ texts-limit : (limit n : ℕ) (columns : List Texts) → All (λ c. c.limit ≡ 
 texts-limit limit n [] of = All-nil (λ c. c.limit ≡ limit)
 texts-limit limit n (c ∷ columns) of = All-cons (λ c. c.limit ≡ limit) _ _ (All-head (λ c. c.limit ≡ limit) c columns of) (texts-limit limit (n + 1) columns (All-tail (λ c. c.limit ≡ limit) c columns of))
 
-module _ {K : Type 0} (content : K → List ℕ) (is_of : K → List ℕ → Type 0) (schema : List Kind) (limits : Limits) (old : Rows K) (coming : Values) (edits : ℕ) (kept : AreKept content schema limits old coming edits) where
+module _ {K : Type 0} (content : K → List ℕ) (is_of : K → List ℕ → Type 0) (schema : List Kind) (limits : Limits) (old : Rows K) (new_row : Values) (edits : ℕ) (kept : AreKept content schema limits old new_row edits) where
   more-written : {X : Type 0} (m now : Movement X K) → AreWritten limits edits m → now.changes ≡ m.changes → ((o : ℕ) → version_of now o ≤ version_of m o + 1) → AreWritten limits (edits + 1) now
   more-written m now are same once = record { changes = same ∙ are.changes; versions = λ o. (let before = are.versions o in let after = once o in omega (arith, before, after)) }
 
-  pub pushed-kept : edits ≢ limits.edits → (now : Rows K) → IsPushed content old coming now → KeepsObjects is_of old now → length old.alive ≢ limits.places → places_in content now ≡ places_in content old ++ record { cells = row_of old.slots coming; alive = true } ∷ [] → AreKept content schema limits now coming (edits + 1)
+  pub pushed-kept : edits ≢ limits.edits → (now : Rows K) → IsPushed content old new_row now → KeepsObjects is_of old now → length old.alive ≢ limits.places → places_in content now ≡ places_in content old ++ record { cells = row_of old.slots new_row; alive = true } ∷ [] → AreKept content schema limits now new_row (edits + 1)
   pushed-kept left now pushed keeps few places = record {
     bounds = kept.bounds;
     kinds = ap (map kind_of) pushed.slots ∙ kept.kinds;
@@ -84,12 +84,12 @@ module _ {K : Type 0} (content : K → List ℕ) (is_of : K → List ℕ → Typ
     };
     few = omega (arith, ap length pushed.alive, length-append old.alive (true ∷ []), kept.few, few);
     edits_few = omega (arith, kept.edits_few, left);
-    numbers_written = more-written old.number_objects now.number_objects kept.numbers_written (ap (λ (m : Movement (Option ℤ) K). m.changes) pushed.number_objects ∙ numbers-changes old.number_objects old.numbers coming.numbers) keeps.number_versions;
-    texts_written = more-written old.text_objects now.text_objects kept.texts_written (texts-changes content old coming.texts now.text_objects pushed.text_objects) keeps.text_versions;
+    numbers_written = more-written old.number_objects now.number_objects kept.numbers_written (ap (λ (m : Movement (Option ℤ) K). m.changes) pushed.number_objects ∙ numbers-changes old.number_objects old.numbers new_row.numbers) keeps.number_versions;
+    texts_written = more-written old.text_objects now.text_objects kept.texts_written (texts-changes content old new_row.texts now.text_objects pushed.text_objects) keeps.text_versions;
     numbers = kept.numbers ∙ sym (ap length pushed.numbers ∙ length-numbers (length old.number_objects.entries) old.numbers);
     texts = kept.texts ∙ sym (ap length pushed.texts ∙ length-texts (length old.text_objects.entries) old.texts);
-    fit = subst PlacesFit (sym places) (fit-appended (row_of old.slots coming) (places_in content old) kept.fit kept.coming_fit);
-    coming_fit = subst (λ (slots : List Slot). RowFits (row_of slots coming)) (sym pushed.slots) kept.coming_fit;
+    fit = subst PlacesFit (sym places) (fit-appended (row_of old.slots new_row) (places_in content old) kept.fit kept.new_row_fit);
+    new_row_fit = subst (λ (slots : List Slot). RowFits (row_of slots new_row)) (sym pushed.slots) kept.new_row_fit;
   }
 
   -- all but objects stays, and they may be written as often as before
@@ -116,7 +116,7 @@ module _ {K : Type 0} (content : K → List ℕ) (is_of : K → List ℕ → Typ
   alike (slot.Number i) place (new.Text text) = record { slots = refl; size = refl; numbers = refl; texts = refl; alive = refl; number_changes = refl; text_changes = refl }
   alike (slot.Text i) place (new.Number number) = record { slots = refl; size = refl; numbers = refl; texts = refl; alive = refl; number_changes = refl; text_changes = refl }
 
-  pub set-kept : edits ≢ limits.edits → (now : Rows K) (s : Slot) (column place : ℕ) (value : NewCell) → now ≡ set_in content old s place value → KeepsObjects is_of old now → CellFits (cell_of value) → places_in content now ≡ changed_at (with_cell column (cell_of value)) place (places_in content old) → AreKept content schema limits now coming (edits + 1)
+  pub set-kept : edits ≢ limits.edits → (now : Rows K) (s : Slot) (column place : ℕ) (value : NewCell) → now ≡ set_in content old s place value → KeepsObjects is_of old now → CellFits (cell_of value) → places_in content now ≡ changed_at (with_cell column (cell_of value)) place (places_in content old) → AreKept content schema limits now new_row (edits + 1)
   set-kept left now s column place value moved keeps fits places =
       let same = subst IsAlike (sym moved) (alike s place value) in
       record {
@@ -130,10 +130,10 @@ module _ {K : Type 0} (content : K → List ℕ) (is_of : K → List ℕ → Typ
         numbers = kept.numbers ∙ sym (ap length same.numbers);
         texts = kept.texts ∙ sym (ap length same.texts);
         fit = subst PlacesFit (sym places) (fit-set column (cell_of value) place (places_in content old) kept.fit fits);
-        coming_fit = subst (λ (slots : List Slot). RowFits (row_of slots coming)) (sym same.slots) kept.coming_fit;
+        new_row_fit = subst (λ (slots : List Slot). RowFits (row_of slots new_row)) (sym same.slots) kept.new_row_fit;
       }
 
-  pub cleared-kept : edits ≢ limits.edits → (place : ℕ) → places_in content (record old { alive = set old.alive place false }) ≡ changed_at removed place (places_in content old) → AreKept content schema limits (record old { alive = set old.alive place false }) coming (edits + 1)
+  pub cleared-kept : edits ≢ limits.edits → (place : ℕ) → places_in content (record old { alive = set old.alive place false }) ≡ changed_at removed place (places_in content old) → AreKept content schema limits (record old { alive = set old.alive place false }) new_row (edits + 1)
   cleared-kept left place places = record {
     bounds = kept.bounds;
     kinds = kept.kinds;
@@ -145,11 +145,11 @@ module _ {K : Type 0} (content : K → List ℕ) (is_of : K → List ℕ → Typ
     numbers = kept.numbers;
     texts = kept.texts;
     fit = subst PlacesFit (sym places) (fit-removed place (places_in content old) kept.fit);
-    coming_fit = kept.coming_fit;
+    new_row_fit = kept.new_row_fit;
   }
 
   -- another row of such a width is taken
-  pub taken-kept : (next : Values) → length next.numbers ≡ length coming.numbers → length next.texts ≡ length coming.texts → RowFits (row_of old.slots next) → AreKept content schema limits old next edits
+  pub taken-kept : (next : Values) → length next.numbers ≡ length new_row.numbers → length next.texts ≡ length new_row.texts → RowFits (row_of old.slots next) → AreKept content schema limits old next edits
   taken-kept next numbers texts fits = record {
     bounds = kept.bounds;
     kinds = kept.kinds;
@@ -161,5 +161,5 @@ module _ {K : Type 0} (content : K → List ℕ) (is_of : K → List ℕ → Typ
     numbers = numbers ∙ kept.numbers;
     texts = texts ∙ kept.texts;
     fit = kept.fit;
-    coming_fit = fits;
+    new_row_fit = fits;
   }

@@ -15,7 +15,7 @@ use Rattle.far_groups.specs.Live.{Live, CanJoin}
 use Rattle.far_groups.proofs.PairLaws.{can_join}
 use Rattle.far_offload.specs.declared.partial.PartialDone.{PartialDone}
 use Rattle.far_offload.specs.Partials.{partial_of}
-use Rattle.far_aggregates.specs.Kept.{pairs_here, group_pairs}
+use Rattle.far_aggregates.specs.Accumulators.{pairs_here, group_pairs}
 use Rattle.far_aggregates.specs.Recounting.{partials_from}
 use Rattle.far_aggregates.proofs.PairLaws.{pairs-few}
 use Rattle.far_table.specs.declared.piece.Piece.{Piece}

@@ -50,13 +50,13 @@ module _ {K : Type 0} (old new : TableRows K) where
     pub limits : new.limits ≡ old.limits
     pub places : new.places ≡ places_after e old.places
     pub edits : new.edits ≡ old.edits + 1
-    pub coming : new.coming ≡ old.coming
+    pub new_row : new.new_row ≡ old.new_row
 
 module _ {K : Type 0} (content : K → List ℕ) where
   -- the row that was taken may be appended: nothing refuses it, and its objects say the same
   pub record MayPush (t : TableRows K) : Type 0 where
-    pub due : edit_due (asked t) (edit.Insert (row_of t.held.slots t.coming)) ≡ None
-    pub objects : push_refusal content t.held t.coming ≡ None
+    pub due : edit_due (asked t) (edit.Insert (row_of t.held.slots t.new_row)) ≡ None
+    pub objects : push_refusal content t.held t.new_row ≡ None
 
   -- a value may be put in a column of a place
   pub record MayPut (t : TableRows K) (column place : ℕ) (value : NewCell) : Type 0 where
@@ -67,8 +67,8 @@ module _ {K : Type 0} (content : K → List ℕ) where
   module _ (old new : TableRows K) where
     -- the row that was taken is appended
     pub record IsAppended : Type 0 where
-      pub made : IsMade old new (edit.Insert (row_of old.held.slots old.coming))
-      pub held : IsPushed content old.held old.coming new.held
+      pub made : IsMade old new (edit.Insert (row_of old.held.slots old.new_row))
+      pub held : IsPushed content old.held old.new_row new.held
 
     -- a value is put in a column of a place; the same objects are away
     pub record IsPut (column place : ℕ) (value : NewCell) : Type 0 where

@@ -5,7 +5,7 @@ use Rattle.far_types.specs.declared.edit.Edit.TheVariants as edit
 use Rattle.far_types.specs.declared.refusal.Refusal.{Refusal}
 use Rattle.far_types.specs.Edits.{edited}
 use Rattle.far_types.specs.MayRefuse.{MayRefuse}
-use Rattle.far_aggregates.specs.Kept.{Slot, Keeps, registered_of}
+use Rattle.far_aggregates.specs.Accumulators.{Slot, Keeps, registered_of}
 use Rattle.far_rows.specs.declared.new_cell.NewCell.{NewCell}
 use Rattle.far_rows.specs.Slots.{Values, kind_of, row_of}
 use Rattle.far_rows.specs.Rows.{Rows}

@@ -7,26 +7,26 @@ use Rattle.far_types.specs.Cells.{RowFits}
 use Rattle.far_types.specs.Table.{Place}
 use Rattle.far_table.specs.State.{State}
 use Rattle.far_scopes.specs.Movement.{Movement, version_of}
-use Rattle.far_aggregates.specs.Kept.{PlacesFit}
+use Rattle.far_aggregates.specs.Accumulators.{PlacesFit}
 use Rattle.far_rows.specs.Slots.{Values, kind_of, row_of}
 use Rattle.far_rows.specs.Rows.{Rows}
 use Rattle.far_rows.specs.Places.{AreOf, places_in}
 use Rattle.far_rows.specs.Opening.{empty_rows}
 
--- the columns' kinds, the limits, the places, how many edits were accepted, the row that was taken last and may be appended,
+-- the columns' kinds, the limits, the places, how many edits were accepted, the new row: the one taken last, which may be appended,
 -- and the rows over objects that hold the places
 pub record TableRows (K : Type 0) : Type 0 where
   pub schema : List Kind
   pub limits : Limits
   pub places : List Place
   pub edits : ℕ
-  pub coming : Values
+  pub new_row : Values
   pub held : Rows K
 
 module _ {K : Type 0} where
   -- the places are those that the rows hold, local or away
   abbrev pub rows_in : (K → List ℕ) → List Kind → Limits → Rows K → Values → ℕ → TableRows K
-  rows_in content schema limits held coming edits = record { schema = schema; limits = limits; places = places_in content held; edits = edits; coming = coming; held = held }
+  rows_in content schema limits held new_row edits = record { schema = schema; limits = limits; places = places_in content held; edits = edits; new_row = new_row; held = held }
 
   -- a table of which only what an edit's refusal looks at is told
   abbrev pub asked : TableRows K → State K
@@ -38,7 +38,7 @@ module _ {K : Type 0} where
     pub versions : (o : ℕ) → version_of m o ≤ edits
 
   -- what always holds of the parts of such rows
-  pub record AreKept (content : K → List ℕ) (schema : List Kind) (limits : Limits) (held : Rows K) (coming : Values) (edits : ℕ) : Type 0 where
+  pub record AreKept (content : K → List ℕ) (schema : List Kind) (limits : Limits) (held : Rows K) (new_row : Values) (edits : ℕ) : Type 0 where
     pub bounds : AreLimits limits
     pub kinds : map kind_of held.slots ≡ schema
     pub laid : AreOf limits held
@@ -46,10 +46,10 @@ module _ {K : Type 0} where
     pub edits_few : edits ≤ limits.edits
     pub numbers_written : AreWritten limits edits held.number_objects
     pub texts_written : AreWritten limits edits held.text_objects
-    pub numbers : length coming.numbers ≡ length held.numbers
-    pub texts : length coming.texts ≡ length held.texts
+    pub numbers : length new_row.numbers ≡ length held.numbers
+    pub texts : length new_row.texts ≡ length held.texts
     pub fit : PlacesFit (places_in content held)
-    pub coming_fit : RowFits (row_of held.slots coming)
+    pub new_row_fit : RowFits (row_of held.slots new_row)
 
   -- rows of a table as it is opened
   pub record AreOpened (kinds : List Kind) (bounds : Limits) (number : ℕ) (t : TableRows K) : Type 0 where

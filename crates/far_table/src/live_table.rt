@@ -5,8 +5,8 @@ ghost use Rattle.far_types.specs.Bounds.{AreLimits};
 ghost use Rattle.far_types.specs.FirstOf.{first_of};
 ghost use Rattle.far_rows.specs.Jobs.{AreAt};
 ghost use Rattle.far_rows.specs.Refusing.{absents};
-ghost use Rattle.far_aggregates.specs.Kept.{Keeps, registered_of};
-ghost use Rattle.far_aggregates.specs.Pending.{GoesOn};
+ghost use Rattle.far_aggregates.specs.Accumulators.{Keeps, registered_of};
+ghost use Rattle.far_aggregates.specs.Pending.{RetractsAll};
 ghost use Rattle.far_table.specs.State.{AreChecked, empty_state};
 ghost use Rattle.far_table.specs.Edits.{edit_due};
 ghost use Rattle.far_table.specs.Live.{IsEdited, Refuses};
@@ -99,10 +99,10 @@ impl<S: FarTickets> LiveTable<S> {
         }
         let pending = self
             .aggregates
-            .come_in(self.alloc, &self.rows.coming_ref(), group, place)?;
+            .apply_deltas(self.alloc, &self.rows.new_row_ref(), group, place)?;
         if let Err(refusal) = self.rows.push(self.alloc) {
             // the rows are as they were, and so is again what is kept
-            self.aggregates.back(pending);
+            self.aggregates.undo(pending);
             return Err(refusal);
         }
         self.aggregates.end(pending);
@@ -134,12 +134,12 @@ impl<S: FarTickets> LiveTable<S> {
         )?;
         if let Err(refusal) = self.rows.set(self.alloc, column, place, &value) {
             // the rows are as they were, and so is again what is kept
-            self.aggregates.back(pending);
+            self.aggregates.undo(pending);
             return Err(refusal);
         }
         // It tells that the numbers of the places are those of 64 bits.
         let _after = self.rows.len();
-        take_out(&self.rows, &mut self.aggregates, place, pending);
+        retract_row(&self.rows, &mut self.aggregates, place, pending);
         Ok(())
     }
 
@@ -158,13 +158,13 @@ impl<S: FarTickets> LiveTable<S> {
             .aggregates
             .leave(self.alloc, &row, size, place as usize)?;
         self.rows.remove(place);
-        take_out(&self.rows, &mut self.aggregates, place, pending);
+        retract_row(&self.rows, &mut self.aggregates, place, pending);
         Ok(())
     }
 }
 
-// Takes out what the row of a place gave before an edit, which the rows have.
-fn take_out<S: FarTickets>(
+// Retracts the pairs that the row of a place gave before an edit, which the rows have.
+fn retract_row<S: FarTickets>(
     rows: &TableRows<S>,
     aggregates: &mut Aggregates,
     place: u32,
@@ -173,17 +173,17 @@ fn take_out<S: FarTickets>(
     requires inside { place < length rows.now.places }
     requires here { first_of (absents rows.now.held (place / rows.now.limits.group)) ≡ None }
     requires checked { AreChecked rows.now.schema (registered_of aggregates.old) }
-    requires goes { GoesOn rows.now.limits.group (place / rows.now.limits.group) rows.now.places aggregates.old pending }
+    requires goes { RetractsAll rows.now.limits.group (place / rows.now.limits.group) rows.now.places aggregates.old pending }
     ensures kept { Keeps rows.now.limits.group rows.now.places aggregates.new }
     ensures registered { registered_of aggregates.new ≡ registered_of aggregates.old }
 {
     // A row group is lent only where rows may have to be looked at.
     if !aggregates.needs_rows(&pending) {
-        aggregates.take_totals(pending);
+        aggregates.retract_totals(pending);
         return;
     }
     // It tells what the rows are.
     let _held = rows.held();
     an_aggregate_is_served_by_the_columns_of_its_schema();
-    aggregates.take(&rows.group(pending.row_group()), pending);
+    aggregates.retract(&rows.group(pending.row_group()), pending);
 }

@@ -9,7 +9,7 @@ ghost use Rattle.far_rows.specs.Refusing.{absents};
 ghost use Rattle.far_rows.specs.Rows.{AreRows};
 ghost use Rattle.far_rows.specs.Opening.{numbers_from, texts_from};
 ghost use Rattle.far_rows.specs.Places.{places_in};
-ghost use Rattle.far_aggregates.specs.Kept.{PlacesFit};
+ghost use Rattle.far_aggregates.specs.Accumulators.{PlacesFit};
 ghost use Rattle.far_table.specs.TableRows.{AreOpened};
 
 mod asking;
@@ -26,14 +26,14 @@ use std::marker::Model;
 
 /// The rows of a table under its limits, over objects that are local or away, and how many edits were accepted.
 ///
-/// An insert takes its row first, into values that are made once, when the table is opened; `coming_ref` lends it until it
+/// An insert takes its row first, into values that are made once, when the table is opened; `new_row_ref` lends it until it
 /// is appended. Contracts see the places as the plain table has them (`specs/TableRows.antt`), and the rows that hold them.
 #[derive(Drop)]
 pub struct TableRows<S: FarTickets> {
     schema: Schema,
     limits: Limits,
     rows: Rows<S>,
-    coming: NewRow,
+    new_row: NewRow,
     edits: u64,
 }
 
@@ -42,9 +42,9 @@ impl<S: FarTickets> Model for TableRows<S> {
 
     ghost Value = { TableRows S.Ticket };
 
-    ghost view = { λ t. rows_in S.content t.schema t.limits t.rows t.coming t.edits };
+    ghost view = { λ t. rows_in S.content t.schema t.limits t.rows t.new_row t.edits };
 
-    ghost invariant = { λ t. AreKept S.content t.schema t.limits t.rows t.coming t.edits };
+    ghost invariant = { λ t. AreKept S.content t.schema t.limits t.rows t.new_row t.edits };
 }
 
 impl<S: FarTickets> TableRows<S> {
@@ -65,7 +65,7 @@ impl<S: FarTickets> TableRows<S> {
         let rows = Rows::new(alloc, &schema, &limits, number)?;
         let widths = widths_of(&schema);
         Ok(TableRows {
-            coming: NewRow::new(alloc, widths.numbers, widths.texts)?,
+            new_row: NewRow::new(alloc, widths.numbers, widths.texts)?,
             schema,
             limits,
             rows,
@@ -163,14 +163,14 @@ impl<S: FarTickets> TableRows<S> {
         &self.rows
     }
 
-    /// The row that was taken last, each cell lent in place once it is asked for. Takes no memory.
+    /// The new row, each cell lent in place once it is asked for. Takes no memory.
     #[inline(always)]
-    pub(crate) fn coming_ref(&self) -> NewRowRef<'_>
-        ensures { result ≡ row_of self.now.held.slots self.now.coming }
+    pub(crate) fn new_row_ref(&self) -> NewRowRef<'_>
+        ensures { result ≡ row_of self.now.held.slots self.now.new_row }
     {
         // It tells that each slot is that of a column.
         let _len = self.rows.len();
-        self.coming.row_ref(self.rows.slots())
+        self.new_row.row_ref(self.rows.slots())
     }
 }
 

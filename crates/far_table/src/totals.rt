@@ -9,7 +9,7 @@ ghost use Rattle.far_groups.specs.Live.{CanJoin};
 ghost use Rattle.far_offload.specs.Partials.{partial_of};
 ghost use Rattle.far_rows.specs.Jobs.{AreAt};
 ghost use Rattle.far_rows.specs.Places.{places_in};
-ghost use Rattle.far_aggregates.specs.Kept.{pairs_here, group_pairs};
+ghost use Rattle.far_aggregates.specs.Accumulators.{pairs_here, group_pairs};
 ghost use Rattle.far_table.specs.MixedGroups.{MayFold};
 ghost use Rattle.far_table.specs.Pieces.{run_of, IsPiece};
 ghost use Rattle.far_table.specs.Recounting.{FoldRefusal};

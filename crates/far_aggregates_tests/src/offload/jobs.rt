@@ -6,7 +6,7 @@ use crate::lines::{Lines, Name, key_of, text};
 use crate::offload::cases::SIX_ROWS;
 use crate::offload::folding::{columns, is_told};
 use crate::offload::rows::{form_of, put_ints};
-use far_extrema::Span;
+use far_extrema::MinMax;
 use far_offload::{OffloadJob, span_under};
 use far_store::{AgentStore, FarStore, Meter};
 use far_types::{Key, Refusal, Spec, Test};
@@ -62,14 +62,14 @@ fn under_texts_with_a(alloc: Global) -> Result<Spec, Refusal> {
 }
 
 /// The extrema of the six rows under a key.
-fn span_in(alloc: Global, spec: &Spec, key: &Option<Key>) -> Result<Option<Span>, Refusal> {
+fn span_in(alloc: Global, spec: &Spec, key: &Option<Key>) -> Result<Option<MinMax>, Refusal> {
     let form = form_of(alloc, SIX_ROWS.words)?;
     let columns = columns(SIX_ROWS.numbers, &form);
     Ok(span_under(spec, &columns, SIX_ROWS.alive, key))
 }
 
 /// The least and the greatest number of the six rows with this text, of those whose text begins with `a`.
-fn span_of(alloc: Global, word: &'static str) -> Result<Option<Span>, Refusal> {
+fn span_of(alloc: Global, word: &'static str) -> Result<Option<MinMax>, Refusal> {
     let spec = under_texts_with_a(alloc)?;
     let key = key_of(alloc, Name::Word(word))?;
     span_in(alloc, &spec, &key)

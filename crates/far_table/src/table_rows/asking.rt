@@ -24,16 +24,16 @@ impl<S: FarTickets> TableRows<S> {
     /// `NoMemory` (1) alone.
     pub fn may_insert(&mut self, row: Row) -> Result<(), Refusal>
         ensures refused { refusal_in result ≡ edit_due (asked self.old) (edit.Insert row) }
-        ensures taken { OnOk result (row_of self.new.held.slots self.new.coming ≡ row) }
+        ensures taken { OnOk result (row_of self.new.held.slots self.new.new_row ≡ row) }
         ensures free { OnOk result (MayPush S.content self.new) }
-        ensures stays { self.new ≡ record self.old { coming = self.new.coming } }
+        ensures stays { self.new ≡ record self.old { new_row = self.new.new_row } }
     {
         // They tell what the rows are, and that the row's numbers are those of 64 bits.
         let len = self.rows.len();
         let _cells = row.as_slice();
         row_faults(&self.schema, &self.limits, len, &row)?;
-        self.coming.fill(self.rows.slots(), row);
-        self.rows.may_push(&self.coming)?;
+        self.new_row.fill(self.rows.slots(), row);
+        self.rows.may_push(&self.new_row)?;
         self.may_count()
     }
 

@@ -14,7 +14,7 @@ use far_types::Refusal;
 use std::alloc::Global;
 
 impl<S: FarTickets> TableRows<S> {
-    /// Appends the row that was taken, which is alive, and counts the edit.
+    /// Appends the new row, which is alive, and counts the edit.
     ///
     /// The row is one that `may_insert` accepted. Refused with `NoMemory` (1) alone; then nothing is changed.
     pub fn push(&mut self, alloc: Global) -> Result<(), Refusal>
@@ -24,7 +24,7 @@ impl<S: FarTickets> TableRows<S> {
         ensures memory { IfErr result (λ e. e ≡ Refusal.NoMemory) }
         ensures err { OnErr result (self.new ≡ self.old) }
     {
-        self.rows.push(alloc, &self.coming)?;
+        self.rows.push(alloc, &self.new_row)?;
         self.edits += 1;
         Ok(())
     }

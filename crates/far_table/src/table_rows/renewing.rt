@@ -48,7 +48,7 @@ impl<S: FarTickets> TableRows<S> {
             schema: self.schema,
             limits: self.limits,
             rows: self.rows.renew(renewal),
-            coming: self.coming,
+            new_row: self.new_row,
             edits: self.edits,
         }
     }

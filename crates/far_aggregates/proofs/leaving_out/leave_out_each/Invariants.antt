@@ -4,6 +4,6 @@ use Rattle.far_aggregates.proofs.leaving_out.leave_out_each.Given as goal
 
 abbrev pub invariant-loop-i : goal.invariant-loop-i
 invariant-loop-i l =
-    (length l.gone ≡ length l.initial.gone)
-    × EachLeftOut l.comes l.initial.gone l.gone
-    × ((k : ℕ) → l.i ≤ k → slice_get l.gone k ≡ slice_get l.initial.gone k)
+    (length l.to_retract ≡ length l.initial.to_retract)
+    × EachLeftOut l.deltas l.initial.to_retract l.to_retract
+    × ((k : ℕ) → l.i ≤ k → slice_get l.to_retract k ≡ slice_get l.initial.to_retract k)

@@ -1,6 +1,6 @@
 use Rattle.std.proofs.Common.{◌≡◌, ◌++◌, ◌-◌, drop, map, length, replicate, None}
 use Rattle.far_aggregates.specs.Aggregates.{free_from}
-use Rattle.far_aggregates.specs.Kept.{registered_in, registered_of}
+use Rattle.far_aggregates.specs.Accumulators.{registered_in, registered_of}
 use Rattle.far_aggregates.proofs.registrations.free_number.Given as goal
 
 abbrev pub invariant-loop-i : goal.invariant-loop-i

@@ -1,5 +1,5 @@
 use Rattle.std.proofs.Common.{◌≡◌, Some, ap, ◌∙◌, arith, length, slice_set}
-use Rattle.far_aggregates.specs.Kept.{registered_in, registered_of}
+use Rattle.far_aggregates.specs.Accumulators.{registered_in, registered_of}
 use Rattle.far_aggregates.proofs.RegisterLaws.{registered-set, registered-push}
 use Rattle.far_aggregates.proofs.registrations.put.Goals as goal
 

@@ -1,6 +1,6 @@
 use Rattle.std.proofs.Common.{◌<◌, sym, ap, ◌∙◌, refl, length, slice_set}
 use Rattle.std.proofs.lemmas.Option.{slice_get_read}
-use Rattle.far_aggregates.specs.Kept.{registered_in, registered_of}
+use Rattle.far_aggregates.specs.Accumulators.{registered_in, registered_of}
 use Rattle.far_aggregates.specs.Scans.{built_slot}
 use Rattle.far_aggregates.specs.Aggregates.{joined}
 use Rattle.far_aggregates.proofs.RegisterLaws.{registered-set, registered-like}

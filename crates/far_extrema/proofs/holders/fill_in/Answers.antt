@@ -19,9 +19,9 @@ returns-clause-spans c =
     let there = subst IsSome c.in-Some.ensures.value refl in
     let written = set_inserts c.args.holders.now.entries (c.get_mut.follows.lender c.fill.new.self).entries c.args.key.now c.fill.new.self ((c.get_mut.follows.holds c.fill.new.self).3 there).0 in
     let m = holders_of c.args.holders.now.entries in
-    let stood = get_at c.args.holders.now.entries c.args.key.now ∙ sym c.in-Some.ensures.value in
+    let previous = get_at c.args.holders.now.entries c.args.key.now ∙ sym c.in-Some.ensures.value in
     subst (λ n. IsPut m c.args.group c.args.key.now (Some c.args.span) n) (sym written)
-    (put-set m c.args.key.now c.in-Some.holder.now c.fill.new.self c.args.group (Some c.args.span) stood c.fill.ensures)
+    (put-set m c.args.key.now c.in-Some.holder.now c.fill.new.self c.args.group (Some c.args.span) previous c.fill.ensures)
 
 pub returns-clause-room : goal.returns-clause-room
 returns-clause-room c =

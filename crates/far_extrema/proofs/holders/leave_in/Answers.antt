@@ -17,17 +17,17 @@ returns-then-not-is_vacant-clause-spans c =
     let there = subst IsSome c.in-Some.ensures.value refl in
     let written = set_inserts c.args.holders.now.entries (c.get_mut.follows.lender c.leave.new.self).entries c.args.key.now c.leave.new.self ((c.get_mut.follows.holds c.leave.new.self).3 there).0 in
     let m = holders_of c.args.holders.now.entries in
-    let stood = get_at c.args.holders.now.entries c.args.key.now ∙ sym c.in-Some.ensures.value in
+    let previous = get_at c.args.holders.now.entries c.args.key.now ∙ sym c.in-Some.ensures.value in
     subst (λ n. IsPut m c.args.group c.args.key.now None n) (sym written)
-    (put-set m c.args.key.now c.in-Some.holder.now c.leave.new.self c.args.group None stood c.leave.ensures.spans)
+    (put-set m c.args.key.now c.in-Some.holder.now c.leave.new.self c.args.group None previous c.leave.ensures.spans)
 
 pub returns-then-not-is_vacant-clause-room : goal.returns-then-not-is_vacant-clause-room
 returns-then-not-is_vacant-clause-room c =
     let there = subst IsSome c.in-Some.ensures.value refl in
     let written = set_inserts c.args.holders.now.entries (c.get_mut.follows.lender c.leave.new.self).entries c.args.key.now c.leave.new.self ((c.get_mut.follows.holds c.leave.new.self).3 there).0 in
     let m = holders_of c.args.holders.now.entries in
-    let stood = get_at c.args.holders.now.entries c.args.key.now ∙ sym c.in-Some.ensures.value in
-    subst (HaveSameRoom m) (sym written) (room-insert m c.args.key.now c.leave.new.self (ap (λ b. cond b (Some true) None) c.leave.ensures.room ∙ sym (ap room_in stood)))
+    let previous = get_at c.args.holders.now.entries c.args.key.now ∙ sym c.in-Some.ensures.value in
+    subst (HaveSameRoom m) (sym written) (room-insert m c.args.key.now c.leave.new.self (ap (λ b. cond b (Some true) None) c.leave.ensures.room ∙ sym (ap room_in previous)))
 
 pub returns-clause-spans : goal.returns-clause-spans
 returns-clause-spans c =
@@ -35,9 +35,9 @@ returns-clause-spans c =
     let written = set_inserts c.args.holders.now.entries (c.get_mut.follows.lender c.leave.new.self).entries c.args.key.now c.leave.new.self ((c.get_mut.follows.holds c.leave.new.self).3 there).0 in
     let removed = set_removes (c.get_mut.follows.lender c.leave.new.self).entries c.remove.new.self.entries c.args.key.now c.remove.ensures.updates.0 ∙ ap (λ m. fin.remove m c.args.key.now) written in
     let m = holders_of c.args.holders.now.entries in
-    let stood = get_at c.args.holders.now.entries c.args.key.now ∙ sym c.in-Some.ensures.value in
+    let previous = get_at c.args.holders.now.entries c.args.key.now ∙ sym c.in-Some.ensures.value in
     subst (λ n. IsPut m c.args.group c.args.key.now None n) (sym removed)
-    (put-vacant m c.args.key.now c.in-Some.holder.now c.leave.new.self c.args.group stood c.leave.ensures.spans (c.if-not-is_vacant.ensures.spans refl))
+    (put-vacant m c.args.key.now c.in-Some.holder.now c.leave.new.self c.args.group previous c.leave.ensures.spans (c.if-not-is_vacant.ensures.spans refl))
 
 pub returns-clause-room : goal.returns-clause-room
 returns-clause-room c =
@@ -45,5 +45,5 @@ returns-clause-room c =
     let written = set_inserts c.args.holders.now.entries (c.get_mut.follows.lender c.leave.new.self).entries c.args.key.now c.leave.new.self ((c.get_mut.follows.holds c.leave.new.self).3 there).0 in
     let removed = set_removes (c.get_mut.follows.lender c.leave.new.self).entries c.remove.new.self.entries c.args.key.now c.remove.ensures.updates.0 ∙ ap (λ m. fin.remove m c.args.key.now) written in
     let m = holders_of c.args.holders.now.entries in
-    let stood = get_at c.args.holders.now.entries c.args.key.now ∙ sym c.in-Some.ensures.value in
-    subst (HaveSameRoom m) (sym removed) (room-vacant m c.args.key.now c.in-Some.holder.now c.leave.new.self stood c.leave.ensures.room (c.if-not-is_vacant.ensures.room refl))
+    let previous = get_at c.args.holders.now.entries c.args.key.now ∙ sym c.in-Some.ensures.value in
+    subst (HaveSameRoom m) (sym removed) (room-vacant m c.args.key.now c.in-Some.holder.now c.leave.new.self previous c.leave.ensures.room (c.if-not-is_vacant.ensures.room refl))

@@ -10,10 +10,10 @@ use Rattle.far_extrema.proofs.HolderLaws.{put-set, put-new, put-same}
 use Rattle.far_extrema.proofs.RoomLaws.{room-insert, on_ok, on_err, ok_any, err_any}
 use Rattle.far_extrema.proofs.holders.see_in.Goals as goal
 
-pub returns-in-Some-clause-stood : goal.returns-in-Some-clause-stood
-returns-in-Some-clause-stood c =
+pub returns-in-Some-clause-previous : goal.returns-in-Some-clause-previous
+returns-in-Some-clause-previous c =
     let there = ap (λ o. span_in o c.args.group) (c.in-Some.ensures.value ∙ sym (get_at c.args.holders.now.entries c.args.key.now)) in
-    subst (λ (o : Option (ℤ × ℤ)). IfOk c.see.result (λ (stood : Option (ℤ × ℤ)). stood ≡ o)) there c.see.ensures.stood
+    subst (λ (o : Option (ℤ × ℤ)). IfOk c.see.result (λ (previous : Option (ℤ × ℤ)). previous ≡ o)) there c.see.ensures.previous
 
 pub returns-in-Some-clause-ok : goal.returns-in-Some-clause-ok
 returns-in-Some-clause-ok c =
@@ -52,8 +52,8 @@ returns-in-Some-clause-only_new c =
     let there = ap (λ o. span_in o c.args.group) (get_at c.args.holders.now.entries c.args.key.now ∙ sym c.in-Some.ensures.value) in
     on_err c.see.result (λ (none : at c.in-Some.holder.now.spans c.args.group ≡ None). there ∙ none) c.see.ensures.only_new
 
-pub returns-in_ok-insert-in-None-clause-stood : goal.returns-in_ok-insert-in-None-clause-stood
-returns-in_ok-insert-in-None-clause-stood c = sym (ap (λ o. span_in o c.args.group) (get_at c.args.holders.now.entries c.args.key.now ∙ sym c.in-None.ensures.value))
+pub returns-in_ok-insert-in-None-clause-previous : goal.returns-in_ok-insert-in-None-clause-previous
+returns-in_ok-insert-in-None-clause-previous c = sym (ap (λ o. span_in o c.args.group) (get_at c.args.holders.now.entries c.args.key.now ∙ sym c.in-None.ensures.value))
 
 pub returns-in_ok-insert-in-None-clause-ok : goal.returns-in_ok-insert-in-None-clause-ok
 returns-in_ok-insert-in-None-clause-ok c =

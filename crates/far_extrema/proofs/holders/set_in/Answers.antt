@@ -15,12 +15,12 @@ pub returns : goal.returns
 returns c =
     let there = subst IsSome c.in-Some.ensures.value refl in
     let old = c.args.holders.now.entries in
-    let stood = get_at old c.args.key.now ∙ sym c.in-Some.ensures.value in
+    let previous = get_at old c.args.key.now ∙ sym c.in-Some.ensures.value in
     let new = (c.get_mut.follows.lender c.put.new.self).entries in
     let written = set_inserts old new c.args.key.now c.put.new.self ((c.get_mut.follows.holds c.put.new.self).3 there).0 in
     record {
       spans = subst (λ m. IsPut (holders_of old) c.args.group c.args.key.now (Some c.args.span) m) (sym written)
-          (put-set (holders_of old) c.args.key.now c.in-Some.holder.now c.put.new.self c.args.group (Some c.args.span) stood c.put.ensures.spans);
+          (put-set (holders_of old) c.args.key.now c.in-Some.holder.now c.put.new.self c.args.group (Some c.args.span) previous c.put.ensures.spans);
       room = subst (HaveSameRoom (holders_of old)) (sym written)
-          (room-insert (holders_of old) c.args.key.now c.put.new.self (ap (λ b. cond b (Some true) None) c.put.ensures.room ∙ sym (ap room_in stood)));
+          (room-insert (holders_of old) c.args.key.now c.put.new.self (ap (λ b. cond b (Some true) None) c.put.ensures.room ∙ sym (ap room_in previous)));
     }

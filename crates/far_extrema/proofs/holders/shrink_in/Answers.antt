@@ -9,17 +9,17 @@ use Rattle.far_extrema.proofs.HolderLaws.{put-set}
 use Rattle.far_extrema.proofs.RoomLaws.{room-insert, room-vacant, put-vacant, none-vacant}
 use Rattle.far_extrema.proofs.holders.shrink_in.Goals as goal
 
-pub shrink-left-requires-clause-stood : goal.shrink-left-requires-clause-stood
-shrink-left-requires-clause-stood g c =
+pub shrink-left-requires-clause-previous : goal.shrink-left-requires-clause-previous
+shrink-left-requires-clause-previous g c =
     let fits = c.ranges.value in
     let there = ap (λ o. span_in o c.args.group) (get_at c.args.holders.now.entries c.args.key.now ∙ sym c.in-Some.ensures.value) in
-    let stood = sym there ∙ c.requires.stood in
-    grind (arith, to_z-of_z, stood)
+    let previous = sym there ∙ c.requires.previous in
+    grind (arith, to_z-of_z, previous)
 
 pub unreachable-requires : goal.unreachable-requires
 unreachable-requires g c =
     let none = ap (λ o. span_in o c.args.group) (get_at c.args.holders.now.entries c.args.key.now ∙ sym c.in-None.ensures.value) in
-    let both = sym none ∙ c.requires.stood in
+    let both = sym none ∙ c.requires.previous in
     cc
 
 pub returns-then-not-is_vacant-clause-spans : goal.returns-then-not-is_vacant-clause-spans
@@ -28,17 +28,17 @@ returns-then-not-is_vacant-clause-spans g c =
     let written = set_inserts c.args.holders.now.entries (c.get_mut.follows.lender c.shrink-left.new.self).entries c.args.key.now c.shrink-left.new.self ((c.get_mut.follows.holds c.shrink-left.new.self).3 there).0 in
     let m = holders_of c.args.holders.now.entries in
     let left = g.R.RowsLeft.extremes c.args.rows.now in
-    let stood = get_at c.args.holders.now.entries c.args.key.now ∙ sym c.in-Some.ensures.value in
+    let previous = get_at c.args.holders.now.entries c.args.key.now ∙ sym c.in-Some.ensures.value in
     subst (λ (n : Holders). IsPut m c.args.group c.args.key.now left n) (sym written)
-    (put-set m c.args.key.now c.in-Some.holder.now c.shrink-left.new.self c.args.group left stood c.shrink-left.ensures.spans)
+    (put-set m c.args.key.now c.in-Some.holder.now c.shrink-left.new.self c.args.group left previous c.shrink-left.ensures.spans)
 
 pub returns-then-not-is_vacant-clause-room : goal.returns-then-not-is_vacant-clause-room
 returns-then-not-is_vacant-clause-room g c =
     let there = subst IsSome c.in-Some.ensures.value refl in
     let written = set_inserts c.args.holders.now.entries (c.get_mut.follows.lender c.shrink-left.new.self).entries c.args.key.now c.shrink-left.new.self ((c.get_mut.follows.holds c.shrink-left.new.self).3 there).0 in
     let m = holders_of c.args.holders.now.entries in
-    let stood = get_at c.args.holders.now.entries c.args.key.now ∙ sym c.in-Some.ensures.value in
-    subst (HaveSameRoom m) (sym written) (room-insert m c.args.key.now c.shrink-left.new.self (ap (λ b. cond b (Some true) None) c.shrink-left.ensures.room ∙ sym (ap room_in stood)))
+    let previous = get_at c.args.holders.now.entries c.args.key.now ∙ sym c.in-Some.ensures.value in
+    subst (HaveSameRoom m) (sym written) (room-insert m c.args.key.now c.shrink-left.new.self (ap (λ b. cond b (Some true) None) c.shrink-left.ensures.room ∙ sym (ap room_in previous)))
 
 pub returns-clause-left : goal.returns-clause-left
 returns-clause-left g c =
@@ -51,12 +51,12 @@ returns-clause-spans g c =
     let removed = set_removes (c.get_mut.follows.lender c.shrink-left.new.self).entries c.remove.new.self.entries c.args.key.now c.remove.ensures.updates.0 ∙ ap (λ m. fin.remove m c.args.key.now) written in
     let m = holders_of c.args.holders.now.entries in
     let spans = c.in-Some.holder.now.spans in
-    let stood = get_at c.args.holders.now.entries c.args.key.now ∙ sym c.in-Some.ensures.value in
+    let previous = get_at c.args.holders.now.entries c.args.key.now ∙ sym c.in-Some.ensures.value in
     let vacant = c.if-not-is_vacant.ensures.spans refl in
     let none = none-vacant spans c.shrink-left.new.self.spans c.args.group (g.R.RowsLeft.extremes c.args.rows.now) c.shrink-left.ensures.spans vacant in
     let set = subst (λ (o : Option (ℤ × ℤ)). IsSet spans c.args.group o c.shrink-left.new.self.spans) none c.shrink-left.ensures.spans in
     let put = subst (λ (n : Holders). IsPut m c.args.group c.args.key.now None n) (sym removed)
-    (put-vacant m c.args.key.now c.in-Some.holder.now c.shrink-left.new.self c.args.group stood set vacant) in
+    (put-vacant m c.args.key.now c.in-Some.holder.now c.shrink-left.new.self c.args.group previous set vacant) in
     subst (λ (o : Option (ℤ × ℤ)). IsPut m c.args.group c.args.key.now o (holders_of c.remove.new.self.entries)) (sym none) put
 
 pub returns-clause-room : goal.returns-clause-room
@@ -65,5 +65,5 @@ returns-clause-room g c =
     let written = set_inserts c.args.holders.now.entries (c.get_mut.follows.lender c.shrink-left.new.self).entries c.args.key.now c.shrink-left.new.self ((c.get_mut.follows.holds c.shrink-left.new.self).3 there).0 in
     let removed = set_removes (c.get_mut.follows.lender c.shrink-left.new.self).entries c.remove.new.self.entries c.args.key.now c.remove.ensures.updates.0 ∙ ap (λ m. fin.remove m c.args.key.now) written in
     let m = holders_of c.args.holders.now.entries in
-    let stood = get_at c.args.holders.now.entries c.args.key.now ∙ sym c.in-Some.ensures.value in
-    subst (HaveSameRoom m) (sym removed) (room-vacant m c.args.key.now c.in-Some.holder.now c.shrink-left.new.self stood c.shrink-left.ensures.room (c.if-not-is_vacant.ensures.room refl))
+    let previous = get_at c.args.holders.now.entries c.args.key.now ∙ sym c.in-Some.ensures.value in
+    subst (HaveSameRoom m) (sym removed) (room-vacant m c.args.key.now c.in-Some.holder.now c.shrink-left.new.self previous c.shrink-left.ensures.room (c.if-not-is_vacant.ensures.room refl))

@@ -7,4 +7,4 @@ invariant_of-result c = (c.joined-top.ensures, tt)
 
 pub returns : goal.returns
 returns c q =
-    c.put.ensures.set q ∙ ap (cond (q == c.args.group) (Some c.args.span)) (c.new-few.ensures.spans q ∙ sym (one-slot c.args.holder c.args.stood q))
+    c.put.ensures.set q ∙ ap (cond (q == c.args.group) (Some c.args.span)) (c.new-few.ensures.spans q ∙ sym (one-slot c.args.holder c.args.previous q))

@@ -1,7 +1,7 @@
 use Rattle.std.proofs.Common.{ap, ◌∙◌}
 use Rattle.std.proofs.lemmas.Result.{IfOk-weaker}
 use Rattle.far_offload.specs.Partials.{partial_of}
-use Rattle.far_aggregates.specs.Kept.{pairs_here}
+use Rattle.far_aggregates.specs.Accumulators.{pairs_here}
 use Rattle.far_table.specs.MixedGroups.{MixedRows, places_mixed}
 use Rattle.far_table.proofs.piece.fold_at.Goals as goal
 

@@ -3,7 +3,7 @@ use Rattle.std.proofs.lemmas.Result.{on_ok_weaker}
 use Rattle.far_types.specs.Answers.{totals}
 use Rattle.far_types.specs.Changes.{joined_totals}
 use Rattle.far_groups.specs.Live.{CanJoin}
-use Rattle.far_aggregates.specs.Kept.{pairs_here}
+use Rattle.far_aggregates.specs.Accumulators.{pairs_here}
 use Rattle.far_table.specs.MixedGroups.{MixedRows, places_mixed}
 use Rattle.far_table.proofs.TotalRuns.{live_of}
 use Rattle.far_table.proofs.totals.total_at.Goals as goal

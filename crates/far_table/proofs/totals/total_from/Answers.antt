@@ -5,7 +5,7 @@ use Rattle.far_rows.specs.Places.{places_in}
 use Rattle.far_rows.specs.Rows.{cells_of}
 use Rattle.far_offload.specs.declared.partial.PartialDone.{PartialDone}
 use Rattle.far_offload.specs.Partials.{partial_of}
-use Rattle.far_aggregates.specs.Kept.{pairs_here}
+use Rattle.far_aggregates.specs.Accumulators.{pairs_here}
 use Rattle.far_table.specs.Pieces.{begin_of, run_of}
 use Rattle.far_table.proofs.Places.{length-places}
 use Rattle.far_table.proofs.TotalRuns.{alone}

@@ -7,7 +7,7 @@ use Rattle.far_offload.specs.declared.partial.PartialDone.{PartialDone}
 use Rattle.far_offload.specs.declared.partial.PartialDone.TheVariants as partial
 use Rattle.far_rows.specs.Places.{places_in}
 use Rattle.far_rows.specs.Rows.{cells_of}
-use Rattle.far_aggregates.specs.Kept.{pairs_here, group_pairs}
+use Rattle.far_aggregates.specs.Accumulators.{pairs_here, group_pairs}
 use Rattle.far_table.specs.Pieces.{run_of}
 use Rattle.far_table.proofs.Places.{length-places}
 use Rattle.far_table.proofs.TotalRuns.{live_of, run-none, run-joins, run-joined}

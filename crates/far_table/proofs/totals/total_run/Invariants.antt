@@ -1,7 +1,7 @@
 use Rattle.std.proofs.Common.{◌≡◌, ◌-◌, ◌≤◌}
 use Rattle.far_types.specs.Answers.{totals}
 use Rattle.far_rows.specs.Places.{places_in}
-use Rattle.far_aggregates.specs.Kept.{pairs_here}
+use Rattle.far_aggregates.specs.Accumulators.{pairs_here}
 use Rattle.far_table.specs.Pieces.{run_of}
 use Rattle.far_table.proofs.TotalRuns.{live_of}
 use Rattle.far_table.proofs.totals.total_run.Given as goal

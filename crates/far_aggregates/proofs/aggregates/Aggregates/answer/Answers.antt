@@ -2,7 +2,7 @@ use Rattle.std.proofs.Common.{◌≡◌, Some, true, ap, sym, ◌∙◌, subst, 
 use Rattle.std.proofs.lemmas.Result.{IfErr-weaker, IfOk-weaker}
 use Rattle.far_types.specs.MayRefuse.{MayRefuse}
 use Rattle.far_aggregates.specs.Aggregates.{joined, aggregate_in, ask_refusal, Answers}
-use Rattle.far_aggregates.specs.Kept.{KeepsSlot, registered_in}
+use Rattle.far_aggregates.specs.Accumulators.{KeepsSlot, registered_in}
 use Rattle.far_aggregates.proofs.NumberLaws.{slot-at, keeps-at}
 use Rattle.far_aggregates.proofs.aggregates.Aggregates.answer.Goals as goal
 

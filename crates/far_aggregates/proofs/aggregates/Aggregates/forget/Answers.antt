@@ -1,5 +1,5 @@
 use Rattle.std.proofs.Common.{sym, subst}
-use Rattle.far_aggregates.specs.Kept.{Keeps}
+use Rattle.far_aggregates.specs.Accumulators.{Keeps}
 use Rattle.far_aggregates.proofs.aggregates.Aggregates.forget.Goals as goal
 
 pub returns-clause-kept : goal.returns-clause-kept

@@ -1,6 +1,6 @@
 use Rattle.std.proofs.Common.{◌≡◌, Some, ap, sym, ◌∙◌, subst, slice_get}
 use Rattle.far_aggregates.specs.Aggregates.{joined}
-use Rattle.far_aggregates.specs.Kept.{KeepsSlot, registered_in}
+use Rattle.far_aggregates.specs.Accumulators.{KeepsSlot, registered_in}
 use Rattle.far_aggregates.specs.Readings.{plain_in}
 use Rattle.far_aggregates.proofs.NumberLaws.{slot-at, keeps-at}
 use Rattle.far_aggregates.proofs.aggregates.Aggregates.plain.Goals as goal

@@ -1,6 +1,6 @@
 use Rattle.std.proofs.Common.{ap, ◌∙◌}
 use Rattle.far_aggregates.specs.Aggregates.{free_from}
-use Rattle.far_aggregates.specs.Kept.{registered_of}
+use Rattle.far_aggregates.specs.Accumulators.{registered_of}
 use Rattle.far_aggregates.proofs.NumberLaws.{free-within, free-below}
 use Rattle.far_aggregates.proofs.aggregates.Aggregates.register.Goals as goal
 

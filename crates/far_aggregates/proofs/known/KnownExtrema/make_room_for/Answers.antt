@@ -1,7 +1,7 @@
 use Rattle.std.proofs.Common.{sym, subst}
 use Rattle.far_extrema.proofs.RoomLaws.{either}
 use Rattle.far_aggregates.specs.Known.{AreKnown}
-use Rattle.far_aggregates.proofs.KnownLaws.{known-roomy, known-same}
+use Rattle.far_aggregates.proofs.KnownLaws.{known-reserved, known-same}
 use Rattle.far_aggregates.proofs.known.KnownExtrema.make_room_for.Goals as goal
 
 pub invariant_of-self : goal.invariant_of-self
@@ -11,5 +11,5 @@ invariant_of-self c =
     let new = c.make_room_for.new.self.groups in
     let known = subst (λ plain. AreKnown plain groups) (sym c.make_place.ensures) c.self.invariant in
     either c.make_room_for.result {Q = AreKnown plain new}
-    (λ is. known-roomy plain groups new c.args.group is known)
+    (λ is. known-reserved plain groups new c.args.group is known)
     (λ is. known-same plain groups new is known) c.make_room_for.ensures.groups c.make_room_for.ensures.err

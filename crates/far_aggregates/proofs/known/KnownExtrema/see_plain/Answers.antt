@@ -19,7 +19,7 @@ pub invariant_of-self : goal.invariant_of-self
 invariant_of-self c =
     let groups = c.self.inside.live.groups in
     let known = subst (λ plain. AreKnown plain groups) (sym c.make_place.ensures) c.self.invariant in
-    known-same c.make_place.new.plain.items groups c.see_noted.new.live.groups (ap (λ (live : Live). live.groups) c.in_err-stood.ensures.err) known
+    known-same c.make_place.new.plain.items groups c.see_noted.new.live.groups (ap (λ (live : Live). live.groups) c.in_err-previous.ensures.err) known
 
 pub invariant_of-self-2 : goal.invariant_of-self-2
 invariant_of-self-2 c =
@@ -29,11 +29,11 @@ invariant_of-self-2 c =
     let m = group_at groups c.args.group in
     let value = c.args.value in
     let room : c.args.group < length groups = subst (λ (live : Live). c.args.group < length live.groups) (sym c.self.view_is) c.requires in
-    let new = simp to_z-of_z at c.in_ok-stood.ensures.ok in
+    let new = simp to_z-of_z at c.in_ok-previous.ensures.ok in
     let is = ap (λ (live : Live). live.groups) new in
-    let wide : c.wider.result ≡ widened value c.in_ok-stood.stood = simp to_z-of_z at c.wider.ensures in
+    let wide : c.wider.result ≡ widened value c.in_ok-previous.previous = simp to_z-of_z at c.wider.ensures in
     let known = subst (λ plain. AreKnown plain groups) (sym c.make_place.ensures) c.self.invariant in
-    let noted = ap Some wide ∙ seen-plain m None value c.in_ok-stood.stood refl c.in_ok-stood.ensures.stood in
+    let noted = ap Some wide ∙ seen-plain m None value c.in_ok-previous.previous refl c.in_ok-previous.ensures.previous in
     subst (AreKnown c.note.new.plain.items) (sym is) (known-noted plain c.note.new.plain.items groups c.args.group (with_seen m (None, value)) (Some c.wider.result) room noted known c.note.ensures)
 
 pub returns-then-is_within-clause-ok : goal.returns-then-is_within-clause-ok
@@ -47,8 +47,8 @@ returns-then-is_within-clause-ok c =
     let found = ap (λ (live : Live). fin.get (group_at live.groups c.args.group) None) (sym c.self.view_is) ∙ there in
     ap (λ (gs : List Extrema). record c.args.self.now { groups = gs }) (seen-within c.args.group groups None c.args.value within.0 found within.2 within.3)
 
-pub returns-then-is_within-clause-stood : goal.returns-then-is_within-clause-stood
-returns-then-is_within-clause-stood c =
+pub returns-then-is_within-clause-previous : goal.returns-then-is_within-clause-previous
+returns-then-is_within-clause-previous c =
     let fits = c.ranges.value in
     let inside = c.self.inside.live.groups in
     let within : (s : ℤ × ℤ) × (c.noted_in-noted.result ≡ Some s) × (s.0 ≤ℤ c.args.value) × (c.args.value ≤ℤ s.1) = simp to_z-of_z at c.if-is_within.ensures refl in

@@ -14,7 +14,7 @@ returns-then-value-span g c =
     let groups = c.args.self.now.groups in
     let found = ap (λ (live : Live). fin.get (group_at live.groups c.args.group) None) (sym c.self.view_is) ∙ c.self.invariant c.args.group c.in-Some.span (sym (ap (λ (plain : List (Option (ℤ × ℤ))). slice_get plain c.args.group) c.as_slice.ensures.value) ∙ c.in-Some.ensures) in
     ap (λ (gs : List Extrema). record c.args.self.now { groups = gs })
-    (left-within c.args.group groups None c.args.value (g.R.RowsLeft.extremes c.args.rows.now) c.in-Some.span c.requires.stood found (search rules) (search rules))
+    (left-within c.args.group groups None c.args.value (g.R.RowsLeft.extremes c.args.rows.now) c.in-Some.span c.requires.previous found (search rules) (search rules))
 
 pub invariant_of-self : goal.invariant_of-self
 invariant_of-self g c =

@@ -11,7 +11,7 @@ returns-then-is_inside-clause-left g c =
     let fits = c.ranges.value in
     let span = c.in-Some.span in
     let inside : (span.0 <ℤ c.args.value) × (c.args.value <ℤ span.1) = simp to_z-of_z at c.if-is_inside.ensures refl in
-    left-inside c.args.value (g.R.RowsLeft.extremes c.args.rows.now) (at c.args.self.now.spans c.args.group) span c.requires.stood c.in-Some.ensures inside.0 inside.1
+    left-inside c.args.value (g.R.RowsLeft.extremes c.args.rows.now) (at c.args.self.now.spans c.args.group) span c.requires.previous c.in-Some.ensures inside.0 inside.1
 
 pub returns-then-is_inside-clause-spans : goal.returns-then-is_inside-clause-spans
 returns-then-is_inside-clause-spans g c =
@@ -19,5 +19,5 @@ returns-then-is_inside-clause-spans g c =
     let span = c.in-Some.span in
     let spans = c.args.self.now.spans in
     let inside : (span.0 <ℤ c.args.value) × (c.args.value <ℤ span.1) = simp to_z-of_z at c.if-is_inside.ensures refl in
-    let left = left-inside c.args.value (g.R.RowsLeft.extremes c.args.rows.now) (at spans c.args.group) span c.requires.stood c.in-Some.ensures inside.0 inside.1 in
+    let left = left-inside c.args.value (g.R.RowsLeft.extremes c.args.rows.now) (at spans c.args.group) span c.requires.previous c.in-Some.ensures inside.0 inside.1 in
     subst (λ (o : Option (ℤ × ℤ)). IsSet spans c.args.group o spans) left (put-again spans c.args.group span (sym c.in-Some.ensures))

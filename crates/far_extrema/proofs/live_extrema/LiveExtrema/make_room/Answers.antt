@@ -12,8 +12,8 @@ returns c =
     let room = c.self.inside.room in
     let left = ap (λ (live : Live). live.left) c.self.view_is in
     let groups = ap (λ (live : Live). live.groups) c.self.view_is in
-    let roomy = ap (λ (live : Live). live.roomy) c.self.view_is in
+    let reserved = ap (λ (live : Live). live.reserved) c.self.view_is in
     let far : c.max-self-inside.result ≡ room + (c.args.group + 1 - room) = omega (arith, c.max-self-inside.ensures) in
     let long : room ≡ length c.args.self.now.groups = sym (length-groups_in m room) ∙ ap length groups in
     let new = ap (groups_in m) far ∙ more-room m room (c.args.group + 1 - room) c.self.invariant ∙ (λ i. groups i ++ replicate (c.args.group + 1 - long i) fin.empty) in
-    λ i. record { left = left i; groups = new i; roomy = roomy i }
+    λ i. record { left = left i; groups = new i; reserved = reserved i }

@@ -2,24 +2,24 @@ use Rattle.std.proofs.Common.{sym, ap, ◌∙◌}
 use Rattle.std.specs.FinMap as fin
 use Rattle.far_extrema.specs.Live.{Live, with_room}
 use Rattle.far_extrema.specs.Holders.{holders_of}
-use Rattle.far_extrema.proofs.HolderLaws.{get-roomy, same-groups}
+use Rattle.far_extrema.proofs.HolderLaws.{get-reserved, same-groups}
 use Rattle.far_extrema.proofs.RoomLaws.{err_any}
 use Rattle.far_extrema.proofs.live_extrema.LiveExtrema.make_room_for.Goals as goal
 
-pub returns-in_err-make_rooms-clause-err : goal.returns-in_err-make_rooms-clause-err
-returns-in_err-make_rooms-clause-err c =
+pub returns-in_err-reserve_all-clause-err : goal.returns-in_err-reserve_all-clause-err
+returns-in_err-reserve_all-clause-err c =
     let groups = ap (λ (live : Live). live.groups) c.self.view_is in
-    err_any c.from_residual.result (same-groups (holders_of c.self.inside.holders.entries) (holders_of c.make_rooms.new.holders.entries) c.self.inside.room c.in_err-make_rooms.ensures.spans ∙ groups)
+    err_any c.from_residual.result (same-groups (holders_of c.self.inside.holders.entries) (holders_of c.reserve_all.new.holders.entries) c.self.inside.room c.in_err-reserve_all.ensures.spans ∙ groups)
 
 pub returns-clause-groups : goal.returns-clause-groups
 returns-clause-groups c =
     let groups = ap (λ (live : Live). live.groups) c.self.view_is in
     ap (λ (live : Live). live.groups) c.make_room.ensures
-    ∙ ap (with_room c.args.group) (same-groups (holders_of c.self.inside.holders.entries) (holders_of c.make_rooms.new.holders.entries) c.self.inside.room c.in_ok-make_rooms.ensures.spans ∙ groups)
+    ∙ ap (with_room c.args.group) (same-groups (holders_of c.self.inside.holders.entries) (holders_of c.reserve_all.new.holders.entries) c.self.inside.room c.in_ok-reserve_all.ensures.spans ∙ groups)
 
 pub returns-clause-room : goal.returns-clause-room
-returns-clause-room c = λ key there none. c.in_ok-make_rooms.ensures.room key (λ n. there (ap (λ e. fin.get e key) (sym c.spans.ensures) ∙ n))
-    (sym (get-roomy (holders_of c.make_rooms.new.holders.entries) key) ∙ ap (λ (live : Live). fin.get live.roomy key) (sym c.make_room.ensures) ∙ none)
+returns-clause-room c = λ key there none. c.in_ok-reserve_all.ensures.room key (λ n. there (ap (λ e. fin.get e key) (sym c.spans.ensures) ∙ n))
+    (sym (get-reserved (holders_of c.reserve_all.new.holders.entries) key) ∙ ap (λ (live : Live). fin.get live.reserved key) (sym c.make_room.ensures) ∙ none)
 
 pub invariant_of-self : goal.invariant_of-self
-invariant_of-self c = λ g key past. c.in_err-make_rooms.ensures.spans g key ∙ c.self.invariant g key past
+invariant_of-self c = λ g key past. c.in_err-reserve_all.ensures.spans g key ∙ c.self.invariant g key past

@@ -4,7 +4,7 @@ use Rattle.std.specs.FinMap as fin
 use Rattle.far_extrema.specs.Live.{Live, group_at}
 use Rattle.far_extrema.specs.Spans.{put_span}
 use Rattle.far_extrema.specs.Holders.{holders_of}
-use Rattle.far_extrema.proofs.HolderLaws.{get-group_at, length-groups_in, put-in, room-put, same-roomy}
+use Rattle.far_extrema.proofs.HolderLaws.{get-group_at, length-groups_in, put-in, room-put, same-reserved}
 use Rattle.far_extrema.proofs.live_extrema.LiveExtrema.put_span.Goals as goal
 
 pub set_in-requires : goal.set_in-requires
@@ -35,8 +35,8 @@ returns-in-Some c =
     put-in m (holders_of c.set_in.new.holders.entries) c.self.inside.room c.args.group c.args.key.now (Some c.in-Some.span) less c.set_in.ensures.spans
     ∙ ap (λ gs. slice_set gs c.args.group (put_span (group_at gs c.args.group) c.args.key.now (Some c.in-Some.span))) groups
     ∙ ap (λ o. slice_set c.args.self.now.groups c.args.group (put_span (group_at c.args.self.now.groups c.args.group) c.args.key.now o)) (sym c.in-Some.is) in
-    let roomy = same-roomy m (holders_of c.set_in.new.holders.entries) c.set_in.ensures.room ∙ ap (λ (live : Live). live.roomy) c.self.view_is in
-    λ i. record { left = left i; groups = new i; roomy = roomy i }
+    let reserved = same-reserved m (holders_of c.set_in.new.holders.entries) c.set_in.ensures.room ∙ ap (λ (live : Live). live.reserved) c.self.view_is in
+    λ i. record { left = left i; groups = new i; reserved = reserved i }
 
 pub returns-in-None : goal.returns-in-None
 returns-in-None c =
@@ -48,5 +48,5 @@ returns-in-None c =
     put-in m (holders_of c.leave_in.new.holders.entries) c.self.inside.room c.args.group c.args.key.now None less c.leave_in.ensures.spans
     ∙ ap (λ gs. slice_set gs c.args.group (put_span (group_at gs c.args.group) c.args.key.now None)) groups
     ∙ ap (λ o. slice_set c.args.self.now.groups c.args.group (put_span (group_at c.args.self.now.groups c.args.group) c.args.key.now o)) (sym c.in-None.is) in
-    let roomy = same-roomy m (holders_of c.leave_in.new.holders.entries) c.leave_in.ensures.room ∙ ap (λ (live : Live). live.roomy) c.self.view_is in
-    λ i. record { left = left i; groups = new i; roomy = roomy i }
+    let reserved = same-reserved m (holders_of c.leave_in.new.holders.entries) c.leave_in.ensures.room ∙ ap (λ (live : Live). live.reserved) c.self.view_is in
+    λ i. record { left = left i; groups = new i; reserved = reserved i }

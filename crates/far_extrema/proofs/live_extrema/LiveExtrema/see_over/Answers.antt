@@ -8,12 +8,12 @@ use Rattle.far_types.specs.Changes.{with_seen, widened}
 use Rattle.far_extrema.specs.Live.{Live, group_at}
 use Rattle.far_extrema.specs.Holders.{Holders, holders_of, span_at, groups_in, HaveRoom, IsPut}
 use Rattle.far_extrema.proofs.GoneLaws.{put-same}
-use Rattle.far_extrema.proofs.HolderLaws.{get-group_at, length-groups_in, seen-in, room-put, widened_within, same-roomy}
+use Rattle.far_extrema.proofs.HolderLaws.{get-group_at, length-groups_in, seen-in, room-put, widened_within, same-reserved}
 use Rattle.far_extrema.proofs.live_extrema.LiveExtrema.see_over.Goals as goal
 
 -- what stands in a row group is what stands by key
-stood : (h : Holders) (room g : ℕ) (gs : List Extrema) (key : Option Key) (s : ℤ × ℤ) → groups_in h room ≡ gs → HaveRoom room h → fin.get (group_at gs g) key ≡ Some s → span_at h g key ≡ Some s
-stood h room g gs key s groups roomy is = sym (get-group_at h room g key roomy) ∙ ap (λ l. fin.get (group_at l g) key) groups ∙ is
+previous : (h : Holders) (room g : ℕ) (gs : List Extrema) (key : Option Key) (s : ℤ × ℤ) → groups_in h room ≡ gs → HaveRoom room h → fin.get (group_at gs g) key ≡ Some s → span_at h g key ≡ Some s
+previous h room g gs key s groups reserved is = sym (get-group_at h room g key reserved) ∙ ap (λ l. fin.get (group_at l g) key) groups ∙ is
 
 -- a value within the span under its key changes nothing
 seen_within : (m : Extrema) (key : Option Key) (v : ℤ) (s : ℤ × ℤ) → fin.get m key ≡ Some s → s.0 ≤ℤ v → v ≤ℤ s.1 → with_seen m (key, v) ≡ m
@@ -28,7 +28,7 @@ pub set_in-requires : goal.set_in-requires
 set_in-requires c = λ none.
     let m = holders_of c.self.inside.holders.entries in
     let groups = ap (λ (live : Live). live.groups) c.self.view_is in
-    let there = stood m c.self.inside.room c.args.group c.args.self.now.groups c.args.key.now c.args.stood groups c.self.invariant c.requires.stood in
+    let there = previous m c.self.inside.room c.args.group c.args.self.now.groups c.args.key.now c.args.previous groups c.self.invariant c.requires.previous in
     absurd cc
 
 pub invariant_of-self : goal.invariant_of-self
@@ -42,9 +42,9 @@ pub returns-then-is_within : goal.returns-then-is_within
 returns-then-is_within c =
     let fits = c.ranges.value in
     let groups = c.args.self.now.groups in
-    let within : (c.args.stood.0 ≤ℤ c.args.value) × (c.args.value ≤ℤ c.args.stood.1) = simp to_z-of_z at c.if-is_within.ensures refl in
-    let new = sym (ap (slice_set groups c.args.group) (seen_within (group_at groups c.args.group) c.args.key.now c.args.value c.args.stood c.requires.stood within.0 within.1) ∙ set_own groups c.args.group) in
-    λ i. record { left = c.args.self.now.left; groups = new i; roomy = c.args.self.now.roomy }
+    let within : (c.args.previous.0 ≤ℤ c.args.value) × (c.args.value ≤ℤ c.args.previous.1) = simp to_z-of_z at c.if-is_within.ensures refl in
+    let new = sym (ap (slice_set groups c.args.group) (seen_within (group_at groups c.args.group) c.args.key.now c.args.value c.args.previous c.requires.previous within.0 within.1) ∙ set_own groups c.args.group) in
+    λ i. record { left = c.args.self.now.left; groups = new i; reserved = c.args.self.now.reserved }
 
 pub returns : goal.returns
 returns c =
@@ -53,11 +53,11 @@ returns c =
     let left = ap (λ (live : Live). live.left) c.self.view_is in
     let groups = ap (λ (live : Live). live.groups) c.self.view_is in
     let less : c.args.group < c.self.inside.room = omega (arith, ap length groups, length-groups_in m c.self.inside.room, c.requires.room) in
-    let there = stood m c.self.inside.room c.args.group c.args.self.now.groups c.args.key.now c.args.stood groups c.self.invariant c.requires.stood in
-    let joined : c.together-wide.result ≡ widened c.args.value (Some c.args.stood) = simp to_z-of_z at c.together-wide.ensures in
+    let there = previous m c.self.inside.room c.args.group c.args.self.now.groups c.args.key.now c.args.previous groups c.self.invariant c.requires.previous in
+    let joined : c.together-wide.result ≡ widened c.args.value (Some c.args.previous) = simp to_z-of_z at c.together-wide.ensures in
     let put = subst (λ (x : ℤ × ℤ). IsPut m c.args.group c.args.key.now (Some x) (holders_of c.set_in.new.holders.entries)) joined c.set_in.ensures.spans in
     let new =
-    seen-in m (holders_of c.set_in.new.holders.entries) c.self.inside.room c.args.group c.args.key.now c.args.value (Some c.args.stood) c.self.invariant there less put
+    seen-in m (holders_of c.set_in.new.holders.entries) c.self.inside.room c.args.group c.args.key.now c.args.value (Some c.args.previous) c.self.invariant there less put
     ∙ ap (λ gs. slice_set gs c.args.group (with_seen (group_at gs c.args.group) (c.args.key.now, c.args.value))) groups in
-    let roomy = same-roomy m (holders_of c.set_in.new.holders.entries) c.set_in.ensures.room ∙ ap (λ (live : Live). live.roomy) c.self.view_is in
-    λ i. record { left = left i; groups = new i; roomy = roomy i }
+    let reserved = same-reserved m (holders_of c.set_in.new.holders.entries) c.set_in.ensures.room ∙ ap (λ (live : Live). live.reserved) c.self.view_is in
+    λ i. record { left = left i; groups = new i; reserved = reserved i }

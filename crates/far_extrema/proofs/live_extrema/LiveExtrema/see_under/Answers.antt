@@ -5,7 +5,7 @@ use Rattle.std.proofs.lemmas.Int.{to_z-of_z}
 use Rattle.far_types.specs.Changes.{with_seen, widened}
 use Rattle.far_extrema.specs.Live.{Live, group_at}
 use Rattle.far_extrema.specs.Holders.{holders_of, span_at, HaveRoom, IsPut, HaveSameRoom}
-use Rattle.far_extrema.proofs.HolderLaws.{get-group_at, length-groups_in, seen-in, room-put, same-roomy}
+use Rattle.far_extrema.proofs.HolderLaws.{get-group_at, length-groups_in, seen-in, room-put, same-reserved}
 use Rattle.far_extrema.proofs.RoomLaws.{either, both_ok, on_err}
 use Rattle.far_extrema.proofs.live_extrema.LiveExtrema.see_under.Goals as goal
 
@@ -21,12 +21,12 @@ invariant_of-self c =
     (λ put. room-put m n c.self.inside.room c.args.group c.args.key.now (Some wide) c.self.invariant less put)
     (λ same. subst (HaveRoom c.self.inside.room) (sym same) c.self.invariant) (simp to_z-of_z at c.see_in.ensures.ok) c.see_in.ensures.err
 
-pub returns-clause-stood : goal.returns-clause-stood
-returns-clause-stood c =
+pub returns-clause-previous : goal.returns-clause-previous
+returns-clause-previous c =
     let m = holders_of c.self.inside.holders.entries in
     let groups = ap (λ (live : Live). live.groups) c.self.view_is in
     let there = sym (get-group_at m c.self.inside.room c.args.group c.args.key.now c.self.invariant) ∙ ap (λ gs. fin.get (group_at gs c.args.group) c.args.key.now) groups in
-    subst (λ (o : Option (ℤ × ℤ)). IfOk c.see_in.result (λ (stood : Option (ℤ × ℤ)). stood ≡ o)) there c.see_in.ensures.stood
+    subst (λ (o : Option (ℤ × ℤ)). IfOk c.see_in.result (λ (previous : Option (ℤ × ℤ)). previous ≡ o)) there c.see_in.ensures.previous
 
 pub returns-clause-ok : goal.returns-clause-ok
 returns-clause-ok c =
@@ -36,13 +36,13 @@ returns-clause-ok c =
     let left = ap (λ (live : Live). live.left) c.self.view_is in
     let groups = ap (λ (live : Live). live.groups) c.self.view_is in
     let less : c.args.group < c.self.inside.room = omega (arith, ap length groups, length-groups_in m c.self.inside.room, c.requires) in
-    let stood = span_at m c.args.group c.args.key.now in
-    both_ok c.see_in.result (λ (put : IsPut m c.args.group c.args.key.now (Some (widened c.args.value stood)) n) (room : HaveSameRoom m n).
+    let previous = span_at m c.args.group c.args.key.now in
+    both_ok c.see_in.result (λ (put : IsPut m c.args.group c.args.key.now (Some (widened c.args.value previous)) n) (room : HaveSameRoom m n).
     let new =
-    seen-in m n c.self.inside.room c.args.group c.args.key.now c.args.value stood c.self.invariant refl less put
+    seen-in m n c.self.inside.room c.args.group c.args.key.now c.args.value previous c.self.invariant refl less put
     ∙ ap (λ gs. slice_set gs c.args.group (with_seen (group_at gs c.args.group) (c.args.key.now, c.args.value))) groups in
-    let roomy = same-roomy m n room ∙ ap (λ (live : Live). live.roomy) c.self.view_is in
-    λ i. record { left = left i; groups = new i; roomy = roomy i }) (simp to_z-of_z at c.see_in.ensures.ok) c.see_in.ensures.room
+    let reserved = same-reserved m n room ∙ ap (λ (live : Live). live.reserved) c.self.view_is in
+    λ i. record { left = left i; groups = new i; reserved = reserved i }) (simp to_z-of_z at c.see_in.ensures.ok) c.see_in.ensures.room
 
 pub returns-clause-only_new : goal.returns-clause-only_new
 returns-clause-only_new c =

@@ -4,13 +4,13 @@ use Rattle.std.specs.FinMap as fin
 use Rattle.far_types.specs.Keys.{line_cmp}
 use Rattle.far_extrema.specs.Live.{Live}
 use Rattle.far_extrema.specs.Holders.{holders_of, span_at, IsGroup}
-use Rattle.far_extrema.proofs.HolderLaws.{get-roomy, length-groups_in, put-group}
+use Rattle.far_extrema.proofs.HolderLaws.{get-reserved, length-groups_in, put-group}
 use Rattle.far_extrema.proofs.RoomLaws.{room-group, group-twice, own_test}
 use Rattle.far_extrema.proofs.live_extrema.LiveExtrema.set_group.Goals as goal
 
 pub fill_all-requires-clause-room : goal.fill_all-requires-clause-room
 fill_all-requires-clause-room c = λ q there none. c.requires.keys q (λ n. there (ap (λ e. fin.get e q) c.spans.ensures ∙ n))
-    (ap (λ (live : Live). fin.get live.roomy q) (sym c.self.view_is) ∙ get-roomy (holders_of c.self.inside.holders.entries) q ∙ sym (c.clear_in.ensures.room q) ∙ none)
+    (ap (λ (live : Live). fin.get live.reserved q) (sym c.self.view_is) ∙ get-reserved (holders_of c.self.inside.holders.entries) q ∙ sym (c.clear_in.ensures.room q) ∙ none)
 
 pub fill_all-requires-clause-new : goal.fill_all-requires-clause-new
 fill_all-requires-clause-new c = λ q.

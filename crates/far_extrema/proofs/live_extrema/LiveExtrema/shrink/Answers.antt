@@ -5,17 +5,17 @@ use Rattle.std.proofs.lemmas.Int.{to_z-of_z}
 use Rattle.far_extrema.specs.Live.{Live, group_at}
 use Rattle.far_extrema.specs.Spans.{put_span}
 use Rattle.far_extrema.specs.Holders.{holders_of}
-use Rattle.far_extrema.proofs.HolderLaws.{get-group_at, length-groups_in, put-in, room-put, same-roomy}
+use Rattle.far_extrema.proofs.HolderLaws.{get-group_at, length-groups_in, put-in, room-put, same-reserved}
 use Rattle.far_extrema.proofs.live_extrema.LiveExtrema.shrink.Goals as goal
 
-pub shrink_in-requires-clause-stood : goal.shrink_in-requires-clause-stood
-shrink_in-requires-clause-stood g c =
+pub shrink_in-requires-clause-previous : goal.shrink_in-requires-clause-previous
+shrink_in-requires-clause-previous g c =
     let fits = c.ranges.value in
     let m = holders_of c.self.inside.holders.entries in
-    let stood =
+    let previous =
     sym (ap (λ (live : Live). fin.get (group_at live.groups c.args.group) c.args.key.now) (sym c.self.view_is) ∙ get-group_at m c.self.inside.room c.args.group c.args.key.now c.self.invariant)
-    ∙ c.requires.stood in
-    grind (arith, to_z-of_z, stood)
+    ∙ c.requires.previous in
+    grind (arith, to_z-of_z, previous)
 
 pub invariant_of-self : goal.invariant_of-self
 invariant_of-self g c =
@@ -34,5 +34,5 @@ returns-clause-shrunk g c =
     let new =
     put-in m (holders_of c.shrink_in.new.holders.entries) c.self.inside.room c.args.group c.args.key.now o less c.shrink_in.ensures.spans
     ∙ ap (λ gs. slice_set gs c.args.group (put_span (group_at gs c.args.group) c.args.key.now o)) groups in
-    let roomy = same-roomy m (holders_of c.shrink_in.new.holders.entries) c.shrink_in.ensures.room ∙ ap (λ (live : Live). live.roomy) c.self.view_is in
-    λ i. record { left = left i; groups = new i; roomy = roomy i }
+    let reserved = same-reserved m (holders_of c.shrink_in.new.holders.entries) c.shrink_in.ensures.room ∙ ap (λ (live : Live). live.reserved) c.self.view_is in
+    λ i. record { left = left i; groups = new i; reserved = reserved i }

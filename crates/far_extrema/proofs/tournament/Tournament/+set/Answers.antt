@@ -39,7 +39,7 @@ result t c = elim c.match-self.branch [
       subst (λ (i : Inside). IsKept i.node × IsSet c.args.self.now.spans c.args.group c.args.span (seen i.node).spans) (sym w.self-inside-is) (
         (top-slot w.in-One.holder c.args.span, tt),
         subst (λ s. IsSet s c.args.group c.args.span (slotted w.in-One.holder (c.args.span ∷ []))) spans
-            (subst (λ g. IsSet (slotted w.in-One.holder (w.in-One.stood ∷ [])) g c.args.span (slotted w.in-One.holder (c.args.span ∷ []))) w.if-holder-group.false (set-slot w.in-One.holder w.in-One.stood c.args.span)),
+            (subst (λ g. IsSet (slotted w.in-One.holder (w.in-One.previous ∷ [])) g c.args.span (slotted w.in-One.holder (c.args.span ∷ []))) w.if-holder-group.false (set-slot w.in-One.holder w.in-One.previous c.args.span)),
       )
   | in-Few+else-not-covers w ↦
       let spans = ap (λ (s : Spread). s.spans) (sym (ap seen w.in-Few.is) ∙ c.self.view_is) in

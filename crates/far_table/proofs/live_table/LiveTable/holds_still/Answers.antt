@@ -7,7 +7,7 @@ use Rattle.far_types.specs.Bounds.{spec_refusal}
 use Rattle.far_types.specs.Table.{in_group}
 use Rattle.far_rows.specs.Rows.{Rows}
 use Rattle.far_aggregates.specs.Aggregates.{aggregate_in}
-use Rattle.far_aggregates.specs.Kept.{registered_of}
+use Rattle.far_aggregates.specs.Accumulators.{registered_of}
 use Rattle.far_table.specs.State.{IsChecked}
 use Rattle.far_table.specs.Live.{state_of}
 use Rattle.far_rows.specs.Copies.{copy_of}

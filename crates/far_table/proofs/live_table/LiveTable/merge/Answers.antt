@@ -3,7 +3,7 @@ use Rattle.far_types.specs.declared.limits.Limits.{Limits}
 use Rattle.far_types.specs.Table.{in_group}
 use Rattle.far_rows.specs.Rows.{Rows}
 use Rattle.far_rows.specs.Places.{places_in}
-use Rattle.far_aggregates.specs.Kept.{Keeps, registered_of}
+use Rattle.far_aggregates.specs.Accumulators.{Keeps, registered_of}
 use Rattle.far_table.specs.Offloading.{Build}
 use Rattle.far_table.specs.FarGroups.{places_there}
 use Rattle.far_table.proofs.LiveEdits.{kept-fit}

@@ -9,7 +9,7 @@ use Rattle.far_types.specs.Table.{groups, rows_of}
 use Rattle.far_rows.specs.Places.{places_in}
 use Rattle.far_rows.specs.Rows.{Rows, cells_of}
 use Rattle.far_aggregates.specs.Aggregates.{aggregate_in}
-use Rattle.far_aggregates.specs.Kept.{registered_of}
+use Rattle.far_aggregates.specs.Accumulators.{registered_of}
 use Rattle.far_table.specs.MixedGroups.{MayFold}
 use Rattle.far_table.specs.Recounting.{IsAnswerNow}
 use Rattle.far_table.specs.State.{State, IsChecked}

@@ -14,11 +14,11 @@ invariant_of-self g c =
     let e = c.in_err-pending.ensures in
     same-live t n c.self.inside.aggregates c.leave.new.self e.registered c.self.invariant (e.unchanged t.limits.group t.places c.self.invariant.kept)
 
-pub take_out-requires-clause-inside : goal.take_out-requires-clause-inside
-take_out-requires-clause-inside g c κs within = remove-inside c.self.inside.rows c.args.place c.in_ok-row.ensures.refused c.remove.new.self c.remove.ensures.made
+pub retract_row-requires-clause-inside : goal.retract_row-requires-clause-inside
+retract_row-requires-clause-inside g c κs within = remove-inside c.self.inside.rows c.args.place c.in_ok-row.ensures.refused c.remove.new.self c.remove.ensures.made
 
-pub take_out-requires-clause-here : goal.take_out-requires-clause-here
-take_out-requires-clause-here g c κs within =
+pub retract_row-requires-clause-here : goal.retract_row-requires-clause-here
+retract_row-requires-clause-here g c κs within =
     let old = c.self.inside.rows in
     let new = c.remove.new.self in
     let bounds = c.remove.ensures.made.limits in
@@ -26,11 +26,11 @@ take_out-requires-clause-here g c κs within =
     ∙ ap first_of (absents-cleared old.held _ new.held (c.args.place / old.limits.group) c.remove.ensures.held)
     ∙ remove-here old c.args.place c.in_ok-row.ensures.refused
 
-pub take_out-requires-clause-checked : goal.take_out-requires-clause-checked
-take_out-requires-clause-checked g c κs within = made-checked c.self.inside.rows c.remove.new.self (edit.Remove c.args.place) c.self.inside.registrations c.self.inside.aggregates c.leave.new.self c.remove.ensures.made c.in_ok-pending.ensures.registered c.self.invariant
+pub retract_row-requires-clause-checked : goal.retract_row-requires-clause-checked
+retract_row-requires-clause-checked g c κs within = made-checked c.self.inside.rows c.remove.new.self (edit.Remove c.args.place) c.self.inside.registrations c.self.inside.aggregates c.leave.new.self c.remove.ensures.made c.in_ok-pending.ensures.registered c.self.invariant
 
-pub take_out-requires-clause-goes : goal.take_out-requires-clause-goes
-take_out-requires-clause-goes g c κs within =
+pub retract_row-requires-clause-goes : goal.retract_row-requires-clause-goes
+retract_row-requires-clause-goes g c κs within =
     let old = c.self.inside.rows in
     let e = c.in_ok-pending.ensures in
     let row = remove-row old c.args.place c.in_ok-row.ensures.refused c.in_ok-row.row c.in_ok-row.ensures.row in
@@ -40,5 +40,5 @@ take_out-requires-clause-goes g c κs within =
 
 pub invariant_of-self-2 : goal.invariant_of-self-2
 invariant_of-self-2 g c =
-    made-live c.self.inside.rows c.remove.new.self (edit.Remove c.args.place) c.self.inside.registrations c.self.inside.aggregates c.take_out.new.aggregates c.remove.ensures.made
-    (c.take_out.ensures.registered ∙ c.in_ok-pending.ensures.registered) c.self.invariant c.take_out.ensures.kept
+    made-live c.self.inside.rows c.remove.new.self (edit.Remove c.args.place) c.self.inside.registrations c.self.inside.aggregates c.retract_row.new.aggregates c.remove.ensures.made
+    (c.retract_row.ensures.registered ∙ c.in_ok-pending.ensures.registered) c.self.invariant c.retract_row.ensures.kept

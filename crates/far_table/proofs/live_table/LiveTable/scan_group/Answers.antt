@@ -5,7 +5,7 @@ use Rattle.far_types.specs.Bounds.{spec_refusal}
 use Rattle.far_types.specs.Table.{in_group}
 use Rattle.far_rows.specs.Rows.{cells_of}
 use Rattle.far_aggregates.specs.Aggregates.{aggregate_in}
-use Rattle.far_aggregates.specs.Kept.{Keeps, registered_of}
+use Rattle.far_aggregates.specs.Accumulators.{Keeps, registered_of}
 use Rattle.far_aggregates.specs.Lending.{IsServed, SlotIsServed}
 use Rattle.far_table.specs.Groups.{GroupRows, has_column, places_here}
 use Rattle.far_table.specs.State.{IsChecked}

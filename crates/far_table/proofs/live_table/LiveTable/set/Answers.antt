@@ -2,7 +2,7 @@ use Rattle.std.proofs.Common.{◌∙◌, sym, subst, refl, arith, List}
 use Rattle.std.proofs.lemmas.Result.{err_from_is_err_and}
 use Rattle.far_types.specs.declared.edit.Edit.TheVariants as edit
 use Rattle.far_types.specs.Lent.{lent_cell}
-use Rattle.far_aggregates.specs.Kept.{Slot, Keeps, PlacesFit}
+use Rattle.far_aggregates.specs.Accumulators.{Slot, Keeps, PlacesFit}
 use Rattle.far_rows.specs.Setting.{cell_of}
 use Rattle.far_table.specs.State.{State}
 use Rattle.far_table.specs.TableRows.{TableRows}
@@ -56,21 +56,21 @@ invariant_of-self-in-Err g c =
     let n = c.self.inside.registrations in
     let slots = c.self.inside.aggregates in
     let e = c.in_ok-pending.ensures in
-    let kept = subst (λ (now : List Slot). Keeps t.limits.group t.places now) (sym c.back.ensures.back) (e.back.kept t.limits.group t.places c.self.invariant.kept) in
-    subst (λ (rows : TableRows g.row.S-Ticket.Denot). IsLive rows n c.back.new.self) (sym c.in-Err.ensures.err)
-    (same-live t n slots c.back.new.self (c.back.ensures.registered ∙ e.registered) c.self.invariant kept)
+    let kept = subst (λ (now : List Slot). Keeps t.limits.group t.places now) (sym c.undo.ensures.undo) (e.undo.kept t.limits.group t.places c.self.invariant.kept) in
+    subst (λ (rows : TableRows g.row.S-Ticket.Denot). IsLive rows n c.undo.new.self) (sym c.in-Err.ensures.err)
+    (same-live t n slots c.undo.new.self (c.undo.ensures.registered ∙ e.registered) c.self.invariant kept)
 
-pub take_out-requires-clause-inside : goal.take_out-requires-clause-inside
-take_out-requires-clause-inside g c κs within =
+pub retract_row-requires-clause-inside : goal.retract_row-requires-clause-inside
+retract_row-requires-clause-inside g c κs within =
     set-inside c.self.inside.rows c.set.new.self c.args.place c.args.column (cell_of c.in_ok-value.value) c.in_default-set.ensures.put.made
     (set-below c.self.inside.rows c.args.place c.args.column c.args.cell c.in_ok-value.ensures.refused)
 
-pub take_out-requires-clause-checked : goal.take_out-requires-clause-checked
-take_out-requires-clause-checked g c κs within =
+pub retract_row-requires-clause-checked : goal.retract_row-requires-clause-checked
+retract_row-requires-clause-checked g c κs within =
     made-checked c.self.inside.rows c.set.new.self (edit.Set c.args.place c.args.column (cell_of c.in_ok-value.value)) c.self.inside.registrations c.self.inside.aggregates c.change_in.new.self c.in_default-set.ensures.put.made c.in_ok-pending.ensures.registered c.self.invariant
 
-pub take_out-requires-clause-goes : goal.take_out-requires-clause-goes
-take_out-requires-clause-goes g c κs within =
+pub retract_row-requires-clause-goes : goal.retract_row-requires-clause-goes
+retract_row-requires-clause-goes g c κs within =
     let old = c.self.inside.rows in
     let new = c.set.new.self in
     let e = c.in_ok-pending.ensures in
@@ -82,12 +82,12 @@ take_out-requires-clause-goes g c κs within =
 
 pub invariant_of-self-2 : goal.invariant_of-self-2
 invariant_of-self-2 g c =
-    made-live c.self.inside.rows c.set.new.self (edit.Set c.args.place c.args.column (cell_of c.in_ok-value.value)) c.self.inside.registrations c.self.inside.aggregates c.take_out.new.aggregates c.in_default-set.ensures.put.made
-    (c.take_out.ensures.registered ∙ c.in_ok-pending.ensures.registered) c.self.invariant c.take_out.ensures.kept
+    made-live c.self.inside.rows c.set.new.self (edit.Set c.args.place c.args.column (cell_of c.in_ok-value.value)) c.self.inside.registrations c.self.inside.aggregates c.retract_row.new.aggregates c.in_default-set.ensures.put.made
+    (c.retract_row.ensures.registered ∙ c.in_ok-pending.ensures.registered) c.self.invariant c.retract_row.ensures.kept
 
 pub returns-clause-ok : goal.returns-clause-ok
 returns-clause-ok g c =
     let n = c.self.inside.registrations in
     let content = g.S.FarTickets.content in
-    subst (λ (s : State g.row.S-Ticket.Denot). IsEdited content s (edit.Set c.args.place c.args.column c.args.cell) (state_of c.set.new.self n c.take_out.new.aggregates)) c.self.view_is
-    (put c.self.inside.rows c.set.new.self c.args.place c.args.column content c.args.cell c.in_ok-value.value n c.self.inside.aggregates c.take_out.new.aggregates c.in_ok-value.ensures.cell c.in_ok-value.ensures.free.of_kind c.in_default-set.ensures.put c.in_ok-value.ensures.refused (c.take_out.ensures.registered ∙ c.in_ok-pending.ensures.registered))
+    subst (λ (s : State g.row.S-Ticket.Denot). IsEdited content s (edit.Set c.args.place c.args.column c.args.cell) (state_of c.set.new.self n c.retract_row.new.aggregates)) c.self.view_is
+    (put c.self.inside.rows c.set.new.self c.args.place c.args.column content c.args.cell c.in_ok-value.value n c.self.inside.aggregates c.retract_row.new.aggregates c.in_ok-value.ensures.cell c.in_ok-value.ensures.free.of_kind c.in_default-set.ensures.put c.in_ok-value.ensures.refused (c.retract_row.ensures.registered ∙ c.in_ok-pending.ensures.registered))

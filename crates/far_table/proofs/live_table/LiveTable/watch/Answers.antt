@@ -4,7 +4,7 @@ use Rattle.far_types.specs.declared.cell.Kind.{Kind}
 use Rattle.far_types.specs.declared.limits.Limits.{Limits}
 use Rattle.far_types.specs.Bounds.{spec_refusal}
 use Rattle.far_types.specs.Table.{Registered, groups}
-use Rattle.far_aggregates.specs.Kept.{Slot, Keeps, registered_of}
+use Rattle.far_aggregates.specs.Accumulators.{Slot, Keeps, registered_of}
 use Rattle.far_table.specs.Live.{state_of}
 use Rattle.far_table.specs.State.{State, AreChecked}
 use Rattle.far_table.specs.Watching.{lowest_free, registered_at, watch_refusal}

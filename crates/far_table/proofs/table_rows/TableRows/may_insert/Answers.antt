@@ -31,7 +31,7 @@ returns-in_err-row_faults-clause-refused g c =
     let places = places_in content inside.rows in
     let count = length-places (cells_of content inside.rows) inside.rows.alive ∙ sym c.len-len.ensures.len in
     let e = edit.Insert c.args.row in
-    let table = rows_in content inside.schema inside.limits inside.rows inside.coming inside.edits in
+    let table = rows_in content inside.schema inside.limits inside.rows inside.new_row inside.edits in
     let told = refused-first (edit_faults inside.schema inside.limits places e) (obstacles (asked table) e) c.in_err-row_faults.field-0.0 (sym (c.in_err-row_faults.ensures places count)) in
     rw (p.1, p.2) (sym told ∙ ap (λ (t : TableRows g.row.S-Ticket.Denot). edit_due (asked t) e) c.self.view_is)
 
@@ -78,10 +78,10 @@ returns-in_err-may_push-clause-refused g c =
     let places = places_in content inside.rows in
     let count = length-places (cells_of content inside.rows) inside.rows.alive ∙ sym c.len-len.ensures.len in
     let free = sym (c.in_ok-row_faults.ensures places count) in
-    let coming = c.fill.new.self in
-    let row : row_of inside.rows.slots coming ≡ c.args.row = ap (λ (slots : List Slot). row_of slots coming) (sym c.slots.ensures) ∙ c.fill.ensures.row in
-    let kept = taken-kept content g.S.FarTickets.is_of inside.schema inside.limits inside.rows inside.coming inside.edits c.self.invariant coming c.fill.ensures.numbers c.fill.ensures.texts (subst RowFits (sym row) c.as_slice-cells.ensures.fit) in
-    let due = insert-due content inside.schema inside.limits inside.rows coming inside.edits kept c.args.row row free in
+    let new_row = c.fill.new.self in
+    let row : row_of inside.rows.slots new_row ≡ c.args.row = ap (λ (slots : List Slot). row_of slots new_row) (sym c.slots.ensures) ∙ c.fill.ensures.row in
+    let kept = taken-kept content g.S.FarTickets.is_of inside.schema inside.limits inside.rows inside.new_row inside.edits c.self.invariant new_row c.fill.ensures.numbers c.fill.ensures.texts (subst RowFits (sym row) c.as_slice-cells.ensures.fit) in
+    let due = insert-due content inside.schema inside.limits inside.rows new_row inside.edits kept c.args.row row free in
     let last = first_of ((inside.edits == inside.limits.edits, refusal.EditsUsedUp) ∷ []) in
     let seen = ap (λ (t : TableRows g.row.S-Ticket.Denot). edit_due (asked t) (edit.Insert c.args.row)) c.self.view_is in
     rw (p.1, p.2) (ap (λ o. option_or o last) (c.in_err-may_push.ensures.plain inside.limits c.self.invariant.laid) ∙ due ∙ seen)
@@ -93,10 +93,10 @@ returns-clause-refused g c =
     let places = places_in content inside.rows in
     let count = length-places (cells_of content inside.rows) inside.rows.alive ∙ sym c.len-len.ensures.len in
     let free = sym (c.in_ok-row_faults.ensures places count) in
-    let coming = c.fill.new.self in
-    let row : row_of inside.rows.slots coming ≡ c.args.row = ap (λ (slots : List Slot). row_of slots coming) (sym c.slots.ensures) ∙ c.fill.ensures.row in
-    let kept = taken-kept content g.S.FarTickets.is_of inside.schema inside.limits inside.rows inside.coming inside.edits c.self.invariant coming c.fill.ensures.numbers c.fill.ensures.texts (subst RowFits (sym row) c.as_slice-cells.ensures.fit) in
-    let due = insert-due content inside.schema inside.limits inside.rows coming inside.edits kept c.args.row row free in
+    let new_row = c.fill.new.self in
+    let row : row_of inside.rows.slots new_row ≡ c.args.row = ap (λ (slots : List Slot). row_of slots new_row) (sym c.slots.ensures) ∙ c.fill.ensures.row in
+    let kept = taken-kept content g.S.FarTickets.is_of inside.schema inside.limits inside.rows inside.new_row inside.edits c.self.invariant new_row c.fill.ensures.numbers c.fill.ensures.texts (subst RowFits (sym row) c.as_slice-cells.ensures.fit) in
+    let due = insert-due content inside.schema inside.limits inside.rows new_row inside.edits kept c.args.row row free in
     let last = first_of ((inside.edits == inside.limits.edits, refusal.EditsUsedUp) ∷ []) in
     let seen = ap (λ (t : TableRows g.row.S-Ticket.Denot). edit_due (asked t) (edit.Insert c.args.row)) c.self.view_is in
     c.may_count.ensures ∙ ap (λ o. option_or o last) (c.in_ok-may_push.ensures.plain inside.limits c.self.invariant.laid) ∙ due ∙ seen
@@ -108,12 +108,12 @@ returns-clause-free g c =
     let places = places_in content inside.rows in
     let count = length-places (cells_of content inside.rows) inside.rows.alive ∙ sym c.len-len.ensures.len in
     let free = sym (c.in_ok-row_faults.ensures places count) in
-    let coming = c.fill.new.self in
-    let row : row_of inside.rows.slots coming ≡ c.args.row = ap (λ (slots : List Slot). row_of slots coming) (sym c.slots.ensures) ∙ c.fill.ensures.row in
-    let kept = taken-kept content g.S.FarTickets.is_of inside.schema inside.limits inside.rows inside.coming inside.edits c.self.invariant coming c.fill.ensures.numbers c.fill.ensures.texts (subst RowFits (sym row) c.as_slice-cells.ensures.fit) in
-    let due = insert-due content inside.schema inside.limits inside.rows coming inside.edits kept c.args.row row free in
+    let new_row = c.fill.new.self in
+    let row : row_of inside.rows.slots new_row ≡ c.args.row = ap (λ (slots : List Slot). row_of slots new_row) (sym c.slots.ensures) ∙ c.fill.ensures.row in
+    let kept = taken-kept content g.S.FarTickets.is_of inside.schema inside.limits inside.rows inside.new_row inside.edits c.self.invariant new_row c.fill.ensures.numbers c.fill.ensures.texts (subst RowFits (sym row) c.as_slice-cells.ensures.fit) in
+    let due = insert-due content inside.schema inside.limits inside.rows new_row inside.edits kept c.args.row row free in
     let last = first_of ((inside.edits == inside.limits.edits, refusal.EditsUsedUp) ∷ []) in
-    let table = rows_in content inside.schema inside.limits inside.rows coming inside.edits in
+    let table = rows_in content inside.schema inside.limits inside.rows new_row inside.edits in
     on-ok c.may_count.result (edit_due (asked table) (edit.Insert c.args.row))
     (c.may_count.ensures ∙ ap (λ o. option_or o last) (c.in_ok-may_push.ensures.plain inside.limits c.self.invariant.laid) ∙ due)
     (λ none. record {

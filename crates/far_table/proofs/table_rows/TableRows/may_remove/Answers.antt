@@ -21,7 +21,7 @@ returns-in_err-row-clause-refused g c =
     let free : first_of (edit_faults now.schema now.limits now.places e) ≡ None = sym (c.in_ok-living.ensures (slice_get now.places c.args.place) (sym c.is_alive.ensures)) in
     let last = first_of ((now.edits == now.limits.edits, refusal.EditsUsedUp) ∷ []) in
     let due = subst (λ (t : TableRows g.row.S-Ticket.Denot). first_of (edit_faults t.schema t.limits t.places e) ≡ None → option_or (first_of (absents t.held (c.args.place / t.limits.group))) (first_of ((t.edits == t.limits.edits, refusal.EditsUsedUp) ∷ [])) ≡ edit_due (asked t) e) c.self.view_is
-    (remove-due g.S.FarTickets.content inside.schema inside.limits inside.rows inside.coming inside.edits c.self.invariant c.args.place) free in
+    (remove-due g.S.FarTickets.content inside.schema inside.limits inside.rows inside.new_row inside.edits c.self.invariant c.args.place) free in
     rw (p.1, p.2) (ap (λ o. option_or o last) c.in_err-row.ensures.refused ∙ due)
 
 pub returns-in_err-may_count-clause-refused : goal.returns-in_err-may_count-clause-refused
@@ -33,7 +33,7 @@ returns-in_err-may_count-clause-refused g c =
     let free : first_of (edit_faults now.schema now.limits now.places e) ≡ None = sym (c.in_ok-living.ensures (slice_get now.places c.args.place) (sym c.is_alive.ensures)) in
     let last = first_of ((now.edits == now.limits.edits, refusal.EditsUsedUp) ∷ []) in
     let due = subst (λ (t : TableRows g.row.S-Ticket.Denot). first_of (edit_faults t.schema t.limits t.places e) ≡ None → option_or (first_of (absents t.held (c.args.place / t.limits.group))) (first_of ((t.edits == t.limits.edits, refusal.EditsUsedUp) ∷ [])) ≡ edit_due (asked t) e) c.self.view_is
-    (remove-due g.S.FarTickets.content inside.schema inside.limits inside.rows inside.coming inside.edits c.self.invariant c.args.place) free in
+    (remove-due g.S.FarTickets.content inside.schema inside.limits inside.rows inside.new_row inside.edits c.self.invariant c.args.place) free in
     rw (p.1, p.2) (c.in_err-may_count.ensures ∙ ap (λ o. option_or o last) c.in_ok-row.ensures.refused ∙ due)
 
 pub returns-clause-refused : goal.returns-clause-refused
@@ -44,5 +44,5 @@ returns-clause-refused g c =
     let free : first_of (edit_faults now.schema now.limits now.places e) ≡ None = sym (c.in_ok-living.ensures (slice_get now.places c.args.place) (sym c.is_alive.ensures)) in
     let last = first_of ((now.edits == now.limits.edits, refusal.EditsUsedUp) ∷ []) in
     let due = subst (λ (t : TableRows g.row.S-Ticket.Denot). first_of (edit_faults t.schema t.limits t.places e) ≡ None → option_or (first_of (absents t.held (c.args.place / t.limits.group))) (first_of ((t.edits == t.limits.edits, refusal.EditsUsedUp) ∷ [])) ≡ edit_due (asked t) e) c.self.view_is
-    (remove-due g.S.FarTickets.content inside.schema inside.limits inside.rows inside.coming inside.edits c.self.invariant c.args.place) free in
+    (remove-due g.S.FarTickets.content inside.schema inside.limits inside.rows inside.new_row inside.edits c.self.invariant c.args.place) free in
     c.in_ok-may_count.ensures ∙ ap (λ o. option_or o last) c.in_ok-row.ensures.refused ∙ due

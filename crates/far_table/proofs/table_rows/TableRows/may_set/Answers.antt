@@ -29,7 +29,7 @@ returns-in_err-cell_faults-clause-refused g c =
     let places = places_in content inside.rows in
     let alive = ap (λ (t : TableRows g.row.S-Ticket.Denot). option_map (λ (p : Place). p.alive) (slice_get t.places c.args.place)) c.self.view_is ∙ sym c.is_alive.ensures in
     let e = edit.Set c.args.place c.args.column c.args.cell in
-    let table = rows_in content inside.schema inside.limits inside.rows inside.coming inside.edits in
+    let table = rows_in content inside.schema inside.limits inside.rows inside.new_row inside.edits in
     let told = refused-first (edit_faults inside.schema inside.limits places e) (obstacles (asked table) e) c.in_err-cell_faults.field-0.0 (sym (c.in_err-cell_faults.ensures inside.limits places c.args.place alive)) in
     rw (p.1, p.2) (sym told ∙ ap (λ (t : TableRows g.row.S-Ticket.Denot). edit_due (asked t) e) c.self.view_is)
 
@@ -92,7 +92,7 @@ returns-in_err-may_set-clause-refused g c =
     let kind : option_map kind_of (slice_get inside.rows.slots c.args.column) ≡ Some c.in-Some.kind = sym (slice_get-map kind_of inside.rows.slots c.args.column) ∙ ap (λ (kinds : List Kind). slice_get kinds c.args.column) c.self.invariant.kinds ∙ sym c.in-Some.ensures in
     let s = slot-of (slice_get inside.rows.slots c.args.column) c.in-Some.kind kind in
     let below = place-below (cells_of content inside.rows) inside.rows.alive c.args.place right.place in
-    let due = set-due content inside.schema inside.limits inside.rows inside.coming inside.edits c.self.invariant c.len-len.ensures.rows c.args.column c.args.place c.new-value.result s.0 s.1 below c.args.cell c.new-value.ensures.cell free in
+    let due = set-due content inside.schema inside.limits inside.rows inside.new_row inside.edits c.self.invariant c.len-len.ensures.rows c.args.column c.args.place c.new-value.result s.0 s.1 below c.args.cell c.new-value.ensures.cell free in
     let last = first_of ((inside.edits == inside.limits.edits, refusal.EditsUsedUp) ∷ []) in
     let seen = ap (λ (t : TableRows g.row.S-Ticket.Denot). edit_due (asked t) (edit.Set c.args.place c.args.column c.args.cell)) c.self.view_is in
     rw (p.1, p.2) (ap (λ o. option_or o last) (c.in_err-may_set.ensures.plain inside.limits c.self.invariant.laid) ∙ due ∙ seen)
@@ -109,7 +109,7 @@ returns-in_err-may_count-clause-refused g c =
     let kind : option_map kind_of (slice_get inside.rows.slots c.args.column) ≡ Some c.in-Some.kind = sym (slice_get-map kind_of inside.rows.slots c.args.column) ∙ ap (λ (kinds : List Kind). slice_get kinds c.args.column) c.self.invariant.kinds ∙ sym c.in-Some.ensures in
     let s = slot-of (slice_get inside.rows.slots c.args.column) c.in-Some.kind kind in
     let below = place-below (cells_of content inside.rows) inside.rows.alive c.args.place right.place in
-    let due = set-due content inside.schema inside.limits inside.rows inside.coming inside.edits c.self.invariant c.len-len.ensures.rows c.args.column c.args.place c.new-value.result s.0 s.1 below c.args.cell c.new-value.ensures.cell free in
+    let due = set-due content inside.schema inside.limits inside.rows inside.new_row inside.edits c.self.invariant c.len-len.ensures.rows c.args.column c.args.place c.new-value.result s.0 s.1 below c.args.cell c.new-value.ensures.cell free in
     let last = first_of ((inside.edits == inside.limits.edits, refusal.EditsUsedUp) ∷ []) in
     let seen = ap (λ (t : TableRows g.row.S-Ticket.Denot). edit_due (asked t) (edit.Set c.args.place c.args.column c.args.cell)) c.self.view_is in
     let used = sym (ap (λ (t : TableRows g.row.S-Ticket.Denot). first_of ((t.edits == t.limits.edits, refusal.EditsUsedUp) ∷ [])) c.self.view_is) in
@@ -126,7 +126,7 @@ returns-clause-refused g c =
     let kind : option_map kind_of (slice_get inside.rows.slots c.args.column) ≡ Some c.in-Some.kind = sym (slice_get-map kind_of inside.rows.slots c.args.column) ∙ ap (λ (kinds : List Kind). slice_get kinds c.args.column) c.self.invariant.kinds ∙ sym c.in-Some.ensures in
     let s = slot-of (slice_get inside.rows.slots c.args.column) c.in-Some.kind kind in
     let below = place-below (cells_of content inside.rows) inside.rows.alive c.args.place right.place in
-    let due = set-due content inside.schema inside.limits inside.rows inside.coming inside.edits c.self.invariant c.len-len.ensures.rows c.args.column c.args.place c.new-value.result s.0 s.1 below c.args.cell c.new-value.ensures.cell free in
+    let due = set-due content inside.schema inside.limits inside.rows inside.new_row inside.edits c.self.invariant c.len-len.ensures.rows c.args.column c.args.place c.new-value.result s.0 s.1 below c.args.cell c.new-value.ensures.cell free in
     let last = first_of ((inside.edits == inside.limits.edits, refusal.EditsUsedUp) ∷ []) in
     let seen = ap (λ (t : TableRows g.row.S-Ticket.Denot). edit_due (asked t) (edit.Set c.args.place c.args.column c.args.cell)) c.self.view_is in
     let used = sym (ap (λ (t : TableRows g.row.S-Ticket.Denot). first_of ((t.edits == t.limits.edits, refusal.EditsUsedUp) ∷ [])) c.self.view_is) in
@@ -143,10 +143,10 @@ returns-clause-free g c =
     let kind : option_map kind_of (slice_get inside.rows.slots c.args.column) ≡ Some c.in-Some.kind = sym (slice_get-map kind_of inside.rows.slots c.args.column) ∙ ap (λ (kinds : List Kind). slice_get kinds c.args.column) c.self.invariant.kinds ∙ sym c.in-Some.ensures in
     let s = slot-of (slice_get inside.rows.slots c.args.column) c.in-Some.kind kind in
     let below = place-below (cells_of content inside.rows) inside.rows.alive c.args.place right.place in
-    let due = set-due content inside.schema inside.limits inside.rows inside.coming inside.edits c.self.invariant c.len-len.ensures.rows c.args.column c.args.place c.new-value.result s.0 s.1 below c.args.cell c.new-value.ensures.cell free in
+    let due = set-due content inside.schema inside.limits inside.rows inside.new_row inside.edits c.self.invariant c.len-len.ensures.rows c.args.column c.args.place c.new-value.result s.0 s.1 below c.args.cell c.new-value.ensures.cell free in
     let last = first_of ((inside.edits == inside.limits.edits, refusal.EditsUsedUp) ∷ []) in
     let used = sym (ap (λ (t : TableRows g.row.S-Ticket.Denot). first_of ((t.edits == t.limits.edits, refusal.EditsUsedUp) ∷ [])) c.self.view_is) in
-    let table = rows_in content inside.schema inside.limits inside.rows inside.coming inside.edits in
+    let table = rows_in content inside.schema inside.limits inside.rows inside.new_row inside.edits in
     let none = c.in_ok-may_count.ensures ∙ used ∙ ap (λ o. option_or o last) (c.in_ok-may_set.ensures.plain inside.limits c.self.invariant.laid) ∙ due in
     subst (λ (t : TableRows g.row.S-Ticket.Denot). MayPut content t c.args.column c.args.place c.new-value.result) c.self.view_is
     record {

@@ -6,10 +6,10 @@ pub invariant_of-self : goal.invariant_of-self
 invariant_of-self g c =
     let inside = c.self.inside in
     let e = c.pin.ensures in
-    moved-kept g.S.FarTickets.content inside.schema inside.limits inside.rows inside.coming inside.edits c.args.self.now c.self.view_is c.pin.result c.pin.new.self (IsPinned c.args.column c.args.group) e.pinned e.err e.kept.cells (pinned-still inside.rows c.pin.new.self c.args.column c.args.group) c.self.invariant
+    moved-kept g.S.FarTickets.content inside.schema inside.limits inside.rows inside.new_row inside.edits c.args.self.now c.self.view_is c.pin.result c.pin.new.self (IsPinned c.args.column c.args.group) e.pinned e.err e.kept.cells (pinned-still inside.rows c.pin.new.self c.args.column c.args.group) c.self.invariant
 
 pub returns-clause-pinned : goal.returns-clause-pinned
 returns-clause-pinned g c =
     let inside = c.self.inside in
     let e = c.pin.ensures in
-    moved-rows g.S.FarTickets.content inside.schema inside.limits inside.rows inside.coming inside.edits c.args.self.now c.self.view_is c.pin.result c.pin.new.self (IsPinned c.args.column c.args.group) e.pinned e.err e.kept.cells (pinned-still inside.rows c.pin.new.self c.args.column c.args.group)
+    moved-rows g.S.FarTickets.content inside.schema inside.limits inside.rows inside.new_row inside.edits c.args.self.now c.self.view_is c.pin.result c.pin.new.self (IsPinned c.args.column c.args.group) e.pinned e.err e.kept.cells (pinned-still inside.rows c.pin.new.self c.args.column c.args.group)

@@ -13,7 +13,7 @@ clear-requires-after_bounds g c κs within =
     let content = g.S.FarTickets.content in
     let inside = c.self.inside in
     let e = edit.Remove c.args.place in
-    let table = rows_in content inside.schema inside.limits inside.rows inside.coming inside.edits in
+    let table = rows_in content inside.schema inside.limits inside.rows inside.new_row inside.edits in
     let due : edit_due (asked table) e ≡ None = subst (λ (t : TableRows g.row.S-Ticket.Denot). edit_due (asked t) e ≡ None) (sym c.self.view_is) c.requires in
     place-below (cells_of content inside.rows) inside.rows.alive c.args.place (remove-right inside.schema inside.limits table.places c.args.place (faultless (asked table) e due))
 
@@ -22,8 +22,8 @@ invariant_of-self g c =
     let content = g.S.FarTickets.content in
     let inside = c.self.inside in
     let e = edit.Remove c.args.place in
-    let table = rows_in content inside.schema inside.limits inside.rows inside.coming inside.edits in
+    let table = rows_in content inside.schema inside.limits inside.rows inside.new_row inside.edits in
     let due : edit_due (asked table) e ≡ None = subst (λ (t : TableRows g.row.S-Ticket.Denot). edit_due (asked t) e ≡ None) (sym c.self.view_is) c.requires in
     let is = c.clear.ensures.cleared in
-    subst (λ (rows : Rows g.row.S-Ticket.Denot). AreKept content inside.schema inside.limits rows inside.coming (inside.edits + 1)) (sym is)
-    (cleared-kept content g.S.FarTickets.is_of inside.schema inside.limits inside.rows inside.coming inside.edits c.self.invariant (edits-left (asked table) e due) c.args.place (ap (places_in content) (sym is) ∙ c.clear.ensures.places))
+    subst (λ (rows : Rows g.row.S-Ticket.Denot). AreKept content inside.schema inside.limits rows inside.new_row (inside.edits + 1)) (sym is)
+    (cleared-kept content g.S.FarTickets.is_of inside.schema inside.limits inside.rows inside.new_row inside.edits c.self.invariant (edits-left (asked table) e due) c.args.place (ap (places_in content) (sym is) ∙ c.clear.ensures.places))

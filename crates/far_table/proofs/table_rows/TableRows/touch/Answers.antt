@@ -6,10 +6,10 @@ pub invariant_of-self : goal.invariant_of-self
 invariant_of-self g c =
     let inside = c.self.inside in
     let e = c.touch.ensures in
-    moved-kept g.S.FarTickets.content inside.schema inside.limits inside.rows inside.coming inside.edits c.args.self.now c.self.view_is c.touch.result c.touch.new.self (IsTouched c.args.column c.args.group) e.touched e.err e.kept.cells (touched-still inside.rows c.touch.new.self c.args.column c.args.group) c.self.invariant
+    moved-kept g.S.FarTickets.content inside.schema inside.limits inside.rows inside.new_row inside.edits c.args.self.now c.self.view_is c.touch.result c.touch.new.self (IsTouched c.args.column c.args.group) e.touched e.err e.kept.cells (touched-still inside.rows c.touch.new.self c.args.column c.args.group) c.self.invariant
 
 pub returns-clause-touched : goal.returns-clause-touched
 returns-clause-touched g c =
     let inside = c.self.inside in
     let e = c.touch.ensures in
-    moved-rows g.S.FarTickets.content inside.schema inside.limits inside.rows inside.coming inside.edits c.args.self.now c.self.view_is c.touch.result c.touch.new.self (IsTouched c.args.column c.args.group) e.touched e.err e.kept.cells (touched-still inside.rows c.touch.new.self c.args.column c.args.group)
+    moved-rows g.S.FarTickets.content inside.schema inside.limits inside.rows inside.new_row inside.edits c.args.self.now c.self.view_is c.touch.result c.touch.new.self (IsTouched c.args.column c.args.group) e.touched e.err e.kept.cells (touched-still inside.rows c.touch.new.self c.args.column c.args.group)

@@ -1,0 +1,187 @@
+-- A delta that was applied to an aggregate can be undone, and then the aggregate is as it was.
+use Rattle.std.proofs.Common.{◌≡◌, ◌≢◌, ℕ, zero, suc, ◌<◌, ◌/◌, List, [], ◌∷◌, length, map, take, refl, sym, ap, ◌∙◌, subst, arith, Option, None, Some, slice_get, slice_set}
+use Rattle.std.specs.Prelude.{ℤ, option_map}
+use Rattle.std.specs.FinMap as fin
+use Rattle.std.proofs.lemmas.List.{get_or-set_same, length-map, length-take-le, take-map, take_all}
+use Rattle.far_types.specs.Answers.{Totals, Extrema, totals}
+use Rattle.far_types.specs.Changes.{count_in, with_pair, without_pair, with_seen, widened}
+use Rattle.far_types.specs.Pairs.{Pair}
+use Rattle.far_types.proofs.ByKeyMaps.{get_inserted}
+use Rattle.far_types.proofs.TotalLaws.{totals-cons, without_pair-totals}
+use Rattle.far_extrema.specs.Live.{group_at}
+use Rattle.far_extrema.specs.Spans.{put_span}
+use Rattle.far_extrema.proofs.GoneLaws.{seen-undo}
+use Rattle.far_groups.specs.Live.{CanTake}
+use Rattle.far_aggregates.specs.declared.aggregate.Aggregate.{Aggregate}
+use Rattle.far_aggregates.specs.declared.aggregate.Accumulator.{Accumulator}
+use Rattle.far_aggregates.specs.declared.aggregate.Accumulator.TheVariants as accumulator
+use Rattle.far_aggregates.specs.declared.deltas.Delta.{Delta}
+use Rattle.far_aggregates.specs.Accumulators.{Slot, Change}
+use Rattle.far_aggregates.specs.Pairs.{Gives, change_of, AccumulatorFolds, Folds, EachFolds}
+use Rattle.far_aggregates.specs.Deltas.{delta_of, row_delta, delta_in, accumulator_more, added, accumulator_undo, undo, AccumulatorMayAdd, AccumulatorMayUndo, MayUndo, EachMayUndo, AccumulatorFits, Fits, EachFits}
+use Rattle.far_aggregates.specs.Reserve.{AccumulatorHasRoom, HasRoom, HaveRoom}
+use Rattle.far_aggregates.specs.Until.{zip_until, zip_all}
+use Rattle.far_aggregates.proofs.CountLaws.{few_under, can_take}
+use Rattle.far_aggregates.proofs.ListLaws.{set-again, set-own, length-written, length-zip_all, get-take}
+use Rattle.far_aggregates.proofs.UntilLaws.{zip_until-take, zip_until-below, zip_until-undo, zip_until-all}
+
+pub kept-may_add : (g : ℕ) (k : Accumulator) (c : Delta) → AccumulatorFits g k c → AccumulatorMayAdd g k c.pair
+kept-may_add g (accumulator.Totals live) c h =
+    let is : count_in (fin.get live.totals c.pair.0) ≡ count_in (fin.get (totals h.0) c.pair.0) = ap (λ m. count_in (fin.get m c.pair.0)) h.1 in
+    let few = few_under h.0 c.pair.0 in
+    let most = h.3 in
+    omega arith
+kept-may_add g (accumulator.Extrema live) c h = h.0
+
+some_not : {A : Type 0} (x : A) (o : Option A) → o ≡ Some x → o ≢ None
+some_not x None h e = cc
+some_not x (Some y) h e = cc
+
+-- what was seen in a row group is there
+seen-there : (g : ℕ) (gs : List Extrema) (p : Pair) → g < length gs → fin.get (group_at (slice_set gs g (with_seen (group_at gs g) p)) g) p.0 ≢ None
+seen-there g gs p l =
+    let m = group_at gs g in
+    some_not (widened p.1 (fin.get m p.0)) _ (ap (λ n. fin.get n p.0) (get_or-set_same gs g (with_seen m p) fin.empty l) ∙ get_inserted m p.0 (widened p.1 (fin.get m p.0)))
+
+-- and goes again
+seen-undone : (g : ℕ) (gs : List Extrema) (p : Pair) (o : Option (ℤ × ℤ)) → g < length gs → o ≡ fin.get (group_at gs g) p.0
+    → slice_set (slice_set gs g (with_seen (group_at gs g) p)) g (put_span (group_at (slice_set gs g (with_seen (group_at gs g) p)) g) p.0 o) ≡ gs
+seen-undone g gs p o l h =
+    let m = group_at gs g in
+    set-again gs g (with_seen m p) (put_span (group_at (slice_set gs g (with_seen m p)) g) p.0 o)
+    ∙ ap (λ n. slice_set gs g (put_span n p.0 o)) (get_or-set_same gs g (with_seen m p) fin.empty l)
+    ∙ ap (λ s. slice_set gs g (put_span (with_seen m p) p.0 s)) h
+    ∙ ap (slice_set gs g) (seen-undo m p)
+    ∙ set-own gs g fin.empty
+
+kept-may_undo : (g : ℕ) (k : Accumulator) (c : Delta) → AccumulatorFits g k c → AccumulatorMayUndo g (accumulator_more g k c.pair) c.pair
+kept-may_undo g (accumulator.Totals live) c h = subst (λ m. CanTake c.pair.1 (fin.get m c.pair.0)) (totals-cons c.pair h.0 ∙ ap (λ m. with_pair m c.pair) (sym h.1)) (can_take c.pair h.0 h.2)
+kept-may_undo g (accumulator.Extrema live) c h =
+    let same = length-written live.groups g (with_seen (group_at live.groups g) c.pair) in
+    let room = h.0 in
+    (omega arith, seen-there g live.groups c.pair h.0)
+
+undone : (m : Totals) (p : Pair) (ps : List Pair) → m ≡ totals ps → without_pair (with_pair m p) p ≡ m
+undone m p ps h = ap (λ t. without_pair (with_pair t p) p) h ∙ ap (λ t. without_pair t p) (sym (totals-cons p ps)) ∙ without_pair-totals p ps ∙ sym h
+
+kept-undo : (g : ℕ) (k : Accumulator) (c : Delta) → AccumulatorFits g k c → accumulator_undo g (accumulator_more g k c.pair) c ≡ k
+kept-undo g (accumulator.Totals live) c h = ap (λ t. accumulator.Totals (record { left = live.left; totals = t })) (undone live.totals c.pair h.0 h.1)
+kept-undo g (accumulator.Extrema live) c h = ap (λ gs. accumulator.Extrema (record live { groups = gs })) (seen-undone g live.groups c.pair c.previous h.0 h.1)
+
+fits-may_undo : (g : ℕ) (s : Slot) (c : Option Delta) → Fits g s c → MayUndo g (added g s c) c
+fits-may_undo g None c h = tt
+fits-may_undo g (Some a) None h = tt
+fits-may_undo g (Some a) (Some c) h = kept-may_undo g a.accumulator c h
+
+pub fits-undo : (g : ℕ) (s : Slot) (c : Option Delta) → Fits g s c → undo g (added g s c) c ≡ s
+fits-undo g None c h = refl
+fits-undo g (Some a) None h = refl
+fits-undo g (Some a) (Some c) h = ap (λ k. Some (record a { accumulator = k })) (kept-undo g a.accumulator c h)
+
+same_some : {A : Type 0} (x y : A) → Some x ≡ Some y → x ≡ y
+same_some x y e = cc
+
+slot_below : (g n k : ℕ) (slots : List Slot) (deltas : List (Option Delta)) (s : Slot) → slice_get (zip_until (added g) n slots deltas) k ≡ Some s → (t : Slot) × (slice_get slots k ≡ Some t)
+slot_below g zero k slots deltas s h = (s, h)
+slot_below g (suc n) k [] deltas s h = (s, h)
+slot_below g (suc n) k (t ∷ slots) [] s h = (s, h)
+slot_below g (suc n) zero (t ∷ slots) (c ∷ deltas) s h = (t, refl)
+slot_below g (suc n) (suc k) (t ∷ slots) (c ∷ deltas) s h = slot_below g n k slots deltas s h
+
+-- below n each delta that was applied may be undone
+pub until-may_undo : (g n : ℕ) (slots : List Slot) (deltas : List (Option Delta)) → EachFits g slots deltas → EachMayUndo g n (zip_until (added g) n slots deltas) deltas
+until-may_undo g n slots deltas h k s c l here there =
+    let was : (t : Slot) × (slice_get slots k ≡ Some t) = slot_below g n k slots deltas s here in
+    let is : s ≡ added g was.0 c = same_some _ _ (sym here ∙ zip_until-below (added g) n k slots deltas was.0 c l was.1 there) in
+    subst (λ t. MayUndo g t c) (sym is) (fits-may_undo g was.0 c (h k was.0 c was.1 there))
+
+-- and so may each that was added to all
+all-may_undo : (g : ℕ) (slots : List Slot) (deltas : List (Option Delta)) → EachFits g slots deltas → EachMayUndo g (length (zip_all (added g) slots deltas)) (zip_all (added g) slots deltas) deltas
+all-may_undo g slots deltas fits =
+    let n = length (zip_all (added g) slots deltas) in
+    subst (λ l. EachMayUndo g n l deltas) (zip_until-all (added g) n slots deltas (omega (arith, length-zip_all (added g) slots deltas))) (until-may_undo g n slots deltas fits)
+
+all-undo : (g : ℕ) (slots : List Slot) (deltas : List (Option Delta)) → EachFits g slots deltas → zip_all (undo g) (zip_all (added g) slots deltas) deltas ≡ slots
+all-undo g slots deltas fits =
+    let n = length slots in
+    sym (zip_until-all (undo g) n (zip_all (added g) slots deltas) deltas (omega (arith, length-zip_all (added g) slots deltas)))
+    ∙ ap (λ l. zip_until (undo g) n l deltas) (sym (zip_until-all (added g) n slots deltas (omega arith)))
+    ∙ zip_until-undo (added g) (undo g) n slots deltas (λ k s d h i. fits-undo g s d (fits k s d h i))
+
+-- a delta has the pair that a row gives, or there is none
+pub delta-given : (size i : ℕ) (o : Gives) (s : Slot) (p : Pair) → change_of size i o s ≡ Some p → row_delta size i o s ≡ delta_in (i / size) s p
+delta-given size i o None p h = cc
+delta-given size i o (Some a) p h = ap (option_map (delta_of (i / size) a.accumulator)) h
+
+pub delta-none : (size i : ℕ) (o : Gives) (s : Slot) → change_of size i o s ≡ None → row_delta size i o s ≡ None
+delta-none size i o None h = refl
+delta-none size i o (Some a) h = ap (option_map (delta_of (i / size) a.accumulator)) h
+
+-- and nothing changes nothing
+pub added-none : (g : ℕ) (s : Slot) → added g s None ≡ s
+added-none g None = refl
+added-none g (Some a) = refl
+
+-- the delta of a pair fits the accumulator
+pub pair-fits : (g : ℕ) (k : Accumulator) (p : Pair) → AccumulatorFolds k → AccumulatorHasRoom g k → AccumulatorFits g k (delta_of g k p)
+pair-fits g (accumulator.Totals live) p f r = f
+pair-fits g (accumulator.Extrema live) p f r = (r, refl)
+
+-- the delta of a place fits the accumulator, if totals are few and extrema have room
+kept-fits : (g : ℕ) (a : Aggregate) (k : Accumulator) (o : Change) → AccumulatorFolds k → AccumulatorHasRoom g k → Fits g (Some (record a { accumulator = k })) (option_map (delta_of g k) o)
+kept-fits g a k None f r = tt
+kept-fits g a (accumulator.Totals live) (Some p) f r = f
+kept-fits g a (accumulator.Extrema live) (Some p) f r = (r, refl)
+
+pub slot-fits : (size i : ℕ) (o : Gives) (s : Slot) → Folds s → HasRoom (i / size) s → Fits (i / size) s (row_delta size i o s)
+slot-fits size i o None f r = tt
+slot-fits size i o (Some a) f r = kept-fits (i / size) a a.accumulator (change_of size i o (Some a)) f r
+
+pub each-fits : (size i : ℕ) (o : Gives) (slots : List Slot) → EachFolds slots → HaveRoom (i / size) slots → EachFits (i / size) slots (map (row_delta size i o) slots)
+each-fits size i o [] f r k s c here there = cc
+each-fits size i o (t ∷ slots) f r zero s c here there =
+    let a : t ≡ s = cc in
+    let b : row_delta size i o t ≡ c = cc in
+    subst (λ u. Fits (i / size) u c) a (subst (Fits (i / size) t) b (slot-fits size i o t (f 0 t refl) r.0))
+each-fits size i o (t ∷ slots) f r (suc k) s c here there = each-fits size i o slots (λ j. f (suc j)) r.1 k s c here there
+
+-- of the deltas no more than the first are looked at
+may_undo-alike : (g n : ℕ) (slots : List Slot) (deltas more : List (Option Delta)) → take n more ≡ take n deltas → EachMayUndo g n slots deltas → EachMayUndo g n slots more
+may_undo-alike g n slots deltas more e h k s c l here there = h k s c l here (sym (get-take n k deltas l) ∙ ap (λ (cs : List (Option Delta)). slice_get cs k) (sym e) ∙ get-take n k more l ∙ there)
+
+-- deltas are applied one after the other: those of the first n are listed
+module _ (size i : ℕ) (o : Gives) (slots : List Slot) (folds : EachFolds slots) (room : HaveRoom (i / size) slots) (n : ℕ) (within : n < length slots) (deltas : List (Option Delta)) (is : deltas ≡ map (row_delta size i o) (take n slots)) where
+  abbrev all : List (Option Delta)
+  all = map (row_delta size i o) slots
+
+  abbrev mid : List Slot
+  mid = zip_until (added (i / size)) n slots all
+
+  pub next-many : length deltas ≡ n
+  next-many = ap length is ∙ length-map (take n slots) (row_delta size i o) ∙ length-take-le n slots (omega arith)
+
+  alike : take n deltas ≡ take n all
+  alike =
+      let many = next-many in
+      take_all n deltas (omega arith) ∙ is ∙ sym (take-map (row_delta size i o) n slots)
+
+  pub next-may_undo : EachMayUndo (i / size) n mid deltas
+  next-may_undo = may_undo-alike (i / size) n mid all deltas alike (until-may_undo (i / size) n slots all (each-fits size i o slots folds room))
+
+  pub next-undone : zip_until (undo (i / size)) n mid deltas ≡ slots
+  next-undone =
+      sym (zip_until-take (undo (i / size)) n mid deltas)
+      ∙ ap (zip_until (undo (i / size)) n mid) alike
+      ∙ zip_until-take (undo (i / size)) n mid all
+      ∙ zip_until-undo (added (i / size)) (undo (i / size)) n slots all (λ k s d h j. fits-undo (i / size) s d (each-fits size i o slots folds room k s d h j))
+
+-- the deltas of a place can all be undone, and then all aggregates are as they were
+module _ (size i : ℕ) (o : Gives) (slots mid : List Slot) (deltas : List (Option Delta)) (is : deltas ≡ map (row_delta size i o) slots) (applied : mid ≡ zip_all (added (i / size)) slots deltas) (folds : EachFolds slots) (room : HaveRoom (i / size) slots) where
+  deltas-fit : EachFits (i / size) slots deltas
+  deltas-fit = subst (EachFits (i / size) slots) (sym is) (each-fits size i o slots folds room)
+
+  pub applied-may_undo : EachMayUndo (i / size) (length mid) mid deltas
+  applied-may_undo = subst (λ l. EachMayUndo (i / size) (length l) l deltas) (sym applied) (all-may_undo (i / size) slots deltas deltas-fit)
+
+  pub applied-undone : zip_all (undo (i / size)) mid deltas ≡ slots
+  applied-undone = ap (λ l. zip_all (undo (i / size)) l deltas) applied ∙ all-undo (i / size) slots deltas deltas-fit

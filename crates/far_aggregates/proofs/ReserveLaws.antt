@@ -1,0 +1,44 @@
+-- Room that is reserved for a row group changes nothing that is kept.
+use Rattle.std.proofs.Common.{◌≡◌, ℕ, ◌+◌, ◌-◌, List, length, refl, ◌∙◌, arith, None, Some, replicate, length-append}
+use Rattle.std.specs.FinMap as fin
+use Rattle.std.proofs.lemmas.List.{length-replicate}
+use Rattle.far_types.specs.Answers.{Extrema}
+use Rattle.far_types.specs.Table.{Place}
+use Rattle.far_aggregates.specs.declared.aggregate.Aggregate.{Aggregate}
+use Rattle.far_aggregates.specs.declared.aggregate.Accumulator.{Accumulator}
+use Rattle.far_aggregates.specs.declared.aggregate.Accumulator.TheVariants as accumulator
+use Rattle.far_aggregates.specs.Accumulators.{Slot, registered_in, fold_of, IsKept, KeepsSlot}
+use Rattle.far_aggregates.specs.Reserve.{accumulator_reserved, reserved, AccumulatorHasRoom, HasRoom}
+use Rattle.far_aggregates.proofs.ListLaws.{index-replicate}
+
+pub reserved-registered : (g : ℕ) (s : Slot) → registered_in (reserved g s) ≡ registered_in s
+reserved-registered g None = refl
+reserved-registered g (Some a) = refl
+
+has_room : (g : ℕ) (k : Accumulator) → AccumulatorHasRoom g (accumulator_reserved g k)
+has_room g (accumulator.Totals live) = tt
+has_room g (accumulator.Extrema live) =
+    let e : Extrema = fin.empty in
+    let more = length-append live.groups (replicate (g + 1 - length live.groups) e) in
+    let many = length-replicate (g + 1 - length live.groups) e in
+    omega arith
+
+pub reserved-has : (g : ℕ) (s : Slot) → HasRoom g (reserved g s)
+reserved-has g None = tt
+reserved-has g (Some a) = has_room g a.accumulator
+
+reserved-fold : (g : ℕ) (k : Accumulator) → fold_of (accumulator_reserved g k) ≡ fold_of k
+reserved-fold g (accumulator.Totals live) = refl
+reserved-fold g (accumulator.Extrema live) = refl
+
+reserved-kept : (g size : ℕ) (ps : List Place) (a : Aggregate) (k : Accumulator) → IsKept size ps a k → IsKept size ps a (accumulator_reserved g k)
+reserved-kept g size ps a (accumulator.Totals live) h = h
+reserved-kept g size ps a (accumulator.Extrema live) h = (λ i. index-replicate live.groups (g + 1 - length live.groups) i fin.empty ∙ h.0 i, h.1)
+
+pub same-kept : (size : ℕ) (ps : List Place) (a b : Aggregate) (k : Accumulator) → a.spec ≡ b.spec → a.unbuilt ≡ b.unbuilt → IsKept size ps a k → IsKept size ps b k
+same-kept size ps a b (accumulator.Totals live) e f h = rw (← e, ← f) h
+same-kept size ps a b (accumulator.Extrema live) e f h = rw (← e, ← f) h
+
+pub reserved-keeps : (g size : ℕ) (ps : List Place) (s : Slot) → KeepsSlot size ps s → KeepsSlot size ps (reserved g s)
+reserved-keeps g size ps None h = tt
+reserved-keeps g size ps (Some a) h = (reserved-fold g a.accumulator ∙ h.0, same-kept size ps a (record a { accumulator = accumulator_reserved g a.accumulator }) (accumulator_reserved g a.accumulator) refl refl (reserved-kept g size ps a a.accumulator h.1))

@@ -1,0 +1,7 @@
+use Rattle.std.proofs.Common.{◌≡◌}
+use Rattle.far_aggregates.specs.Deltas.{undo}
+use Rattle.far_aggregates.specs.Until.{zip_until}
+use Rattle.far_aggregates.proofs.deltas.undo_first.Given as goal
+
+abbrev pub invariant-loop-i : goal.invariant-loop-i
+invariant-loop-i l = l.slots ≡ zip_until (undo l.group) l.i l.initial.slots l.deltas

@@ -1,7 +1,0 @@
-use Rattle.std.proofs.Common.{◌≡◌, ◌<◌, ℕ, Some, slice_get}
-use Rattle.far_aggregates.specs.Kept.{Slot, Change}
-use Rattle.far_aggregates.specs.Going.{IsPlain}
-use Rattle.far_aggregates.proofs.going.needs_rows.Given as goal
-
-abbrev pub invariant-loop-i : goal.invariant-loop-i
-invariant-loop-i l = (k : ℕ) (s : Slot) (c : Change) → k < l.i → slice_get l.slots k ≡ Some s → slice_get l.gone k ≡ Some c → IsPlain s c

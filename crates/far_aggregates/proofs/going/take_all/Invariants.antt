@@ -1,7 +1,0 @@
-use Rattle.std.proofs.Common.{◌≡◌}
-use Rattle.far_aggregates.specs.Going.{taken}
-use Rattle.far_aggregates.specs.Until.{zip_until}
-use Rattle.far_aggregates.proofs.going.take_all.Given as goal
-
-abbrev pub invariant-loop-i : goal.invariant-loop-i
-invariant-loop-i g l = l.slots ≡ zip_until (taken l.number (g.G.LendGroup.places l.group)) l.i l.initial.slots l.gone

@@ -1,7 +1,0 @@
-use Rattle.std.proofs.Common.{◌≡◌, []}
-use Rattle.far_aggregates.specs.Going.{taken}
-use Rattle.far_aggregates.specs.Until.{zip_until}
-use Rattle.far_aggregates.proofs.going.take_totals.Given as goal
-
-abbrev pub invariant-loop-i : goal.invariant-loop-i
-invariant-loop-i l = l.slots ≡ zip_until (taken 0 []) l.i l.initial.slots l.pairs

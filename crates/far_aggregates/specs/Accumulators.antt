@@ -1,0 +1,90 @@
+-- What is kept for each aggregate.
+use Rattle.std.specs.Prelude.{◌≡◌, ℕ, ◌+◌, ◌-◌, ◌/◌, Bool, cond, List, [], ◌∷◌, ◌++◌, length, map, replicate, Option, None, Some}
+use Rattle.std.specs.List.{AllByRecursion, filter_map, cons_option}
+use Rattle.std.specs.FinMap as fin
+use Rattle.far_types.specs.declared.spec.Spec.{Spec}
+use Rattle.far_types.specs.declared.spec.Fold.{Fold}
+use Rattle.far_types.specs.declared.spec.Fold.TheVariants as fold
+use Rattle.far_types.specs.declared.answer.Answer.{Answer}
+use Rattle.far_types.specs.declared.answer.Answer.TheVariants as answer
+use Rattle.far_types.specs.Answers.{Extrema, totals, extrema, or_zero, total_lines, extrema_lines}
+use Rattle.far_types.specs.Cells.{RowFits}
+use Rattle.far_types.specs.Pairs.{Pair}
+use Rattle.far_types.specs.Table.{Place, Registered, place_pair, in_group, is_unbuilt, left}
+use Rattle.far_extrema.specs.Live.{all_groups, group_at}
+use Rattle.far_aggregates.specs.declared.aggregate.Aggregate.{Aggregate}
+use Rattle.far_aggregates.specs.declared.aggregate.Accumulator.{Accumulator}
+use Rattle.far_aggregates.specs.declared.aggregate.Accumulator.TheVariants as accumulator
+
+-- what stands under a number
+abbrev pub Slot : Type 0
+Slot = Option Aggregate
+
+-- the pair that totals get from a place or give back, if there is one
+abbrev pub Change : Type 0
+Change = Option Pair
+
+-- what the table shows of a slot
+abbrev pub registered_in : Slot → Option Registered
+registered_in None = None
+registered_in (Some aggregate) = Some (record { spec = aggregate.spec; registration = aggregate.registration; unbuilt = aggregate.unbuilt })
+
+-- the aggregates by number, of which there are 32. The slots end with the last number that was ever used
+abbrev pub registered_of : List Slot → List (Option Registered)
+registered_of slots = map registered_in slots ++ replicate (32 - length slots) None
+
+-- the numbers of all places are those of 64 bits
+abbrev pub PlacesFit : List Place → Type 0
+PlacesFit places = AllByRecursion (λ (place : Place). RowFits place.cells) places
+
+-- a place counts unless its row group is pending
+abbrev pub built_pair : Spec → ℕ → List Bool → ℕ → Place → Change
+built_pair spec size unbuilt i place = cond (is_unbuilt unbuilt (i / size)) None (place_pair spec place)
+
+-- the pairs of the places, from number i on, whose row groups are scanned
+abbrev pub built_pairs : Spec → ℕ → List Bool → ℕ → List Place → List Pair
+built_pairs spec size unbuilt i [] = []
+built_pairs spec size unbuilt i (place ∷ places) = cons_option (built_pair spec size unbuilt i place) (built_pairs spec size unbuilt (i + 1) places)
+
+-- the pairs of some places, as those of a row group
+abbrev pub pairs_here : Spec → List Place → List Pair
+pairs_here spec here = filter_map (place_pair spec) here
+
+-- the pairs of the places of one row group
+abbrev pub group_pairs : Spec → ℕ → ℕ → List Place → List Pair
+group_pairs spec size g places = pairs_here spec (in_group size g places)
+
+-- what extrema are to have of a row group: nothing while it is pending
+abbrev pub built_group : Spec → ℕ → List Bool → List Place → ℕ → Extrema
+built_group spec size unbuilt places g = cond (is_unbuilt unbuilt g) fin.empty (extrema (group_pairs spec size g places))
+
+abbrev pub fold_of : Accumulator → Fold
+fold_of (accumulator.Totals live) = fold.Totals
+fold_of (accumulator.Extrema live) = fold.Extrema
+
+-- how many row groups are pending
+abbrev pub left_in : Accumulator → ℕ
+left_in (accumulator.Totals live) = live.left
+left_in (accumulator.Extrema live) = live.left
+
+-- what an accumulator answers
+abbrev pub accumulator_answer : Option ℕ → Accumulator → Answer
+accumulator_answer key (accumulator.Totals live) = answer.Totals (or_zero key (total_lines live.totals))
+accumulator_answer key (accumulator.Extrema live) = answer.Extrema (extrema_lines (all_groups live.groups))
+
+-- nothing is in, and as many row groups are pending
+abbrev pub KeepsNothing : ℕ → Accumulator → Type 0
+KeepsNothing count (accumulator.Totals live) = (live.left ≡ count) × (live.totals ≡ fin.empty)
+KeepsNothing count (accumulator.Extrema live) = (live.left ≡ count) × (live.groups ≡ [])
+
+-- an accumulator is what computing afresh over the row groups that are scanned would give
+abbrev pub IsKept : ℕ → List Place → Aggregate → Accumulator → Type 0
+IsKept size places a (accumulator.Totals live) = (live.totals ≡ totals (built_pairs a.spec size a.unbuilt 0 places)) × (live.left ≡ left a.unbuilt)
+IsKept size places a (accumulator.Extrema live) = ((g : ℕ) → group_at live.groups g ≡ built_group a.spec size a.unbuilt places g) × (live.left ≡ left a.unbuilt)
+
+abbrev pub KeepsSlot : ℕ → List Place → Slot → Type 0
+KeepsSlot size places None = Unit {0}
+KeepsSlot size places (Some a) = (fold_of a.accumulator ≡ a.spec.fold) × IsKept size places a a.accumulator
+
+abbrev pub Keeps : ℕ → List Place → List Slot → Type 0
+Keeps size places slots = AllByRecursion (KeepsSlot size places) slots

@@ -1,0 +1,84 @@
+-- How a delta is applied to an aggregate, and how it is undone.
+use Rattle.std.specs.Prelude.{◌≡◌, ◌≢◌, ℕ, ℤ, ◌<◌, ◌^◌, ◌/◌, List, length, Option, None, Some, option_map, slice_get, slice_set}
+use Rattle.std.specs.FinMap as fin
+use Rattle.far_types.specs.declared.key.Key.{Key}
+use Rattle.far_types.specs.Changes.{count_in, with_pair, without_pair, with_seen}
+use Rattle.far_types.specs.Pairs.{Pair}
+use Rattle.far_extrema.specs.Live.{group_at}
+use Rattle.far_extrema.specs.Spans.{put_span}
+use Rattle.far_groups.specs.Live.{CanTake}
+use Rattle.far_aggregates.specs.declared.aggregate.Accumulator.{Accumulator}
+use Rattle.far_aggregates.specs.declared.aggregate.Accumulator.TheVariants as accumulator
+use Rattle.far_aggregates.specs.declared.deltas.Delta.{Delta}
+use Rattle.far_aggregates.specs.Accumulators.{Slot}
+use Rattle.far_aggregates.specs.Pairs.{Gives, change_of, AccumulatorFolds}
+
+-- the least and the greatest under a key of a row group, in extrema, before a delta
+abbrev pub previous_in : ℕ → Option Key → Accumulator → Option (ℤ × ℤ)
+previous_in g key (accumulator.Totals live) = None
+previous_in g key (accumulator.Extrema live) = fin.get (group_at live.groups g) key
+
+-- the delta of a pair, with what undoes it
+abbrev pub delta_of : ℕ → Accumulator → Pair → Delta
+delta_of g k pair = record { pair = pair; previous = previous_in g pair.0 k }
+
+-- the delta of a row of place i to a slot
+abbrev pub row_delta : ℕ → ℕ → Gives → Slot → Option Delta
+row_delta size i gives None = None
+row_delta size i gives (Some a) = option_map (delta_of (i / size) a.accumulator) (change_of size i gives (Some a))
+
+-- the delta to a slot to which a row gives a pair
+abbrev pub delta_in : ℕ → Slot → Pair → Option Delta
+delta_in g None pair = None
+delta_in g (Some a) pair = Some (delta_of g a.accumulator pair)
+
+-- one pair more
+abbrev pub accumulator_more : ℕ → Accumulator → Pair → Accumulator
+accumulator_more g (accumulator.Totals live) pair = accumulator.Totals (record live { totals = with_pair live.totals pair })
+accumulator_more g (accumulator.Extrema live) pair = accumulator.Extrema (record live { groups = slice_set live.groups g (with_seen (group_at live.groups g) pair) })
+
+abbrev pub added : ℕ → Slot → Option Delta → Slot
+added g None delta = None
+added g (Some a) None = Some a
+added g (Some a) (Some delta) = Some (record a { accumulator = accumulator_more g a.accumulator delta.pair })
+
+-- the last delta is undone
+abbrev pub accumulator_undo : ℕ → Accumulator → Delta → Accumulator
+accumulator_undo g (accumulator.Totals live) delta = accumulator.Totals (record live { totals = without_pair live.totals delta.pair })
+accumulator_undo g (accumulator.Extrema live) delta = accumulator.Extrema (record live { groups = slice_set live.groups g (put_span (group_at live.groups g) delta.pair.0 delta.previous) })
+
+abbrev pub undo : ℕ → Slot → Option Delta → Slot
+undo g None delta = None
+undo g (Some a) None = Some a
+undo g (Some a) (Some delta) = Some (record a { accumulator = accumulator_undo g a.accumulator delta })
+
+-- a pair may be added: totals have few under its key, extrema have room
+abbrev pub AccumulatorMayAdd : ℕ → Accumulator → Pair → Type 0
+AccumulatorMayAdd g (accumulator.Totals live) pair = count_in (fin.get live.totals pair.0) < 2 ^ 26
+AccumulatorMayAdd g (accumulator.Extrema live) pair = g < length live.groups
+
+-- a delta may be undone: its pair is there
+abbrev pub AccumulatorMayUndo : ℕ → Accumulator → Pair → Type 0
+AccumulatorMayUndo g (accumulator.Totals live) pair = CanTake pair.1 (fin.get live.totals pair.0)
+AccumulatorMayUndo g (accumulator.Extrema live) pair = (g < length live.groups) × (fin.get (group_at live.groups g) pair.0 ≢ None)
+
+abbrev pub MayUndo : ℕ → Slot → Option Delta → Type 0
+MayUndo g None delta = Unit {0}
+MayUndo g (Some a) None = Unit {0}
+MayUndo g (Some a) (Some delta) = AccumulatorMayUndo g a.accumulator delta.pair
+
+abbrev pub EachMayUndo : ℕ → ℕ → List Slot → List (Option Delta) → Type 0
+EachMayUndo g n slots deltas = (k : ℕ) (s : Slot) (c : Option Delta) → k < n → slice_get slots k ≡ Some s → slice_get deltas k ≡ Some c → MayUndo g s c
+
+-- a delta fits an accumulator: its pair may be added, and what it says was there before is there
+abbrev pub AccumulatorFits : ℕ → Accumulator → Delta → Type 0
+AccumulatorFits g (accumulator.Totals live) delta = AccumulatorFolds (accumulator.Totals live)
+AccumulatorFits g (accumulator.Extrema live) delta = (g < length live.groups) × (delta.previous ≡ fin.get (group_at live.groups g) delta.pair.0)
+
+abbrev pub Fits : ℕ → Slot → Option Delta → Type 0
+Fits g None delta = Unit {0}
+Fits g (Some a) None = Unit {0}
+Fits g (Some a) (Some delta) = AccumulatorFits g a.accumulator delta
+
+abbrev pub EachFits : ℕ → List Slot → List (Option Delta) → Type 0
+EachFits g slots deltas = (k : ℕ) (s : Slot) (c : Option Delta) → slice_get slots k ≡ Some s → slice_get deltas k ≡ Some c → Fits g s c

@@ -1,0 +1,58 @@
+-- The pairs that a row gives to the aggregates, and what aggregates make of them.
+use Rattle.std.specs.Prelude.{◌≡◌, ℕ, ◌≤◌, ◌^◌, ◌/◌, true, cond, List, length, None, Some, slice_get}
+use Rattle.far_types.specs.declared.cell.Cell.{Cell}
+use Rattle.far_types.specs.declared.spec.Spec.{Spec}
+use Rattle.far_types.specs.Answers.{Totals, Extrema, totals}
+use Rattle.far_types.specs.Cells.{Cells}
+use Rattle.far_types.specs.Changes.{with_pair, without_pair, with_seen}
+use Rattle.far_types.specs.Pairs.{Pair, PairsFit, pair_of}
+use Rattle.far_types.specs.Table.{Place, place_pair, is_unbuilt}
+use Rattle.far_aggregates.specs.declared.aggregate.Accumulator.{Accumulator}
+use Rattle.far_aggregates.specs.declared.aggregate.Accumulator.TheVariants as accumulator
+use Rattle.far_aggregates.specs.Accumulators.{Slot, Change}
+
+-- what a row gives, by the specification of the aggregate
+abbrev pub Gives : Type 0
+Gives = Spec → Change
+
+-- what a row that is alive gives, by its cells
+abbrev pub row_gives : Cells → Gives
+row_gives cells spec = pair_of spec cells
+
+-- what a place gives
+abbrev pub place_gives : Place → Gives
+place_gives place spec = place_pair spec place
+
+-- the place of a row that is alive
+abbrev pub alive_with : List Cell → Place
+alive_with row = record { cells = row; alive = true }
+
+-- what a row of place i gives to a slot, unless its row group is pending there
+abbrev pub change_of : ℕ → ℕ → Gives → Slot → Change
+change_of size i gives None = None
+change_of size i gives (Some a) = cond (is_unbuilt a.unbuilt (i / size)) None (gives a.spec)
+
+-- one pair more or less, where there is one
+abbrev pub with_change : Totals → Change → Totals
+with_change totals None = totals
+with_change totals (Some pair) = with_pair totals pair
+
+abbrev pub without_change : Totals → Change → Totals
+without_change totals None = totals
+without_change totals (Some pair) = without_pair totals pair
+
+abbrev pub with_seen_change : Extrema → Change → Extrema
+with_seen_change extrema None = extrema
+with_seen_change extrema (Some pair) = with_seen extrema pair
+
+-- totals are those of some pairs, which are few
+abbrev pub AccumulatorFolds : Accumulator → Type 0
+AccumulatorFolds (accumulator.Totals live) = (pairs : List Pair) × (live.totals ≡ totals pairs) × PairsFit pairs × (length pairs ≤ 2 ^ 24)
+AccumulatorFolds (accumulator.Extrema live) = Unit {0}
+
+abbrev pub Folds : Slot → Type 0
+Folds None = Unit {0}
+Folds (Some a) = AccumulatorFolds a.accumulator
+
+abbrev pub EachFolds : List Slot → Type 0
+EachFolds slots = (k : ℕ) (s : Slot) → slice_get slots k ≡ Some s → Folds s

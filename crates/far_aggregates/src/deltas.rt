@@ -1,0 +1,232 @@
+// Changes to the aggregates, and how they are undone if a later one is refused.
+ghost use Rattle.std.specs.Prelude.{◌≡◌, ◌/◌, ◌^◌, ◌<◌, ◌≤◌, ◌∷◌, ◌++◌, [], Some, OnOk, OnErr, IfErr, IfOk, length, map, vec_len, vec_capacity};
+ghost use Rattle.far_types.specs.declared.key.Key.TheVariants as variants;
+ghost use Rattle.far_types.specs.Lent.{key_by};
+ghost use Rattle.far_aggregates.specs.Pairs.{Folds, EachFolds, row_gives};
+ghost use Rattle.far_aggregates.specs.Deltas.{previous_in, row_delta, delta_in, accumulator_more, added, undo, AccumulatorMayAdd, MayUndo, EachMayUndo};
+ghost use Rattle.far_aggregates.specs.Reserve.{HasRoom, HaveRoom};
+ghost use Rattle.far_aggregates.specs.Until.{zip_until, zip_all};
+
+use super::aggregate::{Accumulator, Aggregate};
+use super::pairs::{Pair, give};
+use super::spare_keys::SpareKeys;
+use far_extrema::MinMax;
+use far_types::{Key, LendCells, PairRef, Refusal, number_key};
+
+/// A change to one aggregate: a pair that is added. For extrema it also holds the key's previous least and greatest value in
+/// the row group, so that the change can be undone.
+#[derive(Drop)]
+pub struct Delta {
+    pub pair: Pair,
+    pub previous: Option<MinMax>,
+}
+
+/// Undoes a delta.
+fn undo_one(slot: &mut Option<Aggregate>, group: u32, delta: &Option<Delta>)
+    requires { MayUndo group slot.old delta.now }
+    ensures { slot.new ≡ undo group slot.old delta.now }
+{
+    if let Some(aggregate) = slot {
+        if let Some(delta) = delta {
+            match &mut aggregate.accumulator {
+                Accumulator::Totals(live) => live.take(&delta.pair.0, delta.pair.1),
+                Accumulator::Extrema(live) => live.put_span(group, &delta.pair.0, delta.previous),
+            }
+        }
+    }
+}
+
+/// Undoes the deltas of the first n aggregates.
+fn undo_first(slots: &mut [Option<Aggregate>], group: u32, deltas: &[Option<Delta>], n: usize)
+    requires slots { n ≤ length slots.old }
+    requires deltas { n ≤ length deltas.now }
+    requires may { EachMayUndo group n slots.old deltas.now }
+    ensures { slots.new ≡ zip_until (undo group) n slots.old deltas.now }
+{
+    for i in 0..n {
+        undo_one(&mut slots[i], group, &deltas[i]);
+    }
+}
+
+/// Adds a pair. For extrema it returns the key's previous least and greatest value in the row group: the one look-up that
+/// adds the pair finds them.
+#[inline(always)]
+fn add_to(
+    accumulator: &mut Accumulator,
+    group: u32,
+    key: &Option<Key>,
+    value: i64,
+) -> Result<Option<MinMax>, Refusal>
+    requires { AccumulatorMayAdd group accumulator.old (key.now, value) }
+    ensures previous { IfOk result (λ previous. previous ≡ previous_in group key.now accumulator.old) }
+    ensures ok { OnOk result (accumulator.new ≡ accumulator_more group accumulator.old (key.now, value)) }
+    ensures err { OnErr result (accumulator.new ≡ accumulator.old) }
+    ensures memory { IfErr result (λ e. e ≡ Refusal.NoMemory) }
+{
+    match accumulator {
+        Accumulator::Totals(live) => {
+            live.add_under(key, value)?;
+            Ok(None)
+        }
+        Accumulator::Extrema(live) => live.see_under(group, key, value),
+    }
+}
+
+/// Adds a value under a number or under no key to an aggregate, and appends the delta to the list, which has capacity for it.
+/// The delta is made where it stays, since a pair that calls hand on by memory costs more than what is done with it.
+#[inline(always)]
+fn apply_under(
+    deltas: &mut Vec<Option<Delta>>,
+    slot: &mut Option<Aggregate>,
+    group: u32,
+    number: Option<i64>,
+    value: i64,
+) -> Result<(), Refusal>
+    requires folds { Folds slot.old }
+    requires room { HasRoom group slot.old }
+    requires place { vec_len deltas.old < vec_capacity deltas.old }
+    ensures ok { OnOk result (slot.new ≡ added group slot.old (delta_in group slot.old (key_by number, value))) }
+    ensures deltas { OnOk result (deltas.new.items ≡ deltas.old.items ++ delta_in group slot.old (key_by number, value) ∷ []) }
+    ensures capacity { vec_capacity deltas.new ≡ vec_capacity deltas.old }
+    ensures err { OnErr result (slot.new ≡ slot.old) }
+    ensures before { OnErr result (deltas.new.items ≡ deltas.old.items) }
+    ensures memory { IfErr result (λ e. e ≡ Refusal.NoMemory) }
+{
+    match slot {
+        None => {
+            deltas.push_reserved(None);
+            Ok(())
+        }
+        Some(aggregate) => {
+            let previous = add_to(
+                &mut aggregate.accumulator,
+                group,
+                &number_key(number),
+                value,
+            )?;
+            let pair = (number_key(number), value);
+            deltas.push_reserved(Some(Delta { pair, previous }));
+            Ok(())
+        }
+    }
+}
+
+/// As `apply_under`, if the key is a text, which is written into the string of a spare key.
+#[inline(never)]
+fn apply_under_text(
+    keys: &mut SpareKeys,
+    deltas: &mut Vec<Option<Delta>>,
+    slot: &mut Option<Aggregate>,
+    group: u32,
+    text: &str,
+    value: i64,
+) -> Result<(), Refusal>
+    requires folds { Folds slot.old }
+    requires room { HasRoom group slot.old }
+    requires place { vec_len deltas.old < vec_capacity deltas.old }
+    ensures ok { OnOk result (slot.new ≡ added group slot.old (delta_in group slot.old (Some (variants.Text text.now), value))) }
+    ensures deltas { OnOk result (deltas.new.items ≡ deltas.old.items ++ delta_in group slot.old (Some (variants.Text text.now), value) ∷ []) }
+    ensures capacity { vec_capacity deltas.new ≡ vec_capacity deltas.old }
+    ensures err { OnErr result (slot.new ≡ slot.old) }
+    ensures before { OnErr result (deltas.new.items ≡ deltas.old.items) }
+    ensures memory { IfErr result (λ e. e ≡ Refusal.NoMemory) }
+{
+    match slot {
+        None => {
+            deltas.push_reserved(None);
+            Ok(())
+        }
+        Some(aggregate) => {
+            let key = keys.key_of(text)?;
+            let previous = add_to(&mut aggregate.accumulator, group, &key, value)?;
+            let pair = (key, value);
+            deltas.push_reserved(Some(Delta { pair, previous }));
+            Ok(())
+        }
+    }
+}
+
+/// Applies the delta of a row that is alive at a place to an aggregate, and appends it to the list, which has capacity for
+/// it.
+#[inline(always)]
+fn apply_next<R: LendCells>(
+    keys: &mut SpareKeys,
+    deltas: &mut Vec<Option<Delta>>,
+    slot: &mut Option<Aggregate>,
+    row: &R,
+    size: u32,
+    place: usize,
+    group: u32,
+) -> Result<(), Refusal>
+    requires size { 0 < size }
+    requires few { place ≤ 2 ^ 24 }
+    requires group { group ≡ place / size }
+    requires folds { Folds slot.old }
+    requires room { HasRoom (place / size) slot.old }
+    requires place { vec_len deltas.old < vec_capacity deltas.old }
+    ensures ok { OnOk result (slot.new ≡ added (place / size) slot.old (row_delta size place (row_gives (R.cells row.now)) slot.old)) }
+    ensures deltas { OnOk result (deltas.new.items ≡ deltas.old.items ++ row_delta size place (row_gives (R.cells row.now)) slot.old ∷ []) }
+    ensures capacity { vec_capacity deltas.new ≡ vec_capacity deltas.old }
+    ensures err { OnErr result (slot.new ≡ slot.old) }
+    ensures before { OnErr result (deltas.new.items ≡ deltas.old.items) }
+    ensures memory { IfErr result (λ e. e ≡ Refusal.NoMemory) }
+{
+    match give(slot, row, size, place, group) {
+        PairRef::Nothing => {
+            deltas.push_reserved(None);
+            Ok(())
+        }
+        PairRef::Under { number, value } => apply_under(deltas, slot, group, number, value),
+        PairRef::UnderText { text, value } => {
+            apply_under_text(keys, deltas, slot, group, text, value)
+        }
+    }
+}
+
+/// Applies the deltas of a row that is alive at a place to all aggregates, or to none if an allocation fails. Returns them in a
+/// list that may have been made for an earlier edit: `undo_all` undoes them.
+pub fn apply_deltas<R: LendCells>(
+    keys: &mut SpareKeys,
+    list: Vec<Option<Delta>>,
+    slots: &mut [Option<Aggregate>],
+    row: &R,
+    size: u32,
+    place: usize,
+    group: u32,
+) -> Result<Vec<Option<Delta>>, Refusal>
+    requires size { 0 < size }
+    requires few { place ≤ 2 ^ 24 }
+    requires group { group ≡ place / size }
+    requires folds { EachFolds slots.old }
+    requires room { HaveRoom (place / size) slots.old }
+    ensures ok { OnOk result (slots.new ≡ zip_all (added (place / size)) slots.old (map (row_delta size place (row_gives (R.cells row.now))) slots.old)) }
+    ensures deltas { IfOk result (λ deltas. deltas.items ≡ map (row_delta size place (row_gives (R.cells row.now))) slots.old) }
+    ensures len { IfOk result (λ deltas. length deltas.items ≡ length slots.new) }
+    ensures may_undo { IfOk result (λ deltas. EachMayUndo (place / size) (length slots.new) slots.new deltas.items) }
+    ensures undo { IfOk result (λ deltas. zip_all (undo (place / size)) slots.new deltas.items ≡ slots.old) }
+    ensures err { OnErr result (slots.new ≡ slots.old) }
+    ensures memory { IfErr result (λ e. e ≡ Refusal.NoMemory) }
+{
+    let mut deltas = list;
+    deltas.clear();
+    deltas.reserve(slots.len())?;
+    for i in 0..slots.len() {
+        match apply_next(keys, &mut deltas, &mut slots[i], row, size, place, group) {
+            Ok(()) => {}
+            Err(refusal) => {
+                undo_first(slots, group, deltas.as_slice(), i);
+                return Err(refusal);
+            }
+        }
+    }
+    Ok(deltas)
+}
+
+/// Undoes all deltas. Allocates nothing.
+pub fn undo_all(slots: &mut [Option<Aggregate>], group: u32, deltas: &[Option<Delta>])
+    requires len { length deltas.now ≤ length slots.old }
+    requires may { EachMayUndo group (length slots.old) slots.old deltas.now }
+    ensures { slots.new ≡ zip_all (undo group) slots.old deltas.now }
+{
+    undo_first(slots, group, deltas, deltas.len());
+}

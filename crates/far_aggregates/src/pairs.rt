@@ -1,0 +1,89 @@
+// The pairs that a row gives to the aggregates.
+ghost use Rattle.std.specs.Prelude.{◌≡◌, ◌<◌, ◌/◌, ◌++◌, ◌∷◌, [], IfOk, OnOk, IfErr, map, vec_len, vec_capacity};
+ghost use Rattle.far_types.specs.Lent.{lent_pair};
+ghost use Rattle.far_aggregates.specs.Pairs.{change_of, row_gives};
+
+use super::aggregate::Aggregate;
+use super::spare_keys::SpareKeys;
+use far_types::{Key, LendCells, PairRef, Refusal, number_key};
+
+/// A folded row: its key, none in an aggregate without key column, and its value.
+pub type Pair = (Option<Key>, i64);
+
+/// The pair that a row that is alive at a place gives to an aggregate, unless its row group is pending.
+#[inline(always)]
+pub fn give<'a, R: LendCells>(
+    slot: &Option<Aggregate>,
+    row: &'a R,
+    size: u32,
+    place: usize,
+    group: u32,
+) -> PairRef<'a>
+    requires size { 0 < size }
+    requires group { group ≡ place / size }
+    ensures { lent_pair result ≡ change_of size place (row_gives (R.cells row.now)) slot.now }
+{
+    match slot {
+        None => PairRef::Nothing,
+        Some(aggregate) if aggregate.unbuilt.has(group as usize) => PairRef::Nothing,
+        Some(aggregate) => aggregate.spec.lend_pair(row),
+    }
+}
+
+/// Appends the pair that a row that is alive at a place gives to an aggregate, or none, to the list, which has capacity for
+/// it.
+#[inline(always)]
+fn next_pair<R: LendCells>(
+    keys: &mut SpareKeys,
+    pairs: &mut Vec<Option<Pair>>,
+    slot: &Option<Aggregate>,
+    row: &R,
+    size: u32,
+    place: usize,
+    group: u32,
+) -> Result<(), Refusal>
+    requires size { 0 < size }
+    requires group { group ≡ place / size }
+    requires place { vec_len pairs.old < vec_capacity pairs.old }
+    ensures capacity { vec_capacity pairs.new ≡ vec_capacity pairs.old }
+    ensures ok { OnOk result (pairs.new.items ≡ pairs.old.items ++ change_of size place (row_gives (R.cells row.now)) slot.now ∷ []) }
+    ensures memory { IfErr result (λ e. e ≡ Refusal.NoMemory) }
+{
+    match give(slot, row, size, place, group) {
+        PairRef::Nothing => pairs.push_reserved(None),
+        PairRef::Under { number, value } => {
+            let pair = (number_key(number), value);
+            pairs.push_reserved(Some(pair));
+        }
+        PairRef::UnderText { text, value } => {
+            let pair = (keys.key_of(text)?, value);
+            pairs.push_reserved(Some(pair));
+        }
+    }
+    Ok(())
+}
+
+/// The pairs that a row that is alive at a place gives to the aggregates, in a list that may have been made for an earlier
+/// edit. Texts are written into the strings of spare keys.
+pub fn row_pairs<R: LendCells>(
+    keys: &mut SpareKeys,
+    list: Vec<Option<Pair>>,
+    slots: &[Option<Aggregate>],
+    row: &R,
+    size: u32,
+    place: usize,
+    group: u32,
+) -> Result<Vec<Option<Pair>>, Refusal>
+    requires size { 0 < size }
+    requires group { group ≡ place / size }
+    ensures ok { IfOk result (λ pairs. pairs.items ≡ map (change_of size place (row_gives (R.cells row.now))) slots.now) }
+    ensures memory { IfErr result (λ e. e ≡ Refusal.NoMemory) }
+{
+    let mut pairs = list;
+    pairs.clear();
+    pairs.reserve(slots.len())?;
+    for slot in slots {
+        next_pair(keys, &mut pairs, slot, row, size, place, group)?;
+    }
+    Ok(pairs)
+}

@@ -1,0 +1,77 @@
+// The row groups that are pending: not yet scanned into an aggregate.
+ghost use Rattle.std.specs.Prelude.{◌≡◌, ◌<◌, ◌^◌, ℕ, length, IfOk, IfSome, IfNone, replicate, true, false, slice_set, slice_index_or};
+
+use std::alloc::{AllocError, Global};
+use std::marker::Model;
+
+/// A flag for each row group that held a place when the aggregate was registered: set while the row group is pending.
+/// Contracts see the list of the flags.
+#[derive(Drop)]
+pub struct PendingGroups {
+    flags: Vec<bool>,
+}
+
+impl Model for PendingGroups {
+    ghost use Rattle.std.specs.Prelude.{List, Bool, length, ◌<◌, ◌^◌};
+
+    ghost Value = { List Bool };
+
+    ghost view = { λ unbuilt. unbuilt.flags.items };
+
+    ghost invariant = { λ unbuilt. length unbuilt.flags.items < 2 ^ 32 };
+}
+
+impl PendingGroups {
+    ghost use Rattle.far_types.specs.Table.{is_unbuilt};
+
+    /// The first `groups` row groups are pending.
+    pub fn all(alloc: Global, groups: usize) -> Result<PendingGroups, AllocError>
+        requires { groups < 2 ^ 32 }
+        ensures { IfOk result (λ unbuilt. unbuilt ≡ replicate groups true) }
+    {
+        Ok(PendingGroups {
+            flags: vec![in alloc; true; groups]?,
+        })
+    }
+
+    /// Whether a row group is pending.
+    pub fn has(&self, group: usize) -> bool
+        ensures { result ≡ is_unbuilt self.now group }
+    {
+        match self.flags.get(group) {
+            Some(flag) => *flag,
+            None => false,
+        }
+    }
+
+    /// The first row group that is pending, if there is one.
+    pub fn first(&self) -> Option<u32>
+        ensures some { IfSome result (λ g. is_unbuilt self.now g ≡ true) }
+        ensures none { IfNone result ((g : ℕ) → is_unbuilt self.now g ≡ false) }
+    {
+        first_set(self.flags.as_slice())
+    }
+
+    /// From now on the row group is pending no more. Allocates nothing.
+    pub fn clear(&mut self, group: usize)
+        ensures { self.new ≡ slice_set self.old group false }
+    {
+        if group < self.flags.len() {
+            self.flags[group] = false;
+        }
+    }
+}
+
+/// The index of the first flag that is set.
+fn first_set(flags: &[bool]) -> Option<u32>
+    requires { length flags.now < 2 ^ 32 }
+    ensures some { IfSome result (λ i. slice_index_or flags.now i false ≡ true) }
+    ensures none { IfNone result ((i : ℕ) → slice_index_or flags.now i false ≡ false) }
+{
+    for i in 0..flags.len() {
+        if flags[i] {
+            return Some(i as u32);
+        }
+    }
+    None
+}

@@ -1,0 +1,160 @@
+// Pairs that are retracted from the aggregates. Nothing here allocates.
+ghost use Rattle.std.specs.Prelude.{◌≡◌, ◌≤◌, ◌<◌, [], Some, false, length, map, slice_get, slice_set};
+ghost use Rattle.std.specs.FinMap as fin;
+ghost use Rattle.far_types.specs.Answers.{extrema};
+ghost use Rattle.far_types.specs.Changes.{widened};
+ghost use Rattle.far_extrema.specs.Live.{group_at};
+ghost use Rattle.far_extrema.specs.Spans.{put_span};
+ghost use Rattle.far_aggregates.specs.Accumulators.{pairs_here, registered_in};
+ghost use Rattle.far_aggregates.specs.Lending.{IsServed, SlotIsServed, AreServed};
+ghost use Rattle.far_aggregates.specs.Retract.{retracted, MayRetract, EachMayRetract, IsPlain, EachIsPlain};
+ghost use Rattle.far_aggregates.specs.Until.{zip_all};
+
+use super::aggregate::{Accumulator, Aggregate};
+use super::known::KnownExtrema;
+use super::lend_group::LendGroup;
+use super::needed::{has_no_test, needed_columns, untested_columns};
+use super::pairs::Pair;
+use far_extrema::{MinMax, RowsLeft};
+use far_offload::span_under;
+use far_types::{Key, Spec};
+
+/// The least and the greatest value of the rows of a row group that stand under a key, where there is one. An aggregate without
+/// tests, of which there are many, is lent no columns for them.
+#[inline(always)]
+fn span_left<G: LendGroup>(spec: &Spec, group: &G, key: &Option<Key>) -> Option<MinMax>
+    requires { IsServed (G.has group.now) spec.now }
+    ensures { result ≡ fin.get (extrema (pairs_here spec.now (G.places group.now))) key.now }
+{
+    if has_no_test(spec) {
+        return span_under(spec, &untested_columns(spec, group), group.alive(), key);
+    }
+    span_under(spec, &needed_columns(spec, group), group.alive(), key)
+}
+
+/// The rows of a row group that are left under the key of a retracted pair, as an aggregate folds them.
+#[derive(Drop)]
+struct Left<'a, G> {
+    spec: &'a Spec,
+    group: &'a G,
+    key: &'a Option<Key>,
+}
+
+impl<'a, G: LendGroup> RowsLeft for Left<'a, G> {
+    ghost at_hand = { λ left. IsServed (G.has left.group.now) left.spec.now };
+
+    ghost extremes = { λ left. fin.get (extrema (pairs_here left.spec.now (G.places left.group.now))) left.key.now };
+
+    /// It is not inlined, so that its callers make no room for columns that mostly are not looked at.
+    #[inline(never)]
+    fn span(&self) -> Option<MinMax> {
+        span_left(self.spec, self.group, self.key)
+    }
+}
+
+/// Retracts a pair from the extrema of a row group: the rows that are left are read only if its value was the least or the
+/// greatest under its key.
+fn shrink<G: LendGroup>(live: &mut KnownExtrema, spec: &Spec, group: &G, number: u32, pair: &Pair)
+    requires served { IsServed (G.has group.now) spec.now }
+    requires seen { fin.get (group_at live.old.groups number) pair.now.0 ≡ Some (widened pair.now.1 (fin.get (extrema (pairs_here spec.now (G.places group.now))) pair.now.0)) }
+    ensures { live.new ≡ record live.old { groups = slice_set live.old.groups number (put_span (group_at live.old.groups number) pair.now.0 (fin.get (extrema (pairs_here spec.now (G.places group.now))) pair.now.0)) } }
+{
+    let left = Left {
+        spec,
+        group,
+        key: &pair.0,
+    };
+    live.shrink(number, &pair.0, pair.1, &left);
+}
+
+/// Retracts a pair, if there is one.
+fn retract_one<G: LendGroup>(
+    slot: &mut Option<Aggregate>,
+    group: &G,
+    number: u32,
+    to_retract: &Option<Pair>,
+)
+    requires served { SlotIsServed (G.has group.now) (registered_in slot.old) }
+    requires may { MayRetract number (G.places group.now) slot.old to_retract.now }
+    ensures { slot.new ≡ retracted number (G.places group.now) slot.old to_retract.now }
+{
+    if let Some(aggregate) = slot {
+        if let Some(pair) = to_retract {
+            match &mut aggregate.accumulator {
+                Accumulator::Totals(live) => live.take(&pair.0, pair.1),
+                Accumulator::Extrema(live) => shrink(live, &aggregate.spec, group, number, pair),
+            }
+        }
+    }
+}
+
+/// Retracts the pairs that a place of a row group gave before its row changed.
+pub fn retract_all<G: LendGroup>(
+    slots: &mut [Option<Aggregate>],
+    group: &G,
+    number: u32,
+    to_retract: &[Option<Pair>],
+)
+    requires served { AreServed (G.has group.now) (map registered_in slots.old) }
+    requires len { length to_retract.now ≤ length slots.old }
+    requires may { EachMayRetract number (G.places group.now) slots.old to_retract.now }
+    ensures { slots.new ≡ zip_all (retracted number (G.places group.now)) slots.old to_retract.now }
+{
+    for i in 0..to_retract.len() {
+        retract_one(&mut slots[i], group, number, &to_retract[i]);
+    }
+}
+
+/// Whether a pair is retracted from extrema, so that rows may have to be read.
+fn needs_rows_at(slot: &Option<Aggregate>, to_retract: &Option<Pair>) -> bool
+    ensures { result ≡ false → IsPlain slot.now to_retract.now }
+{
+    if let Some(aggregate) = slot {
+        if let Some(_) = to_retract {
+            if let Accumulator::Extrema(_) = &aggregate.accumulator {
+                return true;
+            }
+        }
+    }
+    false
+}
+
+/// Whether a pair is retracted from some extrema.
+pub fn needs_rows(slots: &[Option<Aggregate>], to_retract: &[Option<Pair>]) -> bool
+    ensures { result ≡ false → EachIsPlain slots.now to_retract.now }
+{
+    let n = slots.len().min(to_retract.len());
+    for i in 0..n {
+        if needs_rows_at(&slots[i], &to_retract[i]) {
+            return true;
+        }
+    }
+    false
+}
+
+/// Retracts a pair from totals, if there is one.
+fn retract_plain(slot: &mut Option<Aggregate>, to_retract: &Option<Pair>)
+    requires plain { IsPlain slot.old to_retract.now }
+    requires may { MayRetract 0 [] slot.old to_retract.now }
+    ensures { slot.new ≡ retracted 0 [] slot.old to_retract.now }
+{
+    if let Some(aggregate) = slot {
+        if let Some(pair) = to_retract {
+            if let Accumulator::Totals(live) = &mut aggregate.accumulator {
+                live.take(&pair.0, pair.1);
+            }
+        }
+    }
+}
+
+/// Retracts the pairs that a place gave before its row changed, all of them from totals.
+pub fn retract_totals(slots: &mut [Option<Aggregate>], pairs: &[Option<Pair>])
+    requires len { length pairs.now ≤ length slots.old }
+    requires plain { EachIsPlain slots.old pairs.now }
+    requires may { EachMayRetract 0 [] slots.old pairs.now }
+    ensures { slots.new ≡ zip_all (retracted 0 []) slots.old pairs.now }
+{
+    for i in 0..pairs.len() {
+        retract_plain(&mut slots[i], &pairs[i]);
+    }
+}
