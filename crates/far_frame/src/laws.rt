@@ -14,6 +14,7 @@ ghost use Rattle.far_types.specs.Table.{Registered, Table, left, answer_now, par
 ghost use Rattle.far_evacuator.specs.Jobs.{CarriedEvacuation};
 ghost use Rattle.far_rows.specs.declared.job.ByKind.{ByKind};
 ghost use Rattle.far_rows.specs.declared.object.Object.{Object};
+ghost use Rattle.far_rows.specs.Coldest.{pins_at};
 ghost use Rattle.far_rows.specs.Jobs.{pins_by};
 ghost use Rattle.far_rows.specs.Moving.{object_at};
 ghost use Rattle.far_rows.specs.Opening.{empty_rows};
@@ -28,7 +29,7 @@ ghost use Rattle.far_frame.specs.declared.step.Step.{Step};
 ghost use Rattle.far_frame.specs.declared.step.Step.TheVariants as step;
 ghost use Rattle.far_frame.specs.Jobs.{JobRecord};
 ghost use Rattle.far_frame.specs.Lending.{flags_of, lent_part, pieces_in};
-ghost use Rattle.far_frame.specs.Pins.{ArePinnedHere, is_here, is_pinning, pins_on};
+ghost use Rattle.far_frame.specs.Pins.{ArePinnedHere, is_here, is_pinning};
 ghost use Rattle.far_frame.specs.Renewing.{IsMigratedTo};
 ghost use Rattle.far_frame.specs.Runs.{is_movement, is_refused, job_of, plain_rows};
 ghost use Rattle.far_frame.specs.Waiting.{job_at, without_job};
@@ -100,11 +101,11 @@ pub fn movement_changes_no_row<S: FarTickets>()
 /// pins an object has. A migration sends no object away. So from a table as it is opened on, every object that has a pin is local,
 /// and a lending is not refused for it.
 pub fn a_pinned_object_stays<S: FarTickets, N: FarTickets>()
-    ensures stays { (old : World S.Ticket) → (s : Step) → (given : Reply) → (new : World S.Ticket) → IsStep S.content S.number_of old s given new → (o : Object) → pins_on old.state.rows o ≢ 0 → is_here old.state.rows o ≡ true → is_here new.state.rows o ≡ true }
-    ensures pins { (old : World S.Ticket) → (s : Step) → (given : Reply) → (new : World S.Ticket) → is_pinning s ≡ false → IsStep S.content S.number_of old s given new → (o : Object) → pins_on new.state.rows o ≡ pins_on old.state.rows o }
+    ensures stays { (old : World S.Ticket) → (s : Step) → (given : Reply) → (new : World S.Ticket) → IsStep S.content S.number_of old s given new → (o : Object) → pins_at old.state.rows o ≢ 0 → is_here old.state.rows o ≡ true → is_here new.state.rows o ≡ true }
+    ensures pins { (old : World S.Ticket) → (s : Step) → (given : Reply) → (new : World S.Ticket) → is_pinning s ≡ false → IsStep S.content S.number_of old s given new → (o : Object) → pins_at new.state.rows o ≡ pins_at old.state.rows o }
     ensures run { (old : World S.Ticket) → (steps : List Step) → (replies : List Reply) → (new : World S.Ticket) → ArePinnedHere old.state.rows → IsRun S.content S.number_of old steps replies new → ArePinnedHere new.state.rows }
     ensures opened { (schema : List Kind) → (limits : Limits) → (number : ℕ) → ArePinnedHere (empty_rows {K = S.Ticket} schema limits number) }
-    ensures lent { (old : World S.Ticket) → ArePinnedHere old.state.rows → (column from to c g : ℕ) → (new : World S.Ticket) → IsStep S.content S.number_of old (step.Lend column from to) (reply.Refused (refusal.Absent c g)) new → IfSome (object_at old.state.rows c g) (λ o. pins_on old.state.rows o ≡ 0) }
+    ensures lent { (old : World S.Ticket) → ArePinnedHere old.state.rows → (column from to c g : ℕ) → (new : World S.Ticket) → IsStep S.content S.number_of old (step.Lend column from to) (reply.Refused (refusal.Absent c g)) new → IfSome (object_at old.state.rows c g) (λ o. pins_at old.state.rows o ≡ 0) }
     ensures committed { (old : World S.Ticket) → (n : ℕ) → (job : JobRecord S.Ticket) → (carried : ByKind (CarriedEvacuation S.Ticket) (CarriedEvacuation S.Ticket)) → job_at old.jobs n ≡ Some job → job.work ≡ work.Carried carried → pins_by old.state.rows carried ≢ 0 → (new : World S.Ticket) → ¬ (IsStep S.content S.number_of old (step.Commit n) reply.Done new) }
     ensures migrated { (name : List ℕ) → (old : World S.Ticket) → (new : World N.Ticket) → ArePinnedHere old.state.rows → IsMigratedTo S.content N.content name old new → ArePinnedHere new.state.rows }
 {}
