@@ -98,8 +98,8 @@ pub fn movement_changes_no_row<S: FarTickets>()
 {}
 
 /// No step of any kind sends an object away that has a pin: a commit of its evacuation is refused. Only `Pin` and `Unpin` change how many
-/// pins an object has. A migration sends no object away. So from a table as it is opened on, every object that has a pin is local,
-/// and a lending is not refused for it.
+/// pins an object has. A migration sends no object away and brings none back, and each object keeps its pins. So from a table as it is
+/// opened on, every object that has a pin is local, and a lending is not refused for it.
 pub fn a_pinned_object_stays<S: FarTickets, N: FarTickets>()
     ensures stays { (old : World S.Ticket) → (s : Step) → (given : Reply) → (new : World S.Ticket) → IsStep S.content S.number_of old s given new → (o : Object) → pins_at old.state.rows o ≢ 0 → is_here old.state.rows o ≡ true → is_here new.state.rows o ≡ true }
     ensures pins { (old : World S.Ticket) → (s : Step) → (given : Reply) → (new : World S.Ticket) → is_pinning s ≡ false → IsStep S.content S.number_of old s given new → (o : Object) → pins_at new.state.rows o ≡ pins_at old.state.rows o }
@@ -108,6 +108,8 @@ pub fn a_pinned_object_stays<S: FarTickets, N: FarTickets>()
     ensures lent { (old : World S.Ticket) → ArePinnedHere old.state.rows → (column from to c g : ℕ) → (new : World S.Ticket) → IsStep S.content S.number_of old (step.Lend column from to) (reply.Refused (refusal.Absent c g)) new → IfSome (object_at old.state.rows c g) (λ o. pins_at old.state.rows o ≡ 0) }
     ensures committed { (old : World S.Ticket) → (n : ℕ) → (job : JobRecord S.Ticket) → (carried : ByKind (CarriedEvacuation S.Ticket) (CarriedEvacuation S.Ticket)) → job_at old.jobs n ≡ Some job → job.work ≡ work.Carried carried → pins_by old.state.rows carried ≢ 0 → (new : World S.Ticket) → ¬ (IsStep S.content S.number_of old (step.Commit n) reply.Done new) }
     ensures migrated { (name : List ℕ) → (old : World S.Ticket) → (new : World N.Ticket) → ArePinnedHere old.state.rows → IsMigratedTo S.content N.content name old new → ArePinnedHere new.state.rows }
+    ensures migrated_pins { (name : List ℕ) → (old : World S.Ticket) → (new : World N.Ticket) → IsMigratedTo S.content N.content name old new → (o : Object) → pins_at new.state.rows o ≡ pins_at old.state.rows o }
+    ensures migrated_places { (name : List ℕ) → (old : World S.Ticket) → (new : World N.Ticket) → IsMigratedTo S.content N.content name old new → (o : Object) → is_here new.state.rows o ≡ is_here old.state.rows o }
 {}
 
 /// A merge that is accepted does to the table exactly what a scan of its row group does, and changes no row and no object.
