@@ -1,5 +1,5 @@
 // The promises of a run in the subject's own words, as they follow from the relation of steps.
-ghost use Rattle.std.specs.Prelude.{◌≡◌, ◌≢◌, ◌≤◌, ℕ, List, ◌∷◌, [], ◌++◌, None, Some, IfSome, IsSomeAnd, true, false, slice_range};
+ghost use Rattle.std.specs.Prelude.{◌≡◌, ◌≢◌, ◌<◌, ◌≤◌, ℕ, List, ◌∷◌, [], ◌++◌, None, Some, IfSome, IsSome, IsSomeAnd, true, false, slice_range};
 ghost use Rattle.std.specs.List.{flat_map};
 ghost use Rattle.far_types.specs.declared.answer.Answer.{Answer};
 ghost use Rattle.far_types.specs.declared.cell.Kind.{Kind};
@@ -31,11 +31,11 @@ ghost use Rattle.far_frame.specs.Jobs.{JobRecord};
 ghost use Rattle.far_frame.specs.Lending.{flags_of, lent_part, pieces_in};
 ghost use Rattle.far_frame.specs.Pins.{ArePinnedHere, is_here, is_pinning};
 ghost use Rattle.far_frame.specs.Renewing.{IsMigratedTo};
-ghost use Rattle.far_frame.specs.Runs.{is_movement, is_refused, job_of, plain_rows};
+ghost use Rattle.far_frame.specs.Runs.{end_of, is_movement, is_refused, job_of, plain_rows};
 ghost use Rattle.far_frame.specs.Waiting.{job_at, without_job};
 ghost use Rattle.far_frame.specs.State.{live};
 ghost use Rattle.far_frame.specs.Steps.{IsStep, IsRun};
-ghost use Rattle.far_frame.specs.Worlds.{World};
+ghost use Rattle.far_frame.specs.Worlds.{AreNumbered, IsSpent, World};
 
 use far_store::FarTickets;
 
@@ -127,6 +127,19 @@ pub fn a_stale_job_changes_nothing<S: FarTickets>()
     ensures merged { (old : World S.Ticket) → (n : ℕ) → (new : World S.Ticket) → IsStep S.content S.number_of old (step.Merge n) (reply.Refused Refusal.StaleJob) new → new ≡ record old { jobs = without_job old.jobs n } }
     ensures carried { (old : World S.Ticket) → (n : ℕ) → (new : World S.Ticket) → IsStep S.content S.number_of old (step.Carry n) (reply.Refused Refusal.StaleJob) new → new ≡ old }
     ensures spent { (old : World S.Ticket) → (s : Step) → IsSomeAnd (job_of s) (λ n. job_at old.jobs n ≡ None) → (given : Reply) → (new : World S.Ticket) → IsStep S.content S.number_of old s given new → given ≡ reply.Refused refusal.StaleJob }
+{}
+
+/// A number names one job. All jobs stand under different numbers in a world as `World::new` or `World::migrate` makes it, and after any
+/// run on it. A job that is accepted or stale at its end spends its number: no job stands under that again, whatever the steps are, and
+/// every step that names it is stale. A migration spends all numbers that were given out. `run` tells of spent numbers by itself.
+pub fn a_number_names_one_job<S: FarTickets, N: FarTickets>()
+    ensures opened { (old : World S.Ticket) → old.jobs ≡ [] → AreNumbered old }
+    ensures run { (old : World S.Ticket) → (steps : List Step) → (replies : List Reply) → (new : World S.Ticket) → AreNumbered old → IsRun S.content S.number_of old steps replies new → AreNumbered new }
+    ensures accepted { (old : World S.Ticket) → AreNumbered old → (s : Step) → (n : ℕ) → end_of s ≡ Some n → (new : World S.Ticket) → IsStep S.content S.number_of old s reply.Done new → IsSpent n new }
+    ensures stale { (old : World S.Ticket) → AreNumbered old → (s : Step) → (n : ℕ) → end_of s ≡ Some n → IsSome (job_at old.jobs n) → (new : World S.Ticket) → IsStep S.content S.number_of old s (reply.Refused refusal.StaleJob) new → IsSpent n new }
+    ensures spent { (n : ℕ) → (old : World S.Ticket) → (steps : List Step) → (replies : List Reply) → (new : World S.Ticket) → IsSpent n old → IsRun S.content S.number_of old steps replies new → IsSpent n new }
+    ensures named { (old : World S.Ticket) → (s : Step) → IsSomeAnd (job_of s) (λ n. IsSpent n old) → (given : Reply) → (new : World S.Ticket) → IsStep S.content S.number_of old s given new → given ≡ reply.Refused refusal.StaleJob }
+    ensures migrated { (name : List ℕ) → (old : World S.Ticket) → (new : World N.Ticket) → IsMigratedTo S.content N.content name old new → (n : ℕ) → n < old.begun → IsSpent n new }
 {}
 
 /// Lists of steps served one after another are served as one list.
