@@ -12,3 +12,4 @@ pub mod LendingLaws
 mod GivenLaws
 mod SeenLaws
 mod SpentLaws
+mod NumberLaws

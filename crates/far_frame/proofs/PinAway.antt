@@ -16,10 +16,11 @@ use Rattle.far_rows.specs.declared.slot.Slot.TheVariants as slot
 use Rattle.far_rows.specs.declared.object.Object.{Object}
 use Rattle.far_rows.specs.declared.object.Object.TheVariants as object
 use Rattle.far_rows.specs.Rows.{Rows, object_of}
+use Rattle.far_rows.specs.Coldest.{pins_at}
 use Rattle.far_rows.specs.Moving.{object_at, object_in, object_refusal, pinned, unpinned, pins_used, pin_refusal}
 use Rattle.far_rows.specs.Refusing.{absent_at, absent_in, no_column, no_range}
 use Rattle.far_frame.specs.Lending.{lend_refusal}
-use Rattle.far_frame.specs.Pins.{pins_on, is_here, ArePinnedHere}
+use Rattle.far_frame.specs.Pins.{is_here, ArePinnedHere}
 use Rattle.far_scopes.specs.declared.entry.Entry.{Entry}
 use Rattle.far_frame.proofs.PinLaws.{unpinned-some}
 use Rattle.far_frame.proofs.PinRows.{not-on, no-some, one-some, moves-pinned, moves-unpinned}
@@ -61,15 +62,15 @@ module _ {K : Type 0} (r : Rows K) (column group : ℕ) where
       not-here (is_here r o) (sym (away-at o is) ∙ none-first (object_refusal r column group) (absent_in r column group) (option_map_or (pins_used r) (object_at r column group) (false, refusal.StaleJob) ∷ []) none)
 
   -- what is told to be away has no pin
-  pub free-away : ArePinnedHere r → (absent_in r column group).0 ≡ true → (found : Option Object) → object_at r column group ≡ found → IfSome found (λ o. pins_on r o ≡ 0)
+  pub free-away : ArePinnedHere r → (absent_in r column group).0 ≡ true → (found : Option Object) → object_at r column group ≡ found → IfSome found (λ o. pins_at r o ≡ 0)
   free-away all away None is = tt
-  free-away all away (Some o) is = elim (cases_eq (pins_on r o) 0) [
+  free-away all away (Some o) is = elim (cases_eq (pins_at r o) 0) [
     | inl none ↦ none
     | inr some ↦ absurd (not-away (is_here r o) (sym (away-at o is) ∙ away) (all o some))
   ]
 
   module _ (now : Rows K) where
-    same-or : (q o : Object) → (is_here r q ≡ true) → (pins_on r o ≢ 0 → is_here r o ≡ true) → pins_on (pinned r q) o ≢ 0 → is_here r o ≡ true
+    same-or : (q o : Object) → (is_here r q ≡ true) → (pins_at r o ≢ 0 → is_here r o ≡ true) → pins_at (pinned r q) o ≢ 0 → is_here r o ≡ true
     same-or (object.Number q) (object.Number o) here rest some = elim (cases_eq o q) [
       | inl same ↦ subst (λ (p : ℕ). is_local r.number_objects p ≡ true) (sym same) here
       | inr other ↦ rest (λ none. some (ap (λ (e : Option (Entry K)). option_map_or (λ e. e.pins) e 0) (entry-with_other r.number_objects.entries q _ o other) ∙ none))
@@ -84,13 +85,13 @@ module _ {K : Type 0} (r : Rows K) (column group : ℕ) where
     one-pinned : (found : Option Object) → object_at r column group ≡ found → pin_refusal r column group ≡ None → IsSomeAnd found (λ q. now ≡ pinned r q) → ArePinnedHere r → ArePinnedHere now
     one-pinned None at none h all o some = absurd h
     one-pinned (Some q) at none h all o some =
-        moves-pinned r now (Some q) h o ∙ same-or q o (pin-here none q at) (all o) (subst (λ (t : Rows K). pins_on t o ≢ 0) h some)
+        moves-pinned r now (Some q) h o ∙ same-or q o (pin-here none q at) (all o) (subst (λ (t : Rows K). pins_at t o ≢ 0) h some)
 
     pub pinned-holds : pin_refusal r column group ≡ None → IsSomeAnd (object_at r column group) (λ q. now ≡ pinned r q) → ArePinnedHere r → ArePinnedHere now
     pinned-holds none h all = one-pinned (object_at r column group) refl none h all
 
 module _ {K : Type 0} (r now : Rows K) where
-  still-some : (q o : Object) → pins_on (unpinned r q) o ≢ 0 → pins_on r o ≢ 0
+  still-some : (q o : Object) → pins_at (unpinned r q) o ≢ 0 → pins_at r o ≢ 0
   still-some (object.Number q) (object.Number o) some = unpinned-some r.number_objects q o some
   still-some (object.Text q) (object.Text o) some = unpinned-some r.text_objects q o some
   still-some (object.Number q) (object.Text o) some = some
@@ -98,7 +99,7 @@ module _ {K : Type 0} (r now : Rows K) where
 
   pub unpinned-holds : (found : Option Object) → IsSomeAnd found (λ q. now ≡ unpinned r q) → ArePinnedHere r → ArePinnedHere now
   unpinned-holds None h all o some = absurd h
-  unpinned-holds (Some q) h all o some = moves-unpinned r now (Some q) h o ∙ all o (still-some q o (subst (λ (t : Rows K). pins_on t o ≢ 0) h some))
+  unpinned-holds (Some q) h all o some = moves-unpinned r now (Some q) h o ∙ all o (still-some q o (subst (λ (t : Rows K). pins_at t o ≢ 0) h some))
 
 -- why a lending says that an object is away
 pub due-absent : (due : Option Refusal) (c g : ℕ) → MayRefuse due true (refusal.Absent c g) → due ≡ Some (refusal.Absent c g)

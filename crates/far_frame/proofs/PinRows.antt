@@ -22,6 +22,7 @@ use Rattle.far_rows.specs.declared.new_cell.NewCell.TheVariants as new_cell
 use Rattle.far_rows.specs.declared.object.Object.{Object}
 use Rattle.far_rows.specs.declared.object.Object.TheVariants as object
 use Rattle.far_rows.specs.Rows.{Rows, TextsMoved}
+use Rattle.far_rows.specs.Coldest.{pins_at}
 use Rattle.far_rows.specs.Slots.{kind_of}
 use Rattle.far_rows.specs.Setting.{set_in, kind_in}
 use Rattle.far_rows.specs.Moving.{object_at, touched, pinned, unpinned}
@@ -32,7 +33,7 @@ use Rattle.far_frame.specs.State.{State}
 use Rattle.far_frame.specs.declared.job.Work.TheVariants as work
 use Rattle.far_frame.specs.Lending.{all_used}
 use Rattle.far_frame.specs.Jobs.{WorkOf, Commits, Installs, Merges}
-use Rattle.far_frame.specs.Pins.{pins_on, is_here}
+use Rattle.far_frame.specs.Pins.{is_here}
 use Rattle.far_scopes.specs.Effects.{arrived}
 use Rattle.far_frame.proofs.PinLaws.{KeepsPinned, keeps-same, keeps-then, keeps-touched, keeps-replaced, keeps-replaced_all, keeps-arrived, keeps-departed, keeps-compacted, keeps-set, keeps-all_pushed, keeps-all_created}
 
@@ -57,11 +58,11 @@ module _ {K : Type 0} where
   pub rows-are : (old mid new : Rows K) → new ≡ mid → KeepsRows old mid → KeepsRows old new
   rows-are old mid new is k = subst (KeepsRows old) (sym is) k
 
-  pub rows-here : (old new : Rows K) → KeepsRows old new → (o : Object) → pins_on old o ≢ 0 → is_here old o ≡ true → is_here new o ≡ true
+  pub rows-here : (old new : Rows K) → KeepsRows old new → (o : Object) → pins_at old o ≢ 0 → is_here old o ≡ true → is_here new o ≡ true
   rows-here old new k (object.Number o) some here = k.numbers.here o some here
   rows-here old new k (object.Text o) some here = k.texts.here o some here
 
-  pub rows-pins : (old new : Rows K) → KeepsRows old new → (o : Object) → pins_on new o ≡ pins_on old o
+  pub rows-pins : (old new : Rows K) → KeepsRows old new → (o : Object) → pins_at new o ≡ pins_at old o
   rows-pins old new k (object.Number o) = k.numbers.pins o
   rows-pins old new k (object.Text o) = k.texts.pins o
 

@@ -8,6 +8,7 @@ use Rattle.far_vector.specs.Pieces.{touched as touched_groups}
 use Rattle.far_rows.specs.declared.object.Object.{Object}
 use Rattle.far_rows.specs.declared.object.Object.TheVariants as object
 use Rattle.far_rows.specs.Rows.{Rows}
+use Rattle.far_rows.specs.Coldest.{pins_at}
 use Rattle.far_rows.specs.Opening.{empty_rows}
 use Rattle.far_rows.specs.Moving.{object_at}
 use Rattle.far_rows.specs.Jobs.{evac_refusal, fetch_refusal}
@@ -22,7 +23,7 @@ use Rattle.far_frame.specs.declared.step.Reply.TheVariants as reply
 use Rattle.far_frame.specs.Changes.{Replies, Accepts, Refuses, Changes}
 use Rattle.far_frame.specs.Lending.{lend_refusal}
 use Rattle.far_frame.specs.Jobs.{JobRecord, IsEvacJob, IsFetchJob, IsOffloadJob, Commits, CommitRefusal, Installs, InstallRefusal, Merges, MergeRefusal}
-use Rattle.far_frame.specs.Pins.{is_pinning, pins_on, is_here, ArePinnedHere}
+use Rattle.far_frame.specs.Pins.{is_pinning, is_here, ArePinnedHere}
 use Rattle.far_frame.specs.Steps.{IsStep, IsRun}
 use Rattle.far_frame.specs.Worlds.{World, IsBegun, IsNotBegun, IsCarry, IsNoCarry}
 use Rattle.far_frame.proofs.PinAway.{absent-cause, due-absent, free-away, pinned-holds, unpinned-holds}
@@ -84,11 +85,11 @@ module _ {K : Type 0} (content : K → List ℕ) (number_of : K → ℕ) where
   step-keeps old (step.Merge n) given new is h = ended-so content number_of old new given n (Merges number_of old.state) (MergeRefusal number_of old.state) (merges-rows number_of old.state new.state) (unchanged old.state new.state) h
 
   -- only Pin and Unpin change how many pins an object has
-  pub step-pins : (old : World K) (s : Step) (given : Reply) (new : World K) → is_pinning s ≡ false → IsStep content number_of old s given new → (o : Object) → pins_on new.state.rows o ≡ pins_on old.state.rows o
+  pub step-pins : (old : World K) (s : Step) (given : Reply) (new : World K) → is_pinning s ≡ false → IsStep content number_of old s given new → (o : Object) → pins_at new.state.rows o ≡ pins_at old.state.rows o
   step-pins old s given new is h o = rows-pins old.state.rows new.state.rows (step-keeps old s given new is h) o
 
   -- an object that has a pin stays local at every step
-  pub step-stays : (old : World K) (s : Step) (given : Reply) (new : World K) → IsStep content number_of old s given new → (o : Object) → pins_on old.state.rows o ≢ 0 → is_here old.state.rows o ≡ true → is_here new.state.rows o ≡ true
+  pub step-stays : (old : World K) (s : Step) (given : Reply) (new : World K) → IsStep content number_of old s given new → (o : Object) → pins_at old.state.rows o ≢ 0 → is_here old.state.rows o ≡ true → is_here new.state.rows o ≡ true
   step-stays old (step.Pin column group) given new h o some here = replied (λ served. Accepts content old.state (step.Pin column group) served new.state) (λ why. Refuses old.state (step.Pin column group) why new.state) given
       (λ served k. moves-pinned old.state.rows new.state.rows (object_at old.state.rows column group) k.2.changed.rows o ∙ here)
       (λ why k. ap (λ (t : State K). is_here t.rows o) k.0 ∙ here) h.0
@@ -110,7 +111,7 @@ module _ {K : Type 0} (content : K → List ℕ) (number_of : K → ℕ) where
 
   kept-holds : (old new : Rows K) → KeepsRows old new → ArePinnedHere old → ArePinnedHere new
   kept-holds old new k all o some =
-      let before : pins_on old o ≢ 0 = λ none. some (rows-pins old new k o ∙ none) in
+      let before : pins_at old o ≢ 0 = λ none. some (rows-pins old new k o ∙ none) in
       rows-here old new k o before (all o before)
 
   step-holds : (old : World K) (s : Step) (given : Reply) (new : World K) → IsStep content number_of old s given new → ArePinnedHere old.state.rows → ArePinnedHere new.state.rows
@@ -126,7 +127,7 @@ module _ {K : Type 0} (content : K → List ℕ) (number_of : K → ℕ) where
   run-holds old (s ∷ steps) (given ∷ replies) new all h = run-holds h.0 steps replies new (step-holds old s given h.0 h.1 all) h.2
 
   -- a lending is not refused for an object that has a pin
-  pub lent-free : (old : World K) → ArePinnedHere old.state.rows → (column from to c g : ℕ) (new : World K) → IsStep content number_of old (step.Lend column from to) (reply.Refused (refusal.Absent c g)) new → IfSome (object_at old.state.rows c g) (λ o. pins_on old.state.rows o ≡ 0)
+  pub lent-free : (old : World K) → ArePinnedHere old.state.rows → (column from to c g : ℕ) (new : World K) → IsStep content number_of old (step.Lend column from to) (reply.Refused (refusal.Absent c g)) new → IfSome (object_at old.state.rows c g) (λ o. pins_at old.state.rows o ≡ 0)
   lent-free old all column from to c g new h =
       free-away old.state.rows c g all (absent-cause old.state.rows column from to c g (due-absent (lend_refusal old.state.rows column from to) c g h.0.1)) (object_at old.state.rows c g) refl
 

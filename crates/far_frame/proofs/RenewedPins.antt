@@ -1,5 +1,5 @@
--- A table that goes on with another store: an object that has a pin then had one before, and local objects stay local.
-use Rattle.std.proofs.Common.{◌≡◌, ◌≢◌, ℕ, zero, suc, true, List, [], ◌∷◌, map, Option, refl, sym, ap, subst, ◌∙◌}
+-- A table that goes on with another store: each object has the pins that it had, and is local if it was.
+use Rattle.std.proofs.Common.{◌≡◌, ℕ, zero, suc, List, [], ◌∷◌, map, length, Option, refl, ap, ◌∙◌}
 use Rattle.std.specs.Prelude.{is_some, slice_get}
 use Rattle.std.specs.List.{zip}
 use Rattle.std.specs.Option.{option_map_or}
@@ -7,12 +7,13 @@ use Rattle.far_pointer.specs.declared.pointer.Pointer.{Pointer}
 use Rattle.far_pointer.specs.declared.pointer.Pointer.TheVariants.{Local, Remote}
 use Rattle.far_scopes.specs.declared.entry.Entry.{Entry}
 use Rattle.far_scopes.specs.Memory.{at_of, place_of}
-use Rattle.far_scopes.specs.Movement.{Movement, is_local, pins_of}
-use Rattle.far_scopes.specs.Renewal.{renewed_word, renewed_entry, renewed}
+use Rattle.far_scopes.specs.Renewal.{renewed_word, renewed_entry}
+use Rattle.far_rows.specs.declared.object.Object.{Object}
 use Rattle.far_rows.specs.declared.object.Object.TheVariants as object
-use Rattle.far_rows.specs.Renewal.{RowsTickets, renewed_rows}
+use Rattle.far_rows.specs.Coldest.{pins_at}
+use Rattle.far_rows.specs.Renewal.{RowsTickets, RenewsRows, renewed_rows}
 use Rattle.far_rows.specs.Rows.{Rows}
-use Rattle.far_frame.specs.Pins.{ArePinnedHere}
+use Rattle.far_frame.specs.Pins.{ArePinnedHere, is_here}
 use Rattle.far_frame.specs.Renewing.{IsMigratedTo}
 use Rattle.far_frame.specs.State.{State}
 use Rattle.far_frame.specs.Worlds.{World}
@@ -26,21 +27,36 @@ place-renewed [] o = refl
 place-renewed (word ∷ words) zero = at-renewed word
 place-renewed (word ∷ words) (suc o) = place-renewed words o
 
+none-long : {A : Type 0} (n : ℕ) → zero ≡ suc n → A
+none-long n h = absurd (let no : ⊥ = cc in no)
+
+same-rest : (n m : ℕ) → suc n ≡ suc m → n ≡ m
+same-rest n m h = cc
+
 module _ {K L : Type 0} where
-  entry-pinned : (entries : List (Entry K)) (tickets : List (Option L)) (o : ℕ) → option_map_or (λ e. e.pins) (slice_get (map (λ (e : Entry K × Option L). renewed_entry e.0 e.1) (zip entries tickets)) o) 0 ≢ 0 → option_map_or (λ e. e.pins) (slice_get entries o) 0 ≢ 0
-  entry-pinned [] tickets o some = some
-  entry-pinned (e ∷ entries) [] o some = absurd (some refl)
-  entry-pinned (e ∷ entries) (t ∷ tickets) zero some = some
-  entry-pinned (e ∷ entries) (t ∷ tickets) (suc o) some = entry-pinned entries tickets o some
+  entry-pins : (entries : List (Entry K)) (tickets : List (Option L)) → length tickets ≡ length entries → (o : ℕ) → option_map_or (λ e. e.pins) (slice_get (map (λ (e : Entry K × Option L). renewed_entry e.0 e.1) (zip entries tickets)) o) 0 ≡ option_map_or (λ e. e.pins) (slice_get entries o) 0
+  entry-pins [] tickets even o = refl
+  entry-pins (e ∷ entries) [] even o = none-long (length entries) even
+  entry-pins (e ∷ entries) (t ∷ tickets) even zero = refl
+  entry-pins (e ∷ entries) (t ∷ tickets) even (suc o) = entry-pins entries tickets (same-rest (length tickets) (length entries) even) o
 
-  object-holds : {X : Type 0} (m : Movement X K) (tickets : List (Option L)) (o : ℕ) → (pins_of m o ≢ 0 → is_local m o ≡ true) → pins_of (renewed m tickets) o ≢ 0 → is_local (renewed m tickets) o ≡ true
-  object-holds m tickets o here some = ap is_some (place-renewed m.memory.words o) ∙ here (entry-pinned m.entries tickets o some)
-
-  rows-hold : (r : Rows K) (tickets : RowsTickets L) → ArePinnedHere r → ArePinnedHere (renewed_rows r tickets)
-  rows-hold r tickets all (object.Number o) some = object-holds r.number_objects tickets.numbers o (all (object.Number o)) some
-  rows-hold r tickets all (object.Text o) some = object-holds r.text_objects tickets.texts o (all (object.Text o)) some
+  rows-local : (r : Rows K) (tickets : RowsTickets L) (o : Object) → is_here (renewed_rows r tickets) o ≡ is_here r o
+  rows-local r tickets (object.Number o) = ap is_some (place-renewed r.number_objects.memory.words o)
+  rows-local r tickets (object.Text o) = ap is_some (place-renewed r.text_objects.memory.words o)
 
   module _ (content : K → List ℕ) (new_content : L → List ℕ) where
-    -- each object that has a pin is local after the migration, if it was so before
+    rows-pinned : (r : Rows K) (tickets : RowsTickets L) → RenewsRows content new_content r tickets → (o : Object) → pins_at (renewed_rows r tickets) o ≡ pins_at r o
+    rows-pinned r tickets renews (object.Number o) = entry-pins r.number_objects.entries tickets.numbers renews.numbers.even o
+    rows-pinned r tickets renews (object.Text o) = entry-pins r.text_objects.entries tickets.texts renews.texts.even o
+
+    -- after a migration each object has the pins that it had
+    pub migrated-pins : (name : List ℕ) (old : World K) (new : World L) → IsMigratedTo content new_content name old new → (o : Object) → pins_at new.state.rows o ≡ pins_at old.state.rows o
+    migrated-pins name old new h o = ap (λ (t : State L). pins_at t.rows o) h.migrated.state ∙ rows-pinned old.state.rows h.migrated.tickets h.migrated.renews o
+
+    -- and is local if it was
+    pub migrated-here : (name : List ℕ) (old : World K) (new : World L) → IsMigratedTo content new_content name old new → (o : Object) → is_here new.state.rows o ≡ is_here old.state.rows o
+    migrated-here name old new h o = ap (λ (t : State L). is_here t.rows o) h.migrated.state ∙ rows-local old.state.rows h.migrated.tickets o
+
+    -- so each object that has a pin is local after the migration, if it was so before
     pub migrated-holds : (name : List ℕ) (old : World K) (new : World L) → ArePinnedHere old.state.rows → IsMigratedTo content new_content name old new → ArePinnedHere new.state.rows
-    migrated-holds name old new all h = subst (λ (t : State L). ArePinnedHere t.rows) (sym h.migrated.state) (rows-hold old.state.rows h.migrated.tickets all)
+    migrated-holds name old new all h o some = migrated-here name old new h o ∙ all o (λ none. some (migrated-pins name old new h o ∙ none))

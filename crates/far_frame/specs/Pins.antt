@@ -1,9 +1,10 @@
--- Pins: how many an object has, and which steps change that.
-use Rattle.std.specs.Prelude.{◌≡◌, ◌≢◌, ℕ, Bool, true, false}
-use Rattle.far_scopes.specs.Movement.{is_local, pins_of}
+-- Pins: which steps change how many an object has, and that each object with one is local.
+use Rattle.std.specs.Prelude.{◌≡◌, ◌≢◌, Bool, true, false}
+use Rattle.far_scopes.specs.Movement.{is_local}
 use Rattle.far_rows.specs.declared.object.Object.{Object}
 use Rattle.far_rows.specs.declared.object.Object.TheVariants as object
 use Rattle.far_rows.specs.Rows.{Rows}
+use Rattle.far_rows.specs.Coldest.{pins_at}
 use Rattle.far_frame.specs.declared.step.Step.{Step}
 use Rattle.far_frame.specs.declared.step.Step.TheVariants as step
 
@@ -14,11 +15,6 @@ is_pinning (step.Unpin column group) = true
 is_pinning _ = false
 
 module _ {K : Type 0} (r : Rows K) where
-  -- how many pins an object has
-  abbrev pub pins_on : Object → ℕ
-  pins_on (object.Number o) = pins_of r.number_objects o
-  pins_on (object.Text o) = pins_of r.text_objects o
-
   -- whether an object is local
   abbrev pub is_here : Object → Bool
   is_here (object.Number o) = is_local r.number_objects o
@@ -26,4 +22,4 @@ module _ {K : Type 0} (r : Rows K) where
 
   -- each object that has a pin is local
   abbrev pub ArePinnedHere : Type 0
-  ArePinnedHere = (o : Object) → pins_on o ≢ 0 → is_here o ≡ true
+  ArePinnedHere = (o : Object) → pins_at r o ≢ 0 → is_here o ≡ true

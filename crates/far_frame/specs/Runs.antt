@@ -71,3 +71,10 @@ job_of (step.Commit n) = Some n
 job_of (step.Install n) = Some n
 job_of (step.Merge n) = Some n
 job_of _ = None
+
+-- the number of the job that the step ends
+abbrev pub end_of : Step → Option ℕ
+end_of (step.Commit n) = Some n
+end_of (step.Install n) = Some n
+end_of (step.Merge n) = Some n
+end_of _ = None

@@ -1,6 +1,8 @@
 -- A world: a table with its store and its jobs, and what the steps of jobs make of it.
-use Rattle.std.specs.Prelude.{◌≡◌, ℕ, ◌+◌, ◌<◌, nat_lt, not, true, cond, List, [], ◌∷◌, Option, IsSomeAnd}
+use Rattle.std.specs.Prelude.{◌≡◌, ℕ, ◌+◌, ◌<◌, nat_lt, not, true, cond, List, [], ◌∷◌, Option, None, IsSomeAnd}
 use Rattle.std.specs.declared.result.Result.TheVariants.{Err}
+use Rattle.std.specs.List.{All, IsDistinct}
+use Rattle.std.specs.Map.{keys_of, lookup}
 use Rattle.std.specs.Option.{option_or}
 use Rattle.far_types.specs.declared.refusal.Refusal.{Refusal}
 use Rattle.far_types.specs.declared.refusal.Refusal.TheVariants as refusal
@@ -12,7 +14,7 @@ use Rattle.far_frame.specs.State.{State}
 use Rattle.far_frame.specs.declared.step.Reply.{Reply}
 use Rattle.far_frame.specs.declared.step.Reply.TheVariants as reply
 use Rattle.far_frame.specs.Jobs.{JobRecord, WorkOf, CarryRefusal}
-use Rattle.far_frame.specs.Waiting.{Waiting, AreJobsAt, IsCarriedAt, RefusalAt, job_at, one_more, spends, without_job}
+use Rattle.far_frame.specs.Waiting.{Waiting, AreJobsAt, IsCarriedAt, RefusalAt, is_number, job_at, one_more, spends, without_job}
 
 -- all that a step can see or change: the table and its objects, the name of the store that they go to, how many jobs were begun
 -- and which are not spent, and how many faults of the store were met
@@ -68,3 +70,13 @@ module _ {K : Type 0} where
   pub record IsNotEnded (why : WorkOf K → Refusal → Type 0) (n : ℕ) (old : World K) (given : Refusal) (new : World K) : Type 0 where
     pub refused : RefusalAt (λ job. why job.work) (job_at old.jobs n) given
     pub world : new ≡ record old { jobs = cond (spends (Err given)) (without_job old.jobs n) old.jobs }
+
+  -- each job stands under a number of its own, and all these numbers were given out: they are below the count of jobs begun
+  pub record AreNumbered (world : World K) : Type 0 where
+    pub given : All (λ n. n < world.begun) (keys_of world.jobs)
+    pub distinct : IsDistinct is_number (keys_of world.jobs)
+
+  -- the number was given out, and no job stands under it any more
+  pub record IsSpent (n : ℕ) (world : World K) : Type 0 where
+    pub given : n < world.begun
+    pub gone : lookup (is_number n) world.jobs ≡ None

@@ -1,5 +1,5 @@
 // The promises of a run in the subject's own words, as they follow from the relation of steps.
-ghost use Rattle.std.specs.Prelude.{◌≡◌, ◌≢◌, ◌≤◌, ℕ, List, ◌∷◌, [], ◌++◌, None, Some, IfSome, IsSomeAnd, true, false, slice_range};
+ghost use Rattle.std.specs.Prelude.{◌≡◌, ◌≢◌, ◌<◌, ◌≤◌, ℕ, List, ◌∷◌, [], ◌++◌, None, Some, IfSome, IsSome, IsSomeAnd, true, false, slice_range};
 ghost use Rattle.std.specs.List.{flat_map};
 ghost use Rattle.far_types.specs.declared.answer.Answer.{Answer};
 ghost use Rattle.far_types.specs.declared.cell.Kind.{Kind};
@@ -14,6 +14,7 @@ ghost use Rattle.far_types.specs.Table.{Registered, Table, left, answer_now, par
 ghost use Rattle.far_evacuator.specs.Jobs.{CarriedEvacuation};
 ghost use Rattle.far_rows.specs.declared.job.ByKind.{ByKind};
 ghost use Rattle.far_rows.specs.declared.object.Object.{Object};
+ghost use Rattle.far_rows.specs.Coldest.{pins_at};
 ghost use Rattle.far_rows.specs.Jobs.{pins_by};
 ghost use Rattle.far_rows.specs.Moving.{object_at};
 ghost use Rattle.far_rows.specs.Opening.{empty_rows};
@@ -28,13 +29,13 @@ ghost use Rattle.far_frame.specs.declared.step.Step.{Step};
 ghost use Rattle.far_frame.specs.declared.step.Step.TheVariants as step;
 ghost use Rattle.far_frame.specs.Jobs.{JobRecord};
 ghost use Rattle.far_frame.specs.Lending.{flags_of, lent_part, pieces_in};
-ghost use Rattle.far_frame.specs.Pins.{ArePinnedHere, is_here, is_pinning, pins_on};
+ghost use Rattle.far_frame.specs.Pins.{ArePinnedHere, is_here, is_pinning};
 ghost use Rattle.far_frame.specs.Renewing.{IsMigratedTo};
-ghost use Rattle.far_frame.specs.Runs.{is_movement, is_refused, job_of, plain_rows};
+ghost use Rattle.far_frame.specs.Runs.{end_of, is_movement, is_refused, job_of, plain_rows};
 ghost use Rattle.far_frame.specs.Waiting.{job_at, without_job};
 ghost use Rattle.far_frame.specs.State.{live};
 ghost use Rattle.far_frame.specs.Steps.{IsStep, IsRun};
-ghost use Rattle.far_frame.specs.Worlds.{World};
+ghost use Rattle.far_frame.specs.Worlds.{AreNumbered, IsSpent, World};
 
 use far_store::FarTickets;
 
@@ -97,16 +98,18 @@ pub fn movement_changes_no_row<S: FarTickets>()
 {}
 
 /// No step of any kind sends an object away that has a pin: a commit of its evacuation is refused. Only `Pin` and `Unpin` change how many
-/// pins an object has. A migration sends no object away. So from a table as it is opened on, every object that has a pin is local,
-/// and a lending is not refused for it.
+/// pins an object has. A migration sends no object away and brings none back, and each object keeps its pins. So from a table as it is
+/// opened on, every object that has a pin is local, and a lending is not refused for it.
 pub fn a_pinned_object_stays<S: FarTickets, N: FarTickets>()
-    ensures stays { (old : World S.Ticket) → (s : Step) → (given : Reply) → (new : World S.Ticket) → IsStep S.content S.number_of old s given new → (o : Object) → pins_on old.state.rows o ≢ 0 → is_here old.state.rows o ≡ true → is_here new.state.rows o ≡ true }
-    ensures pins { (old : World S.Ticket) → (s : Step) → (given : Reply) → (new : World S.Ticket) → is_pinning s ≡ false → IsStep S.content S.number_of old s given new → (o : Object) → pins_on new.state.rows o ≡ pins_on old.state.rows o }
+    ensures stays { (old : World S.Ticket) → (s : Step) → (given : Reply) → (new : World S.Ticket) → IsStep S.content S.number_of old s given new → (o : Object) → pins_at old.state.rows o ≢ 0 → is_here old.state.rows o ≡ true → is_here new.state.rows o ≡ true }
+    ensures pins { (old : World S.Ticket) → (s : Step) → (given : Reply) → (new : World S.Ticket) → is_pinning s ≡ false → IsStep S.content S.number_of old s given new → (o : Object) → pins_at new.state.rows o ≡ pins_at old.state.rows o }
     ensures run { (old : World S.Ticket) → (steps : List Step) → (replies : List Reply) → (new : World S.Ticket) → ArePinnedHere old.state.rows → IsRun S.content S.number_of old steps replies new → ArePinnedHere new.state.rows }
     ensures opened { (schema : List Kind) → (limits : Limits) → (number : ℕ) → ArePinnedHere (empty_rows {K = S.Ticket} schema limits number) }
-    ensures lent { (old : World S.Ticket) → ArePinnedHere old.state.rows → (column from to c g : ℕ) → (new : World S.Ticket) → IsStep S.content S.number_of old (step.Lend column from to) (reply.Refused (refusal.Absent c g)) new → IfSome (object_at old.state.rows c g) (λ o. pins_on old.state.rows o ≡ 0) }
+    ensures lent { (old : World S.Ticket) → ArePinnedHere old.state.rows → (column from to c g : ℕ) → (new : World S.Ticket) → IsStep S.content S.number_of old (step.Lend column from to) (reply.Refused (refusal.Absent c g)) new → IfSome (object_at old.state.rows c g) (λ o. pins_at old.state.rows o ≡ 0) }
     ensures committed { (old : World S.Ticket) → (n : ℕ) → (job : JobRecord S.Ticket) → (carried : ByKind (CarriedEvacuation S.Ticket) (CarriedEvacuation S.Ticket)) → job_at old.jobs n ≡ Some job → job.work ≡ work.Carried carried → pins_by old.state.rows carried ≢ 0 → (new : World S.Ticket) → ¬ (IsStep S.content S.number_of old (step.Commit n) reply.Done new) }
     ensures migrated { (name : List ℕ) → (old : World S.Ticket) → (new : World N.Ticket) → ArePinnedHere old.state.rows → IsMigratedTo S.content N.content name old new → ArePinnedHere new.state.rows }
+    ensures migrated_pins { (name : List ℕ) → (old : World S.Ticket) → (new : World N.Ticket) → IsMigratedTo S.content N.content name old new → (o : Object) → pins_at new.state.rows o ≡ pins_at old.state.rows o }
+    ensures migrated_places { (name : List ℕ) → (old : World S.Ticket) → (new : World N.Ticket) → IsMigratedTo S.content N.content name old new → (o : Object) → is_here new.state.rows o ≡ is_here old.state.rows o }
 {}
 
 /// A merge that is accepted does to the table exactly what a scan of its row group does, and changes no row and no object.
@@ -124,6 +127,19 @@ pub fn a_stale_job_changes_nothing<S: FarTickets>()
     ensures merged { (old : World S.Ticket) → (n : ℕ) → (new : World S.Ticket) → IsStep S.content S.number_of old (step.Merge n) (reply.Refused Refusal.StaleJob) new → new ≡ record old { jobs = without_job old.jobs n } }
     ensures carried { (old : World S.Ticket) → (n : ℕ) → (new : World S.Ticket) → IsStep S.content S.number_of old (step.Carry n) (reply.Refused Refusal.StaleJob) new → new ≡ old }
     ensures spent { (old : World S.Ticket) → (s : Step) → IsSomeAnd (job_of s) (λ n. job_at old.jobs n ≡ None) → (given : Reply) → (new : World S.Ticket) → IsStep S.content S.number_of old s given new → given ≡ reply.Refused refusal.StaleJob }
+{}
+
+/// A number names one job. All jobs stand under different numbers in a world as `World::new` or `World::migrate` makes it, and after any
+/// run on it. A job that is accepted or stale at its end spends its number: no job stands under that again, whatever the steps are, and
+/// every step that names it is stale. A migration spends all numbers that were given out. `run` tells of spent numbers by itself.
+pub fn a_number_names_one_job<S: FarTickets, N: FarTickets>()
+    ensures opened { (old : World S.Ticket) → old.jobs ≡ [] → AreNumbered old }
+    ensures run { (old : World S.Ticket) → (steps : List Step) → (replies : List Reply) → (new : World S.Ticket) → AreNumbered old → IsRun S.content S.number_of old steps replies new → AreNumbered new }
+    ensures accepted { (old : World S.Ticket) → AreNumbered old → (s : Step) → (n : ℕ) → end_of s ≡ Some n → (new : World S.Ticket) → IsStep S.content S.number_of old s reply.Done new → IsSpent n new }
+    ensures stale { (old : World S.Ticket) → AreNumbered old → (s : Step) → (n : ℕ) → end_of s ≡ Some n → IsSome (job_at old.jobs n) → (new : World S.Ticket) → IsStep S.content S.number_of old s (reply.Refused refusal.StaleJob) new → IsSpent n new }
+    ensures spent { (n : ℕ) → (old : World S.Ticket) → (steps : List Step) → (replies : List Reply) → (new : World S.Ticket) → IsSpent n old → IsRun S.content S.number_of old steps replies new → IsSpent n new }
+    ensures named { (old : World S.Ticket) → (s : Step) → IsSomeAnd (job_of s) (λ n. IsSpent n old) → (given : Reply) → (new : World S.Ticket) → IsStep S.content S.number_of old s given new → given ≡ reply.Refused refusal.StaleJob }
+    ensures migrated { (name : List ℕ) → (old : World S.Ticket) → (new : World N.Ticket) → IsMigratedTo S.content N.content name old new → (n : ℕ) → n < old.begun → IsSpent n new }
 {}
 
 /// Lists of steps served one after another are served as one list.

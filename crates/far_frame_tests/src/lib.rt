@@ -12,6 +12,8 @@ mod migrating;
 #[cfg(test)]
 mod migrating_frames;
 #[cfg(test)]
+mod migrating_in_order;
+#[cfg(test)]
 mod moving;
 #[cfg(test)]
 mod opening;

@@ -1,5 +1,5 @@
 use Rattle.far_frame.proofs.PinRuns.{step-stays, step-pins, run-holds, opened-holds, lent-free}
-use Rattle.far_frame.proofs.RenewedPins.{migrated-holds}
+use Rattle.far_frame.proofs.RenewedPins.{migrated-holds, migrated-pins, migrated-here}
 use Rattle.far_frame.proofs.RunLaws.{pinned-stays}
 use Rattle.far_frame.proofs.laws.a_pinned_object_stays.Goals as goal
 
@@ -15,4 +15,6 @@ returns g c =
       lent = lent-free content number_of;
       committed = pinned-stays content number_of;
       migrated = migrated-holds content g.N.FarTickets.content;
+      migrated_pins = migrated-pins content g.N.FarTickets.content;
+      migrated_places = migrated-here content g.N.FarTickets.content;
     }
