@@ -5,7 +5,7 @@ ghost use Rattle.far_extrema.specs.Live.{with_room, HasRoomFor};
 use crate::accumulators::extrema::see_all;
 use crate::cases::{NamedCase, all_are_right, must_be};
 use crate::lines::{Lines, Name, Row, key_of};
-use far_extrema::{GroupExtrema, LiveExtrema};
+use far_extrema::{GroupExtrema, LiveExtrema, RowsLeft, Span};
 use far_types::{Answer, Key, Refusal};
 use std::alloc::Global;
 
@@ -169,7 +169,22 @@ fn row_groups_have_the_lines_of_all_their_rows(rt: HostRuntime) {
     all_are_right(&rt, rt.alloc(), &GROUPS);
 }
 
-/// Whether what stands under a key of row group 1 follows two rows, is put back to the first and follows another.
+/// Rows that are left, by their least and their greatest value.
+#[derive(Drop)]
+struct Left(Option<Span>);
+
+impl RowsLeft for Left {
+    ghost at_hand = { λ left. Unit {0} };
+
+    ghost extremes = { λ left. left.0 };
+
+    fn span(&self) -> Option<Span> {
+        self.0
+    }
+}
+
+/// Whether what stands under a key of row group 1 follows two rows, of which the second goes, is put to another and follows
+/// one more.
 fn follows_rows(live: &mut LiveExtrema, key: &Option<Key>) -> Result<bool, Refusal> {
     live.make_room(1);
     let before = live.span(1, key);
@@ -181,9 +196,13 @@ fn follows_rows(live: &mut LiveExtrema, key: &Option<Key>) -> Result<bool, Refus
     if live.span(1, key) != Some((4, 9)) {
         return Ok(false);
     }
-    live.put_span(1, key, Some((4, 4)));
+    let left = live.shrink(1, key, 9, &Left(Some((4, 4))));
+    if left != Some((4, 4)) || live.span(1, key) != Some((4, 4)) {
+        return Ok(false);
+    }
+    live.put_span(1, key, Some((3, 5)));
     live.see_under(1, key, -1)?;
-    Ok(before.is_none() && live.span(1, key) == Some((-1, 4)))
+    Ok(before.is_none() && live.span(1, key) == Some((-1, 5)))
 }
 
 /// Whether a span follows rows in its own row group, and the row groups around it have nothing under its key.
