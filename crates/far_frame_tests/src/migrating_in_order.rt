@@ -12,37 +12,25 @@ use far_types::{Kind, Refusal};
 use std::alloc::Global;
 use std::sync::Wait;
 use std::sync::atomic::{AtomicU64, Ordering};
-use std::test::Fail;
 use std::thread::Threads;
 
-/// An engine over another one. It remembers how many bytes each write had, in order: two decimal digits a write.
+/// An engine over another one. It notes how many bytes each write has, in order: two decimal digits a write.
 #[derive(Drop)]
-struct Measured<E> {
+struct Measured<'a, E> {
     engine: E,
-    lengths: AtomicU64,
+    lengths: &'a AtomicU64,
 }
 
-impl<E> Measured<E> {
-    fn new(engine: E) -> Measured<E> {
-        Measured {
-            engine,
-            lengths: AtomicU64::new(0),
-        }
-    }
-
-    fn lengths(&self) -> u64 {
-        self.lengths.load(Ordering::SeqCst)
-    }
-
+impl<'a, E> Measured<'a, E> {
     // One thread writes, so nothing comes between.
-    fn remember(&self, length: usize) {
+    fn note(&self, length: usize) {
         let before = self.lengths.load(Ordering::SeqCst);
         let after = before.wrapping_mul(100).wrapping_add(length as u64);
         self.lengths.store(after, Ordering::SeqCst);
     }
 }
 
-impl<E: Engine> Engine for Measured<E> {
+impl<'a, E: Engine> Engine for Measured<'a, E> {
     type Key = E::Key;
 
     type Error = E::Error;
@@ -54,7 +42,7 @@ impl<E: Engine> Engine for Measured<E> {
     ghost is_of = { E.is_of };
 
     fn write(&self, alloc: Global, bytes: &[u8]) -> Result<E::Key, Failure<E::Error>> {
-        self.remember(bytes.len());
+        self.note(bytes.len());
         self.engine.write(alloc, bytes)
     }
 
@@ -112,20 +100,16 @@ const ALL_AWAY: Calls = &[
 /// three bytes and six, and of the second, five bytes and eight. A row group of numbers is as long as it can be.
 const IN_ORDER: u64 = 22_22_23_23_17_20_15_18;
 
-/// The lengths of the contents that a world puts into another store.
-fn lengths_moved<S: FarStore, E: Engine, R: Wait + Sync + Drop>(
-    world: World<S>,
-    store: EngineStore<Measured<E>, R>,
-) -> Result<u64, Refusal> {
+/// Moves a world to another store.
+fn moved<S: FarStore, N: FarStore>(world: World<S>, store: N) -> Result<(), Refusal> {
     if world.faults() > 0 {
         drop(world);
         return Err(Refusal::FarFault);
     }
     match world.migrate(store) {
         Ok(world) => {
-            let lengths = world.store().engine().lengths();
             drop(world);
-            Ok(lengths)
+            Ok(())
         }
         Err((refusal, world)) => {
             drop(world);
@@ -134,37 +118,18 @@ fn lengths_moved<S: FarStore, E: Engine, R: Wait + Sync + Drop>(
     }
 }
 
-/// The same where the store is made over a log.
-fn lengths_into<S: FarStore, R: Wait + Sync>(
-    rt: &R,
-    alloc: Global,
-    world: World<S>,
-    log: ByteLog,
-) -> Result<u64, Refusal> {
-    match EngineStore::new(rt, alloc, Measured::new(log), SOUND.capacity) {
-        Ok(store) => lengths_moved(world, store),
-        Err(refusal) => {
-            drop(world);
-            Err(refusal)
-        }
-    }
-}
-
-/// The same once all objects of a new world are away; none where a call does not answer what it should.
-fn lengths_from<S: FarStore, R: Threads + Wait + Sync>(
+/// Whether all objects of a world go away, as they should, and then to another store.
+fn are_moved<S: FarStore, N: FarStore, R: Threads + Sync>(
     rt: &R,
     alloc: Global,
     mut world: World<S>,
-    log: ByteLog,
-) -> Result<Option<u64>, Refusal> {
+    store: N,
+) -> Result<bool, Refusal> {
     match first_wrong(rt, alloc, &mut world, ALL_AWAY) {
-        Ok(None) => match lengths_into(rt, alloc, world, log) {
-            Ok(lengths) => Ok(Some(lengths)),
-            Err(refusal) => Err(refusal),
-        },
+        Ok(None) => moved(world, store).and(Ok(true)),
         Ok(Some(_)) => {
             drop(world);
-            Ok(None)
+            Ok(false)
         }
         Err(refusal) => {
             drop(world);
@@ -173,22 +138,54 @@ fn lengths_from<S: FarStore, R: Threads + Wait + Sync>(
     }
 }
 
-/// The same from a new world into a new log.
-fn lengths_once<R: Threads + Wait + Sync>(rt: &R, alloc: Global) -> Result<Option<u64>, Refusal> {
+/// The same of a new world over one store, if both stores were made.
+fn are_moved_between<S: FarStore, N: FarStore, R: Threads + Sync>(
+    rt: &R,
+    alloc: Global,
+    from: Result<S, Refusal>,
+    to: Result<N, Refusal>,
+) -> Result<bool, Refusal> {
     let kinds = [Kind::Text, Kind::Int, Kind::Text, Kind::Int];
-    let from = store(rt, alloc, SOUND);
-    match (
-        world(alloc, &kinds, SMALL_GROUPS.limits, from),
-        ByteLog::new(alloc, 200),
-    ) {
-        (Ok(world), Ok(log)) => lengths_from(rt, alloc, world, log),
-        (Err(refusal), _) => Err(refusal),
-        (_, Err(_)) => Err(Refusal::NoMemory),
+    match to {
+        Ok(to) => match world(alloc, &kinds, SMALL_GROUPS.limits, from) {
+            Ok(world) => are_moved(rt, alloc, world, to),
+            Err(refusal) => Err(refusal),
+        },
+        Err(refusal) => Err(refusal),
+    }
+}
+
+/// The same into a log.
+fn are_moved_into<R: Threads + Wait + Sync>(
+    rt: &R,
+    alloc: Global,
+    log: ByteLog,
+    lengths: &AtomicU64,
+) -> Result<bool, Refusal> {
+    let engine = Measured {
+        engine: log,
+        lengths,
+    };
+    let to = EngineStore::new(rt, alloc, engine, SOUND.capacity);
+    are_moved_between(rt, alloc, store(rt, alloc, SOUND), to)
+}
+
+/// The lengths of the contents that a world puts into a new log, in order; 0 where a call does not answer what it should.
+fn lengths_once<R: Threads + Wait + Sync>(rt: &R, alloc: Global) -> Result<u64, Refusal> {
+    let lengths = AtomicU64::new(0);
+    let moved = match ByteLog::new(alloc, 200) {
+        Ok(log) => are_moved_into(rt, alloc, log, &lengths),
+        Err(_) => Err(Refusal::NoMemory),
+    };
+    match moved {
+        Ok(true) => Ok(lengths.load(Ordering::SeqCst)),
+        Ok(false) => Ok(0),
+        Err(refusal) => Err(refusal),
     }
 }
 
 /// The same, the second time where the first finds no memory.
-fn lengths<R: Threads + Wait + Sync>(rt: &R, alloc: Global) -> Result<Option<u64>, Refusal> {
+fn lengths<R: Threads + Wait + Sync>(rt: &R, alloc: Global) -> Result<u64, Refusal> {
     match lengths_once(rt, alloc) {
         Err(Refusal::NoMemory) => lengths_once(rt, alloc),
         lengths => lengths,
@@ -196,11 +193,6 @@ fn lengths<R: Threads + Wait + Sync>(rt: &R, alloc: Global) -> Result<Option<u64
 }
 
 #[test]
-fn contents_go_into_another_store_by_object_number_and_numbers_before_texts(
-    rt: HostRuntime,
-) -> Result<(), Fail> {
-    match lengths(&rt, rt.alloc())? {
-        Some(IN_ORDER) => Ok(()),
-        found => Err(Fail::new(format_args!("lengths {found:?}"))),
-    }
+fn contents_go_into_another_store_by_object_number_and_numbers_before_texts(rt: HostRuntime) {
+    assert!(rt; lengths(&rt, rt.alloc()) == Ok(IN_ORDER));
 }
