@@ -5,7 +5,7 @@ ghost use Rattle.far_extrema.specs.Live.{with_room, HasRoomFor};
 use crate::accumulators::extrema::see_all;
 use crate::cases::{NamedCase, all_are_right, must_be};
 use crate::lines::{Lines, Name, Row, key_of};
-use far_extrema::{GroupExtrema, LiveExtrema, RowsLeft, Span};
+use far_extrema::{GroupExtrema, LiveExtrema, MinMax, RowsLeft};
 use far_types::{Answer, Key, Refusal};
 use std::alloc::Global;
 
@@ -171,14 +171,14 @@ fn row_groups_have_the_lines_of_all_their_rows(rt: HostRuntime) {
 
 /// Rows that are left, by their least and their greatest value.
 #[derive(Drop)]
-struct Left(Option<Span>);
+struct Left(Option<MinMax>);
 
 impl RowsLeft for Left {
     ghost at_hand = { λ left. Unit {0} };
 
     ghost extremes = { λ left. left.0 };
 
-    fn span(&self) -> Option<Span> {
+    fn span(&self) -> Option<MinMax> {
         self.0
     }
 }
