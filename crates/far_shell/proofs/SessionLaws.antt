@@ -34,7 +34,7 @@ gauges-end readings i page whole past e = sym (append-nil page) ∙ sym (ap (λ 
 
 -- what sessions leave is printed as it is told
 pub told-of : (sessions edits : ℕ) (o : Outcome) (page : List ℕ) → IsOutcome sessions edits o → page ≡ outcome_text o → TellsOutcome sessions edits page
-told-of sessions edits o page is said = (o.answer, is.answer, said ∙ ap (λ (readings : List Reading). gauges_text 0 readings ++ answer_text o.answer) is.gauges)
+told-of sessions edits o page is said = said ∙ (λ i. gauges_text 0 (is.gauges i) ++ answer_text (is.total i))
 
 -- sessions that were stopped, and nothing is written
 pub cut-stopped : (why : ShellFault) (sessions edits : ℕ) → (why ≡ fault.Memory) ⊎ (why ≡ fault.Turns) → CutOutcome why sessions edits []

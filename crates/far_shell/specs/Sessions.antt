@@ -1,13 +1,11 @@
 -- What a script of sessions on threads is answered.
-use Rattle.std.specs.Prelude.{◌≡◌, ◌⊎◌, ℕ, ◌+◌, List, [], ◌∷◌, ◌++◌, Some, replicate}
-use Rattle.far_types.specs.declared.answer.Answer.{Answer}
+use Rattle.std.specs.Prelude.{◌≡◌, ◌⊎◌, ℕ, ◌+◌, ◌*◌, List, [], ◌∷◌, ◌++◌, Some, replicate}
 use Rattle.far_history.specs.declared.reading.Reading.{Reading}
 use Rattle.far_store.specs.declared.store.FarTickets.{Ghosts as Tickets}
 use Rattle.far_threads.specs.declared.outcome.Outcome.{Outcome}
 use Rattle.far_threads.specs.declared.outcome.Stop.{Stop}
 use Rattle.far_threads.specs.declared.outcome.Stop.TheVariants as stop
-use Rattle.far_threads.specs.Runs.{all_of, plan_for}
-use Rattle.far_shared.specs.Asking.{IsAnswer}
+use Rattle.far_threads.specs.Runs.{all_of, total_of}
 use Rattle.far_script.specs.declared.fault.ShellFault.{ShellFault}
 use Rattle.far_script.specs.declared.fault.ShellFault.TheVariants as fault
 use Rattle.far_script.specs.Openings.{Threads, start_in}
@@ -31,9 +29,10 @@ outcome_text o = gauges_text 0 o.gauges.items ++ answer_text o.answer
 abbrev pub gauge_lines : ℕ → ℕ → List ℕ
 gauge_lines sessions edits = gauges_text 0 (replicate sessions (all_of edits))
 
--- a text tells how so many sessions ended, each with so many edits: their gauge lines, and an answer over what four legal histories leave
+-- a text tells how so many sessions ended, each with so many edits: their gauge lines, and the answer over the rows of all of them,
+-- `count N sum N`, where N is the number of sessions times that of edits
 abbrev pub TellsOutcome : ℕ → ℕ → List ℕ → Type 0
-TellsOutcome sessions edits text = (answer : Answer) × IsAnswer (plan_for sessions) 0 answer × (text ≡ gauge_lines sessions edits ++ answer_text answer)
+TellsOutcome sessions edits text = text ≡ gauge_lines sessions edits ++ answer_text (total_of (sessions * edits))
 
 -- what ends a script whose sessions are stopped
 abbrev pub fault_of : Stop → ShellFault

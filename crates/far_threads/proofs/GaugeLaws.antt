@@ -9,11 +9,10 @@ use Rattle.far_types.specs.Table.{Place, Table, empty_table, rows_of}
 use Rattle.far_history.specs.Histories.{Planned, folded, gauge_of, replay, replay_on}
 use Rattle.far_history.specs.Rule.{entry}
 use Rattle.far_history.proofs.Histories.{replay_on-push}
-use Rattle.far_threads.specs.Runs.{all_of, row_of_one, sum_of_rows}
-use Rattle.far_threads.specs.Working.{inserts}
+use Rattle.far_threads.specs.Runs.{all_of, inserts, row_of_one, sum_of_rows}
 
 -- the place of a row of the number 1
-abbrev one_place : Place
+abbrev pub one_place : Place
 one_place = record { cells = row_of_one; alive = true }
 
 replicate-push : {A : Type 0} (n : ℕ) (x : A) → replicate n x ++ x ∷ [] ≡ replicate (suc n) x
@@ -25,7 +24,7 @@ inserts-length s zero = refl
 inserts-length s (suc n) = (let e = length-append (inserts s n) (entry s (edit.Insert row_of_one) ∷ []) in let d = inserts-length s n in omega arith)
 
 -- an insert appends a row
-insert-places : (table : Table) (s n : ℕ) → table.places ≡ [] → (replay_on table (inserts s n)).places ≡ replicate n one_place
+pub insert-places : (table : Table) (s n : ℕ) → table.places ≡ [] → (replay_on table (inserts s n)).places ≡ replicate n one_place
 insert-places table s zero none = none
 insert-places table s (suc n) none =
     ap (λ (t : Table). t.places) (replay_on-push table (inserts s n) (entry s (edit.Insert row_of_one)))
@@ -41,7 +40,7 @@ sum-of-ones : (n : ℕ) → int_sum (replicate n (pos 1)) ≡ pos n
 sum-of-ones zero = refl
 sum-of-ones (suc n) = ap (λ (sum : ℤ). pos 1 +ℤ sum) (sum-of-ones n) ∙ ap pos (one-add n)
 
-tally-of-ones : (n : ℕ) → tally (replicate n (pos 1)) ≡ (n, pos n)
+pub tally-of-ones : (n : ℕ) → tally (replicate n (pos 1)) ≡ (n, pos n)
 tally-of-ones n = λ k. (length-replicate n (pos 1) k, sum-of-ones n k)
 
 -- so many inserts are read as so many edits and rows, with so high a sum

@@ -16,7 +16,7 @@ AreBy s [] = Unit {0}
 AreBy s (entry ∷ log) = (entry.by ≡ s) × AreBy s log
 
 -- such a history is the session's own
-by-one : (s : ℕ) (log : List Entry) → AreBy s log → by_session s log ≡ log
+pub by-one : (s : ℕ) (log : List Entry) → AreBy s log → by_session s log ≡ log
 by-one s [] all = refl
 by-one s (e ∷ log) all = cond_eq e.by s (e ∷ by_session s log) (by_session s log) all.0 ∙ ap (λ (l : List Entry). e ∷ l) (by-one s log all.1)
 
@@ -47,6 +47,13 @@ by-others n s (e ∷ log) below none =
       dite (ℕ_discrete e.by s) (λ is. is) (λ other. absurd (some-none e (by_session e.by log) (sym own ∙ none e.by below.0 other))),
       by-others n s log below.1 (λ t low other. none-behind t e log (none t low other)),
     )
+
+-- where no session has an entry, there is none
+pub by-none : (n : ℕ) (log : List Entry) → AllBelow n log → ((t : ℕ) → t < n → by_session t log ≡ []) → log ≡ []
+by-none n [] below none = refl
+by-none n (e ∷ log) below none =
+    let own : by_session e.by (e ∷ log) ≡ e ∷ by_session e.by log = cond_eq e.by e.by (e ∷ by_session e.by log) (by_session e.by log) refl in
+    absurd (some-none e (by_session e.by log) (sym own ∙ none e.by below.0))
 
 -- of sessions that a history is seen by, one
 pub seen-at : (k : ℕ) (log : List Entry) (sessions : List Known) (i : ℕ) (me : Known) → SeenByAll k log sessions → slice_get sessions i ≡ Some me → IsSeenBy k log me

@@ -3,3 +3,4 @@ mod ReadingLaws
 mod HistoryLaws
 mod GaugeLaws
 mod RunLaws
+mod TotalLaws

@@ -4,8 +4,8 @@ use Rattle.far_types.specs.declared.edit.Edit.TheVariants as edit
 use Rattle.far_history.specs.Rule.{entry}
 use Rattle.far_history.specs.declared.view.Entry.{Entry}
 use Rattle.far_sessions.specs.Known.{Known, at}
-use Rattle.far_threads.specs.Runs.{row_of_one}
-use Rattle.far_threads.specs.Working.{Makes, inserts}
+use Rattle.far_threads.specs.Runs.{inserts, row_of_one}
+use Rattle.far_threads.specs.Working.{Makes}
 
 -- a session has made none yet
 pub makes-none : (k : ℕ) (me : Known) → Makes k 0 me me

@@ -10,7 +10,8 @@ use Rattle.far_history.specs.Histories.{Planned, by_session, gauge_of}
 use Rattle.far_history.specs.Sessions.{Told, newcomer}
 use Rattle.far_history.specs.declared.reading.Reading.{Reading}
 use Rattle.far_sessions.specs.Known.{Known, at, number_of, newcomers, newcomer_at_all}
-use Rattle.far_threads.specs.Working.{AreGauged, AreWorked, Ended, IsGauged, IsRead, IsWorked, Looked, Makes, inserts}
+use Rattle.far_threads.specs.Runs.{inserts}
+use Rattle.far_threads.specs.Working.{AreGauged, AreWorked, Ended, IsGauged, IsRead, IsWorked, Looked, Makes}
 
 -- each session that has ended well was read, in order
 abbrev pub AreRead : Planned → List Ended → List Known → List Reading → Type 0
@@ -106,6 +107,7 @@ gauged-at p s n k ended me reading home made looked =
       none = λ i low other.
           let away : i ≢ k = subst (λ (h : ℕ). i ≢ h) (sym home) other in
           ap (λ (told : Told). told.mine) (looked.others i low away ∙ made.others i low away ∙ new-at s i);
+      made = subst (λ (h : ℕ). (at me h).mine ≡ inserts s n) home mine;
       own = subst (λ (h : ℕ). by_session s (at me h).seen ≡ inserts s n) home (ap (λ (t : ℕ). by_session t (at me k).seen) (sym by) ∙ looked.sees.own ∙ mine);
       is = looked.is ∙ ap (λ (h : ℕ). gauge_of p (at me h).seen) home;
     }

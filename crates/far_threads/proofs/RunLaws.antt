@@ -1,17 +1,25 @@
 -- Runs that have ended, and the histories of the table that they closed.
-use Rattle.std.proofs.Common.{◌≡◌, ◌≢◌, ℕ, zero, suc, ◌<◌, ◌≤◌, ◌%◌, List, [], ◌∷◌, Result, Some, length, slice_get, IfOk, IfErr, refl, sym, ap, ◌∙◌, subst, arith}
+use Rattle.std.proofs.Common.{◌≡◌, ℕ, zero, suc, ◌<◌, ◌≤◌, ◌%◌, List, [], ◌∷◌, ◌++◌, Option, Result, Some, length, slice_get, IfOk, IfErr, IfSome, IsOk, refl, sym, ap, ◌∙◌, subst, arith}
+use Rattle.std.specs.Prelude.{IsOkAnd, option_map}
 use Rattle.std.proofs.lemmas.Option.{slice_get_within}
 use Rattle.std.specs.declared.result.Result.TheVariants.{Ok, Err}
-use Rattle.far_history.specs.Histories.{Planned, by_session, gauge_of}
+use Rattle.far_types.specs.declared.answer.Answer.{Answer}
+use Rattle.far_types.specs.declared.spec.Spec.{Spec}
+use Rattle.far_types.specs.Answers.{answer_over}
+use Rattle.far_types.specs.Table.{Registered, Table, rows_of}
+use Rattle.far_history.specs.Histories.{Planned, IsLegal, by_session, gauge_of, replay}
 use Rattle.far_history.specs.declared.reading.Reading.{Reading}
 use Rattle.far_history.specs.declared.view.Entry.{Entry}
 use Rattle.far_sessions.specs.Closing.{IsSeenBy, IsSettled, IsWhole}
 use Rattle.far_sessions.specs.Known.{Known, at}
+use Rattle.far_shared.specs.Closing.{IsClosed}
+use Rattle.far_shared.specs.Fours.{all_rows, spec_at}
 use Rattle.far_threads.specs.declared.outcome.Outcome.{Outcome}
-use Rattle.far_threads.specs.Runs.{IsRun, all_of}
-use Rattle.far_threads.specs.Working.{AreGauged, AreHistories, AreLeft, HasHomes, IsGauged, IsHistory}
+use Rattle.far_threads.specs.Runs.{IsHistory, IsRun, all_of, inserts}
+use Rattle.far_threads.specs.Working.{AreGauged, AreLeft, HasHomes, IsGauged}
 use Rattle.far_threads.proofs.GaugeLaws.{all-one, gauge-of-inserts}
 use Rattle.far_threads.proofs.HistoryLaws.{AreBy, by-others, seen-at, seen-own}
+use Rattle.far_threads.proofs.TotalLaws.{total-is}
 
 -- an index below the length has an element
 there : {X : Type 0} (xs : List X) (i : ℕ) → i < length xs → (x : X) × (slice_get xs i ≡ Some x)
@@ -30,44 +38,83 @@ module _ (p : Planned) (n : ℕ) (sessions : List Known) (readings : List Readin
   pub gauged-whole : IsWhole p.sessions sessions
   gauged-whole s low = (let me = session-at s low in (s, me.0, me.1, (gauged-there s me.0 low me.1).1.number))
 
+  -- the history of a stripe has just what its sessions made there
+  history-of : (k : ℕ) (log : List Entry) → k < 4 → IsLegal p log → IsSettled p.sessions k log sessions → IsHistory p n k log
+  history-of k log low legal settled =
+      let made : (s : ℕ) (below : s < p.sessions) → by_session s log ≡ (at (session-at s below).0 k).mine = λ s below.
+      let me = session-at s below in
+      subst (λ (m : ℕ). by_session m log ≡ (at me.0 k).mine) (gauged-there s me.0 below me.1).1.number (seen-at k log sessions s me.0 settled.all me.1).own in record {
+        legal = legal;
+        home = λ s below same.
+            let me = session-at s below in
+            made s below ∙ subst (λ (h : ℕ). (at me.0 h).mine ≡ inserts s n) same (gauged-there s me.0 below me.1).1.made;
+        away = λ s below other.
+            let me = session-at s below in
+            made s below ∙ (gauged-there s me.0 below me.1).1.none k low (λ same. other (sym same));
+        below = settled.below;
+      }
+
   -- at the home of session s all entries are its own
-  own-home : (s : ℕ) (log : List Entry) → p.sessions ≤ 4 → s < p.sessions → IsSettled p.sessions (s % 4) log sessions → AreBy s log
-  own-home s log few low settled =
-      by-others p.sessions s log settled.below (λ t below other.
-      let me = session-at t below in
-      let gauged = (gauged-there t me.0 below me.1).1 in
-      let away : s % 4 ≢ t % 4 = λ is. other (omega (arith, is)) in
-      let seen : IsSeenBy (s % 4) log me.0 = seen-at (s % 4) log sessions t me.0 settled.all me.1 in
-      subst (λ (m : ℕ). by_session m log ≡ []) gauged.number (seen.own ∙ gauged.none (s % 4) (omega arith) away))
+  own-home : (s : ℕ) (log : List Entry) → p.sessions ≤ 4 → s < p.sessions → IsHistory p n (s % 4) log → AreBy s log
+  own-home s log few low is = by-others p.sessions s log is.below (λ t below other. is.away t below (λ same. other (omega (arith, low, below, few, same))))
 
   -- so each gauge has read just what its session inserted
-  read-own : (s : ℕ) (me : Known) (reading : Reading) → HasHomes p → IsHistory p (s % 4) sessions → slice_get sessions s ≡ Some me → slice_get readings s ≡ Some reading → reading ≡ all_of n
-  read-own s me reading homes history is told =
+  read-own : (s : ℕ) (me : Known) (reading : Reading) (log : List Entry) → HasHomes p → IsLegal p log → IsSettled p.sessions (s % 4) log sessions → slice_get sessions s ≡ Some me → slice_get readings s ≡ Some reading → reading ≡ all_of n
+  read-own s me reading log homes legal settled is told =
       let gauged : IsGauged p s n me reading = all.each s me reading is told in
       let low : s < p.sessions = subst (λ (m : ℕ). s < m) all.count (slice_get_within sessions s me is) in
-      let own : AreBy s history.0 = own-home s history.0 homes.few low history.1 in
-      let seen : IsSeenBy (s % 4) history.0 me = seen-at (s % 4) history.0 sessions s me history.1.all is in
-      gauged.is ∙ ap (gauge_of p) (sym (seen-own s history.0 (at me (s % 4)).seen own seen.seen) ∙ gauged.own) ∙ gauge-of-inserts p s n homes.gauge
+      let own : AreBy s log = own-home s log homes.few low (history-of (s % 4) log (omega arith) legal settled) in
+      let seen : IsSeenBy (s % 4) log me = seen-at (s % 4) log sessions s me settled.all is in
+      gauged.is ∙ ap (gauge_of p) (sym (seen-own s log (at me (s % 4)).seen own seen.seen) ∙ gauged.own) ∙ gauge-of-inserts p s n homes.gauge
 
--- the history of a stripe
-history-at : (p : Planned) (sessions : List Known) (k : ℕ) → k < 4 → AreHistories p sessions → IsHistory p k sessions
-history-at p sessions zero low all = all.zero
-history-at p sessions (suc zero) low all = all.one
-history-at p sessions (suc (suc zero)) low all = all.two
-history-at p sessions (suc (suc (suc zero))) low all = all.three
-history-at p sessions (suc (suc (suc (suc k)))) low all = absurd (omega (arith, low))
+-- ---- the closed tables
+module _ (p : Planned) (n : ℕ) (sessions : List Known) (t0 t1 t2 t3 : Table) (c0 : IsClosed p 0 sessions t0) (c1 : IsClosed p 1 sessions t1) (c2 : IsClosed p 2 sessions t2) (c3 : IsClosed p 3 sessions t3) where
+  -- the history of a stripe
+  abbrev Closed : ℕ → Type 0
+  Closed k = (log : List Entry) × IsLegal p log × IsSettled p.sessions k log sessions
 
--- what sessions leave, by the histories of the table that is closed with them
-pub run-of : (p : Planned) (n : ℕ) (sessions : List Known) (o : Outcome) → HasHomes p → AreLeft p n sessions o → AreHistories p sessions → IsRun p n o
-run-of p n sessions o homes left histories =
-    let readings : List Reading = o.gauges.items in
-    let each : (s : ℕ) (reading : Reading) → slice_get readings s ≡ Some reading → reading ≡ all_of n = λ s reading told.
-    let low : s < p.sessions = subst (λ (m : ℕ). s < m) left.gauged.told (slice_get_within readings s reading told) in
-    let me = session-at p n sessions readings left.gauged s low in
-    read-own p n sessions readings left.gauged s me.0 reading homes (history-at p sessions (s % 4) (omega arith) histories) me.1 told in
-    record { gauges = all-one readings p.sessions (all_of n) left.gauged.told each; answer = left.answer }
+  closed-at : (k : ℕ) → k < 4 → Closed k
+  closed-at zero low = (c0.log, c0.legal, c0.settled)
+  closed-at (suc zero) low = (c1.log, c1.legal, c1.settled)
+  closed-at (suc (suc zero)) low = (c2.log, c2.legal, c2.settled)
+  closed-at (suc (suc (suc zero))) low = (c3.log, c3.legal, c3.settled)
+  closed-at (suc (suc (suc (suc k)))) low = absurd (omega (arith, low))
 
--- what a close that cannot be refused gives
-pub of-close : {A E : Type 0} (r : Result A E) (P : Type 0) (C : A → Type 0) (D : E → Type 0) → IfOk r C → IfErr r D → ((x : A) → C x → P) → ((e : E) → D e → ⊥) → P
-of-close (Ok x) P C D ok err closed missing = closed x ok
-of-close (Err e) P C D ok err closed missing = absurd (missing e err)
+  -- what the gauge answers over them, by their histories
+  told-by-histories : (answer : Answer) → IfSome (spec_at t0 0) (λ (spec : Spec). answer ≡ answer_over spec (all_rows t0 t1 t2 t3))
+      → answer ≡ answer_over p.gauge (all_rows (replay p c0.log) (replay p c1.log) (replay p c2.log) (replay p c3.log))
+  told-by-histories answer told =
+      let gauge : spec_at t0 0 ≡ Some p.gauge = ap (option_map (λ (aggregate : Registered). aggregate.spec)) c0.stripe.gauge in
+      let over : answer ≡ answer_over p.gauge (all_rows t0 t1 t2 t3) = subst (λ (found : Option Spec). IfSome found (λ (spec : Spec). answer ≡ answer_over spec (all_rows t0 t1 t2 t3))) gauge told in
+      over
+      ∙ ap (answer_over p.gauge) (λ i. rows_of (c0.stripe.places i) ++ (rows_of (c1.stripe.places i) ++ (rows_of (c2.stripe.places i) ++ rows_of (c3.stripe.places i))))
+
+  -- what sessions leave, where the closed tables answer so too
+  pub run-of : (o : Outcome) → HasHomes p → AreLeft p n sessions o → IfSome (spec_at t0 0) (λ (spec : Spec). o.answer ≡ answer_over spec (all_rows t0 t1 t2 t3)) → IsRun p n o
+  run-of o homes left told =
+      let gauged : AreGauged p n sessions o.gauges.items = left.gauged in
+      let each : (s : ℕ) (reading : Reading) → slice_get o.gauges.items s ≡ Some reading → reading ≡ all_of n = λ s reading read.
+      let low : s < p.sessions = subst (λ (m : ℕ). s < m) gauged.told (slice_get_within o.gauges.items s reading read) in
+      let me = session-at p n sessions o.gauges.items gauged s low in
+      let home = closed-at (s % 4) (omega arith) in
+      read-own p n sessions o.gauges.items gauged s me.0 reading home.0 homes home.1 home.2 me.1 read in
+      let h0 : IsHistory p n 0 c0.log = history-of p n sessions o.gauges.items gauged 0 c0.log (omega arith) c0.legal c0.settled in
+      let h1 : IsHistory p n 1 c1.log = history-of p n sessions o.gauges.items gauged 1 c1.log (omega arith) c1.legal c1.settled in
+      let h2 : IsHistory p n 2 c2.log = history-of p n sessions o.gauges.items gauged 2 c2.log (omega arith) c2.legal c2.settled in
+      let h3 : IsHistory p n 3 c3.log = history-of p n sessions o.gauges.items gauged 3 c3.log (omega arith) c3.legal c3.settled in
+      let answered = told-by-histories o.answer told in record {
+        gauges = all-one o.gauges.items p.sessions (all_of n) gauged.told each;
+        answer = record { zeroth = c0.log; first = c1.log; second = c2.log; third = c3.log; histories = (h0, h1, h2, h3); is = answered };
+        total = answered ∙ total-is p n c0.log c1.log c2.log c3.log homes.few homes.gauge h0 h1 h2 h3;
+      }
+
+-- ---- results
+-- what cannot be refused was accepted
+pub is-accepted : {A E : Type 0} (r : Result A E) (D : E → Type 0) → IfErr r D → ((e : E) → D e → ⊥) → IsOk r
+is-accepted (Ok x) D err never = refl
+is-accepted (Err e) D err never = absurd (never e err)
+
+-- what holds of it holds of what was taken out
+pub of-accepted : {A E : Type 0} (r : Result A E) (y : A) (C : A → Type 0) → IsOkAnd r (λ x. x ≡ y) → IfOk r C → C y
+of-accepted (Ok x) y C is holds = subst C is holds
+of-accepted (Err e) y C is holds = absurd is

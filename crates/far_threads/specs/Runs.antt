@@ -1,15 +1,21 @@
 -- What sessions on threads leave of a shared table.
-use Rattle.std.specs.Prelude.{◌≡◌, ℕ, pos, List, [], ◌∷◌, None, replicate}
+use Rattle.std.specs.Prelude.{◌≡◌, ◌≢◌, ℕ, ◌*◌, ◌%◌, ◌<◌, zero, suc, pos, List, [], ◌∷◌, ◌++◌, None, replicate}
+use Rattle.far_types.specs.declared.answer.Answer.{Answer}
+use Rattle.far_types.specs.declared.answer.Answer.TheVariants as answer
 use Rattle.far_types.specs.declared.cell.Cell.{Cell}
 use Rattle.far_types.specs.declared.cell.Cell.TheVariants as cell
 use Rattle.far_types.specs.declared.cell.Kind.TheVariants as kind
+use Rattle.far_types.specs.declared.edit.Edit.TheVariants as edit
 use Rattle.far_types.specs.declared.limits.Limits.{Limits}
+use Rattle.far_types.specs.Answers.{answer_over}
 use Rattle.far_types.specs.Bounds.{usual_limits}
 use Rattle.far_types.specs.declared.spec.Fold.TheVariants as fold
 use Rattle.far_types.specs.declared.spec.Spec.{Spec}
-use Rattle.far_history.specs.Histories.{Planned}
+use Rattle.far_history.specs.Histories.{AllBelow, IsLegal, Planned, by_session, replay}
+use Rattle.far_history.specs.Rule.{entry}
 use Rattle.far_history.specs.declared.reading.Reading.{Reading}
-use Rattle.far_shared.specs.Asking.{IsAnswer}
+use Rattle.far_history.specs.declared.view.Entry.{Entry}
+use Rattle.far_shared.specs.Fours.{all_rows}
 use Rattle.far_threads.specs.declared.outcome.Outcome.{Outcome}
 
 -- the row that is inserted
@@ -28,15 +34,42 @@ sum_of_rows = record { fold = fold.Totals; value = 0; key = None; filter = [] }
 abbrev pub plan_for : ℕ → Planned
 plan_for n = record { schema = kind.Int ∷ []; limits = stripe_limits; gauge = sum_of_rows; sessions = n }
 
+-- so many inserts of session s
+abbrev pub inserts : ℕ → ℕ → List Entry
+inserts s zero = []
+inserts s (suc n) = inserts s n ++ entry s (edit.Insert row_of_one) ∷ []
+
 -- what a gauge reads of so many inserts of the number 1, and no other edit
 abbrev pub all_of : ℕ → Reading
 all_of n = record { edits = n; count = n; sum = pos n }
 
--- all sessions of a plan have ended, each with so many inserts on its home stripe. Its gauge there reads just these, and the answer is
--- over all rows that four legal histories leave
+-- the answer over so many rows of the number 1: one line, without a key
+abbrev pub total_of : ℕ → Answer
+total_of n = answer.Totals ((None, n, pos n) ∷ [])
+
+-- the history of stripe k when all sessions of a plan have ended: it is legal, each session has so many inserts in it if the stripe is
+-- its home, and else no entry, and no one else has an entry
+pub record IsHistory (p : Planned) (edits k : ℕ) (log : List Entry) : Type 0 where
+  pub legal : IsLegal p log
+  pub home : (s : ℕ) → s < p.sessions → s % 4 ≡ k → by_session s log ≡ inserts s edits
+  pub away : (s : ℕ) → s < p.sessions → s % 4 ≢ k → by_session s log ≡ []
+  pub below : AllBelow p.sessions log
+
+-- an answer of the gauge over all rows that such histories of the four stripes leave
+pub record IsOverAll (p : Planned) (edits : ℕ) (answer : Answer) : Type 0 where
+  pub zeroth : List Entry
+  pub first : List Entry
+  pub second : List Entry
+  pub third : List Entry
+  pub histories : IsHistory p edits 0 zeroth × IsHistory p edits 1 first × IsHistory p edits 2 second × IsHistory p edits 3 third
+  pub is : answer ≡ answer_over p.gauge (all_rows (replay p zeroth) (replay p first) (replay p second) (replay p third))
+
+-- all sessions of a plan have ended, each with so many inserts on its home stripe. Its gauge there reads just these. The answer is over
+-- the rows of all sessions and no other row: it counts and sums so many for each session
 pub record IsRun (p : Planned) (edits : ℕ) (o : Outcome) : Type 0 where
   pub gauges : o.gauges.items ≡ replicate p.sessions (all_of edits)
-  pub answer : IsAnswer p 0 o.answer
+  pub answer : IsOverAll p edits o.answer
+  pub total : o.answer ≡ total_of (p.sessions * edits)
 
 -- so many sessions have ended, each with so many inserts
 abbrev pub IsOutcome : ℕ → ℕ → Outcome → Type 0

@@ -1,26 +1,19 @@
 -- internal: what sessions do on the way to what they leave, and what is known of them when the table is closed.
-use Rattle.std.specs.Prelude.{◌≡◌, ◌≢◌, ℕ, ◌%◌, ◌<◌, ◌≤◌, zero, suc, List, [], ◌∷◌, ◌++◌, Some, OnOk, IsOk, Result, length, slice_get}
-use Rattle.far_types.specs.declared.edit.Edit.TheVariants as edit
+use Rattle.std.specs.Prelude.{◌≡◌, ◌≢◌, ℕ, ℤ, ◌%◌, ◌<◌, ◌≤◌, List, [], ◌∷◌, ◌++◌, None, Some, OnOk, IsOk, Result, length, slice_get}
+use Rattle.far_types.specs.declared.answer.Answer.{Answer}
+use Rattle.far_types.specs.declared.answer.Answer.TheVariants as answer
 use Rattle.far_history.specs.Histories.{Planned, by_session, gauge_of}
-use Rattle.far_history.specs.Rule.{entry}
 use Rattle.far_history.specs.declared.reading.Reading.{Reading}
-use Rattle.far_history.specs.declared.view.Entry.{Entry}
-use Rattle.far_sessions.specs.Closing.{IsSettled}
 use Rattle.far_sessions.specs.Known.{Known, SeesMore, at, number_of}
 use Rattle.far_shared.specs.Asking.{IsAnswer}
 use Rattle.far_threads.specs.declared.outcome.Outcome.{Outcome}
 use Rattle.far_threads.specs.declared.outcome.Stop.{Stop}
-use Rattle.far_threads.specs.Runs.{row_of_one, sum_of_rows}
+use Rattle.far_threads.specs.Runs.{inserts, sum_of_rows}
 
 -- a plan for so few sessions that each has a home stripe of its own, with the count and the sum of its rows as gauge
 pub record HasHomes (p : Planned) : Type 0 where
   pub few : p.sessions ≤ 4
   pub gauge : p.gauge ≡ sum_of_rows
-
--- so many inserts of one session
-abbrev pub inserts : ℕ → ℕ → List Entry
-inserts s zero = []
-inserts s (suc n) = inserts s n ++ entry s (edit.Insert row_of_one) ∷ []
 
 -- a session has made so many inserts more at stripe k, and is at the others as it was
 pub record Makes (k n : ℕ) (before after : Known) : Type 0 where
@@ -58,6 +51,7 @@ IsRead p ended me reading = Looked p (number_of ended.session % 4) ended me read
 pub record IsGauged (p : Planned) (s n : ℕ) (me : Known) (reading : Reading) : Type 0 where
   pub number : number_of me ≡ s
   pub none : (k : ℕ) → k < 4 → k ≢ s % 4 → (at me k).mine ≡ []
+  pub made : (at me (s % 4)).mine ≡ inserts s n
   pub own : by_session s (at me (s % 4)).seen ≡ inserts s n
   pub is : reading ≡ gauge_of p (at me (s % 4)).seen
 
@@ -67,18 +61,11 @@ pub record AreGauged (p : Planned) (n : ℕ) (sessions : List Known) (readings :
   pub told : length readings ≡ p.sessions
   pub each : (s : ℕ) (me : Known) (reading : Reading) → slice_get sessions s ≡ Some me → slice_get readings s ≡ Some reading → IsGauged p s n me reading
 
--- what is read when all sessions of a plan have ended
+-- what is read when all sessions of a plan have ended. Nothing tells yet whose rows the answer is over
 pub record AreLeft (p : Planned) (n : ℕ) (sessions : List Known) (o : Outcome) : Type 0 where
   pub gauged : AreGauged p n sessions o.gauges.items
   pub answer : IsAnswer p 0 o.answer
 
--- the history of stripe k has the entries of these sessions, and no others
-abbrev pub IsHistory : Planned → ℕ → List Known → Type 0
-IsHistory p k sessions = (log : List Entry) × IsSettled p.sessions k log sessions
-
--- so have the histories of all four stripes
-pub record AreHistories (p : Planned) (sessions : List Known) : Type 0 where
-  pub zero : IsHistory p 0 sessions
-  pub one : IsHistory p 1 sessions
-  pub two : IsHistory p 2 sessions
-  pub three : IsHistory p 3 sessions
+-- an answer has one line, without a key, of this count and sum
+abbrev pub IsLineOf : ℕ → ℤ → Answer → Type 0
+IsLineOf count sum given = given ≡ answer.Totals ((None, count, sum) ∷ [])

@@ -1,34 +1,110 @@
-// How a run ends. A closed table tells whose entries its histories have: so no session saw those of another.
-ghost use Rattle.std.specs.Prelude.{IfOk};
+// How a run ends. A closed table tells whose entries its histories have: so no session saw those of another, and the rows that are counted
+// are those of the sessions.
+ghost use Rattle.std.specs.Prelude.{◌≡◌, ◌↔◌, ℕ, ℤ, IfOk, IfNone, IfSome, IsOk, IsOkAnd, IsTrue};
+ghost use Rattle.far_types.specs.declared.answer.Answer.{Answer};
+ghost use Rattle.far_types.specs.Answers.{answer_over};
 ghost use Rattle.far_sessions.specs.Closing.{IsWhole};
+ghost use Rattle.far_shared.specs.Closing.{IsClosed};
+ghost use Rattle.far_shared.specs.Fours.{all_rows, spec_at};
 ghost use Rattle.far_threads.specs.Runs.{IsRun};
-ghost use Rattle.far_threads.specs.Working.{AreHistories, AreLeft, HasHomes};
+ghost use Rattle.far_threads.specs.Working.{AreLeft, HasHomes, IsLineOf};
 
 use crate::outcome::{Outcome, Stop};
+use far_frame::Frame;
 use far_history::Naming;
 use far_sessions::Session;
-use far_shared::{Shared, Site};
+use far_shared::{Four, Shared, Site, answer_four};
 use far_store::FarTickets;
+use far_types::Answer;
+use std::alloc::Global;
 use std::sync::Wait;
 
 /// Lets go of a value. It knows nothing of what it is: to drop four tables costs the proof of a function minutes, and here it costs none.
 fn let_go<T: Drop>(_value: T) {}
+
+/// What a call returned that cannot be refused. It knows nothing of what it is, as `let_go` does not.
+fn accepted<T, E: Drop>(given: Result<T, E>) -> T
+    requires { IsOk given }
+    ensures { IsOkAnd given (λ it. it ≡ result) }
+{
+    match given {
+        Ok(it) => it,
+        Err(_) => unreachable!(),
+    }
+}
 
 /// Closes a table with all its sessions. What it is refused with without one of them cannot come.
 fn close_all<N: Naming, B: Site, S: FarTickets, R: Wait>(
     rt: &R,
     shared: Shared<N, B, S>,
     sessions: Vec<Session<B>>,
-)
+) -> Four<Frame<S>>
     requires whole { IsWhole N.plan.sessions sessions.items }
-    ensures { AreHistories N.plan sessions.items }
+    ensures zero { IsClosed N.plan 0 sessions.items result.zero.table }
+    ensures one { IsClosed N.plan 1 sessions.items result.one.table }
+    ensures two { IsClosed N.plan 2 sessions.items result.two.table }
+    ensures three { IsClosed N.plan 3 sessions.items result.three.table }
 {
-    let_go(shared.close(rt, sessions));
+    accepted(shared.close(rt, sessions))
 }
 
-/// Closes a table where its sessions have left something, and gives what that is.
+/// What the aggregate 0 of four tables, which is their gauge, answers over all their rows. Drops the tables. Ends with `Memory` alone.
+fn answer_closed<S: FarTickets>(alloc: Global, frames: Four<Frame<S>>) -> Result<Answer, Stop>
+    ensures { IfOk result (λ answer. IfSome (spec_at frames.zero.table 0) (λ spec. answer ≡ answer_over spec (all_rows frames.zero.table frames.one.table frames.two.table frames.three.table))) }
+{
+    let answer = answer_four(
+        alloc,
+        &frames.zero,
+        &frames.one,
+        &frames.two,
+        &frames.three,
+        0,
+    );
+    let_go(frames);
+    match answer {
+        Ok(answer) => Ok(answer),
+        Err(_) => Err(Stop::Memory),
+    }
+}
+
+/// The count and the sum of an answer that has one line, without a key; `None` of any other.
+fn only_line(answer: &Answer) -> Option<(u64, i128)>
+    ensures line { IfSome result (λ line. IsLineOf line.0 line.1 answer.now) }
+    ensures none { IfNone result ((count : ℕ) → (sum : ℤ) → ¬ (IsLineOf count sum answer.now)) }
+{
+    let Answer::Totals(lines) = answer else {
+        return None;
+    };
+    let lines = lines.as_slice();
+    if lines.len() != 1 {
+        return None;
+    }
+    let (key, count, sum) = &lines[0];
+    if key.is_some() {
+        return None;
+    }
+    Some((*count, *sum))
+}
+
+/// Whether two answers have one line, without a key, and it is the same.
+fn have_same_line(one: &Answer, other: &Answer) -> bool
+    ensures { IsTrue result ↔ ((count : ℕ) × (sum : ℤ) × IsLineOf count sum one.now × IsLineOf count sum other.now) }
+{
+    match (only_line(one), only_line(other)) {
+        (Some((count, sum)), Some((also_count, also_sum))) => {
+            count == also_count && sum == also_sum
+        }
+        _ => false,
+    }
+}
+
+/// Closes a table if its sessions left something, and returns what that is. The answer of the shared table is returned only if its closed
+/// stripes answer the same, since no clause of `ask_all` says whose rows it counts.
+///
+/// Ends with `Memory` if a call is refused memory, and with `Turns` if the two answers differ.
 pub(crate) fn end<N: Naming, B: Site, S: FarTickets, R: Wait>(
     rt: &R,
+    alloc: Global,
     shared: Shared<N, B, S>,
     left: Result<(Vec<Session<B>>, Outcome), Stop>,
     edits: u32,
@@ -37,11 +113,11 @@ pub(crate) fn end<N: Naming, B: Site, S: FarTickets, R: Wait>(
     requires left { IfOk left (λ left. AreLeft N.plan edits left.0.items left.1) }
     ensures { IfOk result (IsRun N.plan edits) }
 {
-    match left {
-        Ok((sessions, outcome)) => {
-            close_all(rt, shared, sessions);
-            Ok(outcome)
-        }
-        Err(stop) => Err(stop),
+    let (sessions, outcome) = left?;
+    let frames = close_all(rt, shared, sessions);
+    let closed = answer_closed(alloc, frames)?;
+    if !have_same_line(&outcome.answer, &closed) {
+        return Err(Stop::Turns);
     }
+    Ok(outcome)
 }

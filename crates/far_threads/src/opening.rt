@@ -88,11 +88,12 @@ fn planned<N: Naming + Send + Sync, R: Threads + Wait + Sync>(
 
 /// Runs sessions on threads over one shared table: each inserts so many rows of the number 1 on its home stripe, while a worker in the
 /// background tries as many evacuations, one stripe after the other. When all have ended, the gauge of each session's home stripe is
-/// read, and the gauge is asked over all stripes. Then the table is closed. Each gauge has read just the rows that its session inserted.
+/// read, and the gauge is asked over all stripes. Then the table is closed. Each gauge has read just the rows that its session inserted,
+/// and the answer counts the rows of all sessions.
 ///
 /// A session whose edit meets an object that is away fetches it and tries again; where there is no room it sends an object away and
 /// tries again. Ends with `Memory` where a call is refused memory, and with `Turns` where an edit was tried 10,000 times or is refused
-/// for another reason.
+/// for another reason, or if the closed stripes answer otherwise than they did before.
 pub fn run_sessions<R: Threads + Wait + Sync>(
     rt: &R,
     alloc: Global,

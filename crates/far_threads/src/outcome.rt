@@ -10,7 +10,7 @@ use std::alloc::{AllocError, AllocFailed};
 pub struct Outcome {
     /// The gauge of each session's home stripe, in the order of the sessions.
     pub gauges: Vec<Reading>,
-    /// What the gauge answers over all stripes.
+    /// What the gauge answers over all stripes: the count and the sum of the rows of all sessions.
     pub answer: Answer,
 }
 
@@ -19,7 +19,8 @@ pub struct Outcome {
 pub enum Stop {
     /// A call was refused memory.
     Memory,
-    /// An edit was tried 10,000 times, or was refused for what no other try mends.
+    /// An edit was tried 10,000 times, or was refused for what no other try mends. Or the closed stripes answer otherwise than the shared
+    /// table did: no run has met it, and no clause rules it out.
     Turns,
 }
 

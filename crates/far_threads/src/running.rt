@@ -135,5 +135,5 @@ pub(crate) fn run_shared<
     ensures { IfOk result (IsRun N.plan edits) }
 {
     let left = leave(rt, alloc, &shared, store, sessions, edits);
-    end(rt, shared, left, edits)
+    end(rt, alloc, shared, left, edits)
 }

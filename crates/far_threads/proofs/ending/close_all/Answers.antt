@@ -1,10 +1,17 @@
-use Rattle.far_threads.proofs.RunLaws.{of-close}
+use Rattle.far_threads.proofs.RunLaws.{is-accepted, of-accepted}
 use Rattle.far_threads.proofs.ending.close_all.Goals as goal
 
-pub returns : goal.returns
-returns g c = record {
-  zero = of-close c.close.result _ _ _ c.close.ensures.zero c.close.ensures.missing (λ frames closed. (closed.log, closed.settled)) (λ refused missing. missing.1 c.requires.whole);
-  one = of-close c.close.result _ _ _ c.close.ensures.one c.close.ensures.missing (λ frames closed. (closed.log, closed.settled)) (λ refused missing. missing.1 c.requires.whole);
-  two = of-close c.close.result _ _ _ c.close.ensures.two c.close.ensures.missing (λ frames closed. (closed.log, closed.settled)) (λ refused missing. missing.1 c.requires.whole);
-  three = of-close c.close.result _ _ _ c.close.ensures.three c.close.ensures.missing (λ frames closed. (closed.log, closed.settled)) (λ refused missing. missing.1 c.requires.whole);
-}
+pub accepted-requires : goal.accepted-requires
+accepted-requires g c = is-accepted c.close.result _ c.close.ensures.missing (λ refused missing. missing.1 c.requires.whole)
+
+pub returns-clause-zero : goal.returns-clause-zero
+returns-clause-zero g c = of-accepted c.close.result c.accepted.result _ c.accepted.ensures c.close.ensures.zero
+
+pub returns-clause-one : goal.returns-clause-one
+returns-clause-one g c = of-accepted c.close.result c.accepted.result _ c.accepted.ensures c.close.ensures.one
+
+pub returns-clause-two : goal.returns-clause-two
+returns-clause-two g c = of-accepted c.close.result c.accepted.result _ c.accepted.ensures c.close.ensures.two
+
+pub returns-clause-three : goal.returns-clause-three
+returns-clause-three g c = of-accepted c.close.result c.accepted.result _ c.accepted.ensures c.close.ensures.three
