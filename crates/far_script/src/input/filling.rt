@@ -8,6 +8,7 @@ ghost use Rattle.far_script.specs.Flow.{IsUnseen, Reads, unread};
 use super::Input;
 use crate::bounded::Bounded;
 use crate::fault::ShellFault;
+use crate::lines::first_feed;
 use crate::page::Page;
 use std::alloc::Global;
 use std::io::Read;
@@ -122,14 +123,13 @@ fn stay_ascii(is_ascii: bool, held: &Page, came: &[u8]) -> bool
 
 /// The place of the first line feed, where there is none before `from`.
 fn line_feed(bytes: &[u8], from: usize) -> Option<usize>
-    requires { list_any (λ c. c == 10) (take from bytes.now) ≡ false }
+    requires within { from ≤ length bytes.now }
+    requires none { list_any (λ c. c == 10) (take from bytes.now) ≡ false }
     ensures some { IfSome result (λ at. (at < length bytes.now) × (slice_index bytes.now at ≡ 10) × (list_any (λ c. c == 10) (take at bytes.now) ≡ false)) }
     ensures none { IfNone result (list_any (λ c. c == 10) bytes.now ≡ false) }
 {
-    for at in from..bytes.len() {
-        if bytes[at] == b'\n' {
-            return Some(at);
-        }
+    match first_feed(&bytes[from..]) {
+        Some(at) => Some(from + at),
+        None => None,
     }
-    None
 }
