@@ -21,7 +21,7 @@ use std::alloc::Global;
 
 impl TextColumn {
     // Whether the next place may get this text, but for want of memory.
-    fn may_push<S: FarTickets>(
+    pub(super) fn may_push<S: FarTickets>(
         &self,
         objects: &Objects<u8, S>,
         text: &Option<Text>,

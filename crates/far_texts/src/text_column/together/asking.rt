@@ -110,6 +110,9 @@ pub fn may_push_texts<S: FarTickets>(
     requires few { length columns.now ≤ 16 }
     ensures { refusal_in result ≡ push_texts_refusal S.content objects.now columns.now texts.now }
 {
+    if columns.len() == 1 {
+        return columns[0].may_push(objects, &texts[0]);
+    }
     may_measure_forms(objects, columns, texts)?;
     may_place_forms(objects, columns, texts)
 }
