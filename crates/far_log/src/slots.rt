@@ -76,10 +76,14 @@ pub fn number_at(table: &ChunkedVec<Entry>, offset: u32) -> usize
     ensures { (k : ℕ) (s : Slot) → slice_get (slots_of table.now) k ≡ Some s → s.offset ≡ offset → result ≡ k }
 {
     // An object that gets another list loses its part once the new one lies behind it, so the last slot but one is looked
-    // at first.
-    let number = table.len().saturating_sub(2);
+    // at first. If the new one lies in another segment, its part may be the last.
+    let last = table.len() - 1;
+    let number = last.saturating_sub(1);
     if table.get(number).slot.offset == offset {
         return number;
+    }
+    if table.get(last).slot.offset == offset {
+        return last;
     }
     number_among(table, offset)
 }
