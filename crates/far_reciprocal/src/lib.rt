@@ -32,13 +32,17 @@ impl Reciprocal {
         ensures { result ≡ number / divisor }
     {
         let guess = ((number as u64).wrapping_mul(self.factor) >> 40) as usize;
-        if let Some(product) = guess.checked_mul(divisor) {
-            if product <= number && number - product < divisor {
+        // The guess has 24 bits, so its product with such a divisor has at most 56. Where that is more than the number, what is
+        // left wraps around to more than the divisor.
+        if divisor <= 0xffff_ffff {
+            let left = number.wrapping_sub(guess * divisor);
+            if left < divisor {
                 return guess;
             }
         }
         number / divisor
     }
+
     /// What is left of a number once a divisor is taken from it as often as it goes. Takes no memory.
     #[inline(always)]
     pub fn remainder(self, number: usize, divisor: usize) -> usize

@@ -1,17 +1,18 @@
 -- The local memory once an object comes, goes or is written.
-use Rattle.std.proofs.Common.{◌≡◌, ◌≢◌, ℕ, ◌<◌, inl, inr, true, List, [], ◌∷◌, ◌++◌, length, Some, None, IsSome, refl, sym, ap, subst, ◌∙◌}
+use Rattle.std.proofs.Common.{◌≡◌, ◌≢◌, ℕ, ◌<◌, inl, inr, true, false, List, [], ◌∷◌, ◌++◌, length, Some, None, IsSome, refl, sym, ap, subst, ◌∙◌}
 use Rattle.std.specs.Prelude.{slice_get, slice_set}
-use Rattle.std.specs.Option.{option_and_then}
+use Rattle.std.specs.Option.{option_and_then, option_map_or}
 use Rattle.std.proofs.lemmas.Bool.{cases_eq}
-use Rattle.std.proofs.lemmas.Option.{slice_get_within}
+use Rattle.std.proofs.lemmas.List.{set-get_or}
+use Rattle.std.proofs.lemmas.Option.{slice_get_within, get_or_from_slice_get}
 use Rattle.far_pointer.specs.declared.pointer.At.{At}
 use Rattle.far_pointer.specs.declared.pointer.Pointer.{Pointer}
 use Rattle.far_pointer.specs.declared.pointer.Pointer.TheVariants.{Local, Remote}
-use Rattle.far_pointer.specs.Layout.{with_dirty, with_hot, with_at}
+use Rattle.far_pointer.specs.Layout.{is_dirty, is_hot, with_dirty, with_hot, with_at}
 use Rattle.far_log.specs.Room.{Room, part_of, IsRegion}
 use Rattle.far_log.specs.Changes.{ChangesOnly, IsPlaced}
-use Rattle.far_scopes.specs.Placing.{spot, with_new}
-use Rattle.far_scopes.specs.Memory.{at_of, place_of, list_in, ChangesList, IsMemory}
+use Rattle.far_scopes.specs.Placing.{spot, with_new, marked}
+use Rattle.far_scopes.specs.Memory.{Memory, at_of, place_of, list_in, ChangesList, IsMemory}
 use Rattle.far_scopes.proofs.Places.{own-lost, lists-lost, own-gained, lists-gained, own-moved, lists-moved, own-same, lists-same, not_some}
 use Rattle.far_scopes.proofs.WordPlaces.{place-set_same, place-set_other, place-push_last, place-push_other, place-end}
 
@@ -108,6 +109,21 @@ module _ {X : Type 0} (words : List Pointer) (room : Room X) (m : IsMemory words
 pub at-dirty_hot : (word : Pointer) → at_of (with_hot (with_dirty word) true) ≡ at_of word
 at-dirty_hot (Local at dirty hot far) = refl
 at-dirty_hot Remote = refl
+
+-- a word that says dirty and hot is as it would be marked
+pub marked-is : (word : Pointer) → is_dirty word ≡ true → is_hot word ≡ true → with_hot (with_dirty word) true ≡ word
+marked-is (Local at true true far) dirty hot = refl
+marked-is (Local at true false far) dirty hot = cc
+marked-is (Local at false hot far) dirty hot' = cc
+marked-is Remote dirty hot = refl
+
+-- so its object is marked
+pub already-marked : {X : Type 0} (memory : Memory X) (o : ℕ) (word : Pointer) → slice_get memory.words o ≡ Some word → with_hot (with_dirty word) true ≡ word → memory ≡ marked memory o
+already-marked memory o word was same =
+    let kept : slice_set memory.words o word ≡ memory.words = ap (slice_set memory.words o) (sym (get_or_from_slice_get memory.words o word word was)) ∙ set-get_or memory.words o word in
+    let words : option_map_or (λ w. slice_set memory.words o (with_hot (with_dirty w) true)) (slice_get memory.words o) memory.words ≡ memory.words =
+    ap (λ w. option_map_or (λ w. slice_set memory.words o (with_hot (with_dirty w) true)) w memory.words) was ∙ ap (slice_set memory.words o) same ∙ kept in
+    sym (λ j. record { words = words j; room = memory.room })
 
 pub at-hot : (word : Pointer) → at_of (with_hot word true) ≡ at_of word
 at-hot (Local at dirty hot far) = refl

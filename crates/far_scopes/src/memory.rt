@@ -1,7 +1,7 @@
 // The local memory of objects.
 ghost use Rattle.std.specs.Prelude.{◌≡◌, ℕ, ◌-◌, ◌<◌, ◌≤◌, ◌^◌, ◌↔◌, ◌⊎◌, List, [], length, replicate, All, true, false, Some, None, IsSome, IsTrue, IfSome, IfOk, IfErr, OnOk, OnErr, IsErrOf, slice_get, is_some};
 ghost use Rattle.std.specs.Borrow.{sem};
-ghost use Rattle.far_pointer.specs.Layout.{HasWord};
+ghost use Rattle.far_pointer.specs.Layout.{HasWord, with_dirty, with_hot};
 ghost use Rattle.far_log.specs.Room.{fits_in, fit_in_order, spaces_of, space_of, capacity_of};
 ghost use Rattle.far_scopes.specs.Memory.{at_of as word_at, place_of, list_in, ChangesList, IsMemory};
 ghost use Rattle.far_scopes.specs.Cool.{cool_of, cool_in};
@@ -217,6 +217,9 @@ impl<T: Elem> LocalMemory<T> {
         ensures lists { (p : ℕ) → list_in self.new p ≡ list_in self.old p }
     {
         let word = self.words[o];
+        if is_marked(word) {
+            return;
+        }
         self.words[o] = word.with_dirty().with_hot(true);
         self.cool -= cool_of(word);
     }
@@ -231,6 +234,15 @@ fn at_of(word: Word) -> At
         unreachable!()
     };
     at
+}
+
+// Whether the word of an object says that it is dirty and hot, as that of one that is written again and again.
+fn is_marked(word: Word) -> bool
+    ensures { IsTrue result → with_hot (with_dirty word) true ≡ word }
+{
+    let dirty = word.dirty();
+    let hot = word.hot();
+    dirty && hot
 }
 
 // 1 for the word of a local object that is not hot, else 0.

@@ -1,5 +1,5 @@
 // The order in which objects were used.
-ghost use Rattle.std.specs.Prelude.{◌≡◌, [], ◌∷◌, IfOk, IfErr, IsTrue, OnOk, OnErr, false};
+ghost use Rattle.std.specs.Prelude.{◌≡◌, [], ◌∷◌, length, IfOk, IfErr, IsTrue, OnOk, OnErr, false};
 ghost use Rattle.std.specs.Map.{keys_of};
 ghost use Rattle.far_scopes.specs.Recency.{has, without, used};
 
@@ -34,6 +34,13 @@ impl Recency {
         Ok(Recency {
             cache: LruCache::unbounded(alloc)?,
         })
+    }
+
+    /// How many objects are in the order. Takes no memory.
+    pub fn len(&self) -> usize
+        ensures { result ≡ length self.now }
+    {
+        self.cache.len()
     }
 
     /// Puts an object first that is not in the order.

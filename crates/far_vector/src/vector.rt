@@ -97,6 +97,14 @@ impl<T: Elem> FarVector<T> {
         self.objects.get(group as usize).copied()
     }
 
+    // The row group of a place.
+    #[inline(always)]
+    fn group_of(&self, i: usize) -> usize
+        ensures { result ≡ i / self.now.size }
+    {
+        self.reciprocal.quotient(i, self.size)
+    }
+
     // A place that some row group has.
     #[inline(always)]
     fn position<S: FarTickets>(&self, objects: &Objects<T, S>, i: usize) -> Position

@@ -106,9 +106,10 @@ impl<T: Elem, S: FarTickets> Objects<T, S> {
         ensures lists { (p : ℕ) → list_of T.meaning S.content self.new p ≡ list_of T.meaning S.content self.old p }
         ensures clean { AreClean T.meaning S.content self.old → AreClean T.meaning S.content self.new }
     {
-        self.memory.mark(o as usize);
-        self.entries[o as usize].version += 1;
+        // The word comes last: who lends the object next finds it at hand.
         self.order.touch(o);
+        self.entries[o as usize].version += 1;
+        self.memory.mark(o as usize);
     }
 
     /// Whether an object is local: its list is in local memory, and may be lent. Takes no memory.

@@ -1,7 +1,7 @@
 // What is asked of objects before they move.
-ghost use Rattle.std.specs.Prelude.{◌≡◌, ◌<◌, ◌≤◌, ◌↔◌, length, All, Some, IsTrue, option_map};
+ghost use Rattle.std.specs.Prelude.{◌≡◌, ℕ, ◌<◌, ◌≤◌, ◌↔◌, length, All, Some, IsTrue, true, option_map};
 ghost use Rattle.far_log.specs.Room.{fits_in, fit_in_order, spaces_of, space_of, capacity_of};
-ghost use Rattle.far_scopes.specs.Movement.{entry_of, leavings_of};
+ghost use Rattle.far_scopes.specs.Movement.{entry_of, leavings_of, is_local};
 
 use super::Objects;
 use far_codec::Elem;
@@ -14,6 +14,15 @@ impl<T: Elem, S: FarTickets> Objects<T, S> {
         ensures { result ≡ length self.now.entries }
     {
         self.entries.len() as u32
+    }
+
+    /// Whether every object is local. Takes no memory, and looks at no object: the local ones are those in the order of use.
+    pub fn are_all_local(&self) -> bool
+        ensures { IsTrue result ↔ ((o : ℕ) → o < length self.now.entries → is_local self.now o ≡ true) }
+    {
+        let local = self.order.len();
+        let all = self.entries.len();
+        local == all
     }
 
     /// How many elements the list of an object has, local or away. Takes no memory.

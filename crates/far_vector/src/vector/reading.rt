@@ -109,7 +109,12 @@ impl<T: Elem> FarVector<T> {
         if from > to || to > self.len {
             return Err(Refusal::OutOfRange);
         }
-        if from < to && from / self.size != (to - 1) / self.size {
+        if from == to {
+            return Ok(());
+        }
+        let first = self.group_of(from);
+        let last = self.group_of(to - 1);
+        if first != last {
             return Err(Refusal::OutOfRange);
         }
         Ok(())

@@ -1,5 +1,5 @@
 // Elements written in place.
-ghost use Rattle.std.specs.Prelude.{◌≡◌, ℕ, ◌+◌, ◌-◌, ◌*◌, ◌%◌, ◌<◌, ◌++◌, List, [], ◌∷◌, length, take, drop, Some, None, IsSomeAnd, OnOk, OnErr, slice_set, slice_range};
+ghost use Rattle.std.specs.Prelude.{◌≡◌, ℕ, ◌+◌, ◌-◌, ◌*◌, ◌/◌, ◌%◌, ◌<◌, ◌++◌, List, [], ◌∷◌, length, take, drop, Some, None, IsSomeAnd, OnOk, OnErr, slice_set, slice_range};
 ghost use Rattle.std.specs.Borrow.{sem};
 ghost use Rattle.far_scopes.specs.Memory.{list_in};
 ghost use Rattle.far_scopes.specs.Movement.{list_of, AreClean, AreHere, ChangesObject};
@@ -46,6 +46,33 @@ impl<T: Elem> FarVector<T> {
         objects.may_write(at.object)?;
         self.write(objects, at, x);
         Ok(())
+    }
+
+    /// Writes the element at a place that may be written, as `set` does, where the caller knows its row group. So nothing is
+    /// asked again, and no place is divided. Takes no memory.
+    pub fn set_in_group<S: FarTickets>(
+        &self,
+        objects: &mut Objects<T, S>,
+        group: u32,
+        i: usize,
+        x: T,
+    )
+        requires is { IsVector (list_of T.meaning S.content objects.old) self.now }
+        requires group { group ≡ i / self.now.size }
+        requires free { set_refusal objects.old self.now i ≡ None }
+        ensures written { objects.new ≡ range_written objects.old self.now i (x ∷ []) }
+        ensures elements { elements (list_of T.meaning S.content objects.new) self.now ≡ slice_set (elements (list_of T.meaning S.content objects.old) self.now) i x }
+        ensures is { IsVector (list_of T.meaning S.content objects.new) self.now }
+        ensures apart { (w : Vector T) → IsVector (list_of T.meaning S.content objects.old) w → AreApart self.now w → IsUntouched (list_of T.meaning S.content objects.old) (list_of T.meaning S.content objects.new) self.now w }
+        ensures lists { KeepsOthers (list_of T.meaning S.content objects.old) (list_of T.meaning S.content objects.new) (object_at self.now i) }
+        ensures others { ChangesObject objects.old objects.new (object_at self.now i) }
+        ensures clean { AreClean T.meaning S.content objects.old → AreClean T.meaning S.content objects.new }
+        ensures store { (name : List ℕ) → AreHere S.is_of name objects.old → AreHere S.is_of name objects.new }
+    {
+        // It tells that a row group is begun for each element.
+        let _len = self.len();
+        let at = self.position_in(objects, group as usize, i);
+        self.write(objects, at, x);
     }
 
     /// Whether the element of a place may be written. Takes no memory, and is refused exactly as `set` is.
