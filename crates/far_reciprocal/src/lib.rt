@@ -39,6 +39,7 @@ impl Reciprocal {
         }
         number / divisor
     }
+
     /// What is left of a number once a divisor is taken from it as often as it goes. Takes no memory.
     #[inline(always)]
     pub fn remainder(self, number: usize, divisor: usize) -> usize
