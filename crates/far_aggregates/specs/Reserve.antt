@@ -1,4 +1,5 @@
 -- Room that extrema reserve for a row group.
+-- Internal: no public contract cites it.
 use Rattle.std.specs.Prelude.{ℕ, ◌<◌, List, length, None, Some}
 use Rattle.std.specs.List.{AllByRecursion}
 use Rattle.far_extrema.specs.Live.{with_room}

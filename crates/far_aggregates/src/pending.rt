@@ -16,7 +16,8 @@ pub struct Pending {
 }
 
 impl Pending {
-    /// The row group of the edit. Allocates nothing.
+    /// The row group of the edit. Allocates nothing. It is 0 where `apply_deltas` had no aggregate to change, whichever row
+    /// group the row is of.
     pub fn row_group(&self) -> u32
         ensures { result ≡ self.now.group }
     {

@@ -5,6 +5,8 @@ use boxcar::slot::{OnceSlot, SlotRule, Written};
 use boxcar::tag::Tag;
 use far_store::{Engine, Failure};
 use std::alloc::{AllocError, Global};
+use std::error::Error;
+use std::fmt;
 use std::marker::Model;
 use std::sync::atomic::{AtomicUsize, Ordering};
 
@@ -40,6 +42,19 @@ pub struct Extent {
 /// The log has no room for so many bytes.
 #[derive(Drop, Debug)]
 pub struct LogFull;
+
+/// Prints a sentence, without a full stop.
+impl fmt::Display for LogFull {
+    ghost use Rattle.std.specs.Prelude.{Some, codes};
+
+    ghost output = { λ _. Some (codes "the log has no room for so many bytes") };
+
+    fn fmt<W: fmt::Write>(&self, f: &mut fmt::Formatter<W>) -> fmt::Result {
+        f.write_str("the log has no room for so many bytes")
+    }
+}
+
+impl Error for LogFull {}
 
 // A slot takes any byte.
 pub struct AnyByte;

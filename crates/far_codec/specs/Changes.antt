@@ -1,4 +1,5 @@
 -- Texts of which one changes.
+-- Internal: no public contract cites it.
 use Rattle.std.specs.Prelude.{ℕ, ◌+◌, List, ◌∷◌, ◌++◌, take, drop, Option}
 
 -- the texts once text i is this one; where i is their count, it stands behind them

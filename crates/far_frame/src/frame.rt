@@ -30,6 +30,27 @@ use std::marker::Model;
 /// Contracts see its state: the plain table, the rows over objects that hold its places, and the access history of each column.
 ///
 /// All calls of one table that take a store are given the store to which its objects went.
+///
+/// A table without rows:
+///
+/// ```
+/// match schema(alloc, kinds) {
+///     Ok(schema) => Frame::open(alloc, schema, limits, number),
+///     Err(refusal) => Err(refusal),
+/// }
+/// ```
+///
+/// A row is inserted, which gets the next place:
+///
+/// ```
+/// match row_of(alloc, number) {
+///     Ok(row) => match frame.insert(row) {
+///         Ok(_) => Ok(()),
+///         Err(refusal) => Err(refusal),
+///     },
+///     Err(refusal) => Err(refusal),
+/// }
+/// ```
 #[derive(Drop)]
 pub struct Frame<S: FarTickets> {
     alloc: Global,

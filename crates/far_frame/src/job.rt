@@ -51,6 +51,35 @@ type JobWork<S> = Work<
 
 /// A job of a table. It owns all that it holds, so no table is borrowed between its beginning and its end, and any thread can carry
 /// it. Contracts see the name of its object, if it moves one, and its work.
+///
+/// A job is begun:
+///
+/// ```
+/// match end {
+///     End::Commit => frame.begin_evac(store, 0, 0),
+///     End::Install => frame.begin_fetch(store, 0, 0),
+///     End::Merge => frame.begin_offload(store, 0, 0),
+/// }
+/// ```
+///
+/// Then it is carried, and only that talks to the store:
+///
+/// ```
+/// match begun(frame, store, end) {
+///     Ok(job) => job.carry(alloc, store, &mut Meter::new()).map_err(why),
+///     Err(refusal) => Err(refusal),
+/// }
+/// ```
+///
+/// And it ends:
+///
+/// ```
+/// let reply = match end {
+///     End::Commit => frame.commit(store, job),
+///     End::Install => frame.install(store, job),
+///     End::Merge => frame.merge(store, job),
+/// };
+/// ```
 #[derive(Drop)]
 pub struct Job<S: FarTickets> {
     pub(crate) name: Option<Name>,

@@ -19,6 +19,18 @@ use std::marker::Model;
 
 /// The rows of a table, lent where they lie: no object comes, goes or changes while a view is there. Contracts see the table's
 /// state.
+///
+/// A part of a column is lent piece by piece, and here each piece is copied:
+///
+/// ```
+/// let view = frame.scope();
+/// let mut lents = view.ints(column, from, to)?;
+/// let mut copies = Vec::with_capacity(alloc, lents.len())?;
+/// while let Some(lent) = lents.next() {
+///     copies.push(copy_ints(alloc, &lent)?)?;
+/// }
+/// Ok(copies)
+/// ```
 #[derive(Drop)]
 pub struct View<'a, S: FarTickets> {
     table: &'a LiveTable<S>,

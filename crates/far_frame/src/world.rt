@@ -23,6 +23,16 @@ use std::marker::Model;
 ///
 /// Jobs are numbered 0, 1, 2, .. in the order in which they are begun. A number is spent once its job was accepted at its end, or
 /// was stale there.
+///
+/// Steps are served in order, and each has a reply. Few faults were met before:
+///
+/// ```
+/// if world.faults() < 9 && steps.len() < 99 {
+///     run(world, steps)
+/// } else {
+///     Err(Refusal::FarFault)
+/// }
+/// ```
 #[derive(Drop)]
 pub struct World<S: FarStore> {
     alloc: Global,

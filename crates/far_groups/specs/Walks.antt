@@ -1,4 +1,5 @@
 -- What a walk along a map has before it, and what two maps are told apart by on the way.
+-- Internal: no public contract cites it.
 use Rattle.std.specs.Prelude.{ℕ, ℤ, pos, List, [], ◌∷◌, map, filter, not, is_some, Option, None, Some}
 use Rattle.std.specs.Map.{lookup}
 use Rattle.std.specs.BTreeMap.{is_at}

@@ -1,4 +1,5 @@
 -- A list that is kept in chunks, each with twice the room of the one before it.
+-- Internal: no public contract cites it.
 use Rattle.std.specs.Prelude.{◌≡◌, ℕ, zero, suc, ◌+◌, ◌≤◌, ◌<◌, ◌^◌, List, [], ◌∷◌, ◌++◌, length, vec_capacity}
 use Rattle.std.specs.declared.vec.Vec.{Vec}
 

@@ -1,4 +1,5 @@
--- internal: what a region knows of its segments, so that a search for space need not look at them.
+-- What a region knows of its segments, so that a search for space need not look at them.
+-- Internal: no public contract cites it.
 use Rattle.std.specs.Prelude.{◌≡◌, ◌≢◌, ℕ, ◌<◌, ◌≤◌}
 use Rattle.far_log.specs.declared.skip.Skip.{Skip}
 use Rattle.far_log.specs.Room.{Room, space_in, segment_of, IsRegion}

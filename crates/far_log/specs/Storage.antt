@@ -1,4 +1,5 @@
 -- How segments keep their parts: the elements of each in a stack, and a table of slots.
+-- Internal: no public contract cites it.
 use Rattle.std.specs.Prelude.{◌≡◌, ℕ, zero, suc, ◌+◌, ◌≤◌, ◌<◌, ◌^◌, if◌then◌else◌, true, false, List, [], ◌∷◌, length, take, drop, map, filter, sum_by, slice_get, Some}
 use Rattle.far_log.specs.declared.slots.Slot.{Slot}
 use Rattle.far_log.specs.declared.links.Link.{Link}

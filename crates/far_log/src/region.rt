@@ -40,8 +40,8 @@ impl<T> Model for Region<T> {
 impl<T: Copy + Drop> Region<T> {
     /// A region of so many segments, each for `size` elements, without parts.
     ///
-    /// All memory for elements is taken here. It is reserved and not written, so that it costs what is used of it.
-    /// Refused with `NoMemory` (1) alone.
+    /// All memory for elements is allocated here, as one block, and none of it is written. A later `place` writes up to its
+    /// own list, gaps in front of that included. Refused with `NoMemory` (1) alone.
     pub fn new(alloc: Global, segments: u32, size: u32) -> Result<Region<T>, Refusal>
         requires { segments ≤ 65536 }
         ensures empty { IfOk result (λ region. region ≡ replicate segments record { parts = []; size = size }) }
@@ -161,8 +161,8 @@ impl<T: Copy + Drop> Region<T> {
         self.segments.part(at)
     }
 
-    /// The part at a location, which has so many elements, lent in place. Takes no memory, and looks at nothing but the
-    /// segment's block: the length tells where the part ends.
+    /// The part at a location, which has so many elements, lent in place. Takes no memory, and looks at no segment's table:
+    /// the length tells where the part ends.
     pub fn part_long(&self, at: At, len: usize) -> &[T]
         requires { IsSomeAnd (part_of self.now at) (λ list. length list ≡ len) }
         ensures { part_of self.now at ≡ Some result.now }
@@ -246,9 +246,9 @@ impl<T: Copy + Drop> Region<T> {
     /// Moves the parts of segment `from` into the lowest other segment without parts, in the order in which `order`
     /// lists where they begin, and answers where they lie now. Segment `from` is left without parts.
     ///
-    /// Reads the one segment while it writes the other, and copies each element once. Refused with `OutOfRange` (14)
-    /// exactly where there is no segment `from`, with `RegionFull` (17) exactly where there is one and no other is without
-    /// parts, else with `NoMemory` (1) alone; then nothing is changed.
+    /// Copies each element once, from one place of the block to another. Refused with `OutOfRange` (14) exactly where there
+    /// is no segment `from`, with `RegionFull` (17) exactly where there is one and no other is without parts, else with
+    /// `NoMemory` (1) alone, where the tables cannot grow; then nothing is changed.
     pub fn compact(&mut self, alloc: Global, from: u32, order: &[u32]) -> Result<Moved, Refusal>
         requires { IsOrder (segment_of self.old from).parts order.now }
         ensures compacted { IfOk result (λ moved. Compacts self.old self.new from moved.segment order.now moved.offsets.items) }
@@ -291,8 +291,8 @@ impl<T: Copy + Drop> Region<T> {
         self.part_long_mut(at, len)
     }
 
-    /// The part at a location, which has so many elements, lent in place to be written. Takes no memory, and looks at nothing
-    /// but the segment's block.
+    /// The part at a location, which has so many elements, lent in place to be written. Takes no memory, and looks at no
+    /// segment's table.
     ///
     /// What the borrow leaves is the part's list, and no other part changes (`alone`).
     pub fn part_long_mut(&mut self, at: At, len: usize) -> &mut [T]

@@ -1,4 +1,5 @@
--- internal: why a row may not be appended, asked of one kind of columns after the other.
+-- Why a row may not be appended, asked of one kind of columns after the other.
+-- Internal: no public contract cites it.
 use Rattle.std.specs.Prelude.{ℕ, ◌/◌, List, length, Option}
 use Rattle.std.specs.Option.{option_or}
 use Rattle.far_types.specs.declared.refusal.Refusal.{Refusal}

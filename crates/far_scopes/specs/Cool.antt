@@ -1,4 +1,5 @@
--- internal: how many local objects are not hot.
+-- How many local objects are not hot.
+-- Internal: no public contract cites it.
 use Rattle.std.specs.Prelude.{◌≡◌, ℕ, if◌then◌else◌, List, sum_by}
 use Rattle.far_pointer.specs.declared.pointer.Pointer.{Pointer}
 use Rattle.far_pointer.specs.declared.pointer.Pointer.TheVariants.{Local, Remote}

@@ -1,4 +1,5 @@
 -- The objects whose parts lie in a segment.
+-- Internal: no public contract cites it.
 use Rattle.std.specs.Prelude.{◌≡◌, ◌≢◌, ℕ, ◌<◌, ◌==◌, ◌&&◌, not, if◌then◌else◌, Bool, List, ◌++◌, length, map, Option, Some, None, All, AllPairs, Contains, slice_get, slice_index, slice_index_or, option_map, true, false}
 use Rattle.std.specs.Option.{option_and_then}
 use Rattle.std.specs.List.Sorted.{IsNonDecreasing}

@@ -1,4 +1,5 @@
 -- Lines of answers as what stands by key.
+-- Internal: no public contract cites it.
 use Rattle.std.specs.Prelude.{ℕ, ℤ, ◌==◌, cond, List, [], ◌∷◌, map, Option}
 use Rattle.far_types.specs.declared.key.Key.{Key}
 use Rattle.far_types.specs.Answers.{TotalLines, ExtremaLines}

@@ -119,6 +119,15 @@ fn serve_chunks<
 }
 
 /// Threads that do work in the background.
+///
+/// A list of works is done by so many threads, without a lock while one waits for the store:
+///
+/// ```
+/// match list_of(alloc, works_in(works)) {
+///     Ok(list) => worked(Background::run(rt, shared, store, workers, list)),
+///     Err(_) => Err(Refusal::NoMemory),
+/// }
+/// ```
 #[derive(Clone, Copy, Debug)]
 pub struct Background {}
 

@@ -8,6 +8,16 @@ use std::marker::Model;
 
 /// What a shared table is made for: the schema and the limits of each stripe, the aggregate that is its gauge, and how many sessions
 /// use it. Contracts see these four.
+///
+/// For a column of numbers whose count and sum are the gauge of each stripe:
+///
+/// ```
+/// let limits = Limits::in_groups_of(4);
+/// let gauge = Spec::totals(alloc, 0);
+/// let Ok(plan) = Plan::new(schema, limits, gauge, u64::from(sessions)) else {
+///     unreachable!()
+/// };
+/// ```
 #[derive(Drop)]
 pub struct Plan {
     pub(crate) schema: Schema,

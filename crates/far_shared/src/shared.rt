@@ -27,6 +27,33 @@ pub(crate) struct Count<N: Naming> {
 ///
 /// A session is used with the shared table that made it: its type says which. No two stripes are on one cache line, so that who writes
 /// in one does not slow the next.
+///
+/// What a plan made is opened:
+///
+/// ```
+/// let Ok((shared, sessions)) = made.open::<B>(alloc) else {
+///     return Err(Stop::Memory);
+/// };
+/// ```
+///
+/// A session makes an edit; a refusal may be one that a fetch or an eviction mends:
+///
+/// ```
+/// let edit = Edit::Insert(row_of_one(alloc)?);
+/// match shared.apply(rt, me, stripe, edit) {
+///     Ok(_) => return Ok(()),
+///     Err(refusal) => clear_way(rt, shared, store, stripe, refusal)?,
+/// }
+/// ```
+///
+/// All stripes are asked:
+///
+/// ```
+/// match shared.ask_all(rt, 0) {
+///     Ok(answer) => Ok((sessions, Outcome { gauges, answer })),
+///     Err(_) => Err(Stop::Memory),
+/// }
+/// ```
 #[derive(Drop)]
 pub struct Shared<N: Naming, B: Site, S: FarTickets> {
     pub(crate) alloc: Global,

@@ -225,6 +225,16 @@ pub fn run_input<T: AllocGlobal + Sync + Threads + Wait, R: Read + Drop, W: Writ
 /// where a read fails, the script is no UTF-8, or it ends inside a load. What lies wholly before a fault is answered.
 /// Where a write fails, the fault is `Output`; where the shell itself is refused memory, `Memory`; where the first command
 /// opens no table and asks for no sessions, `BadStart`; where sessions give up on an edit, `Turns`.
+///
+/// The program does this:
+///
+/// ```
+/// let mut writer = io::writer(&rt);
+/// match run_script(&rt, rt.reader(), &mut writer) {
+///     Ok(()) => ExitCode::SUCCESS,
+///     Err(fault) => ExitCode::from(fault.status()),
+/// }
+/// ```
 pub fn run_script<T: AllocGlobal + Sync + Threads + Wait, R: Read + Drop, W: Write>(
     rt: &T,
     reader: R,

@@ -17,6 +17,22 @@ use std::sync::Wait;
 ///
 /// Reading never waits. A `put` may: where another thread is just making the room for the next contents, it waits
 /// until that room is there.
+///
+/// ```
+/// let Ok(store) = AgentStore::new(rt, alloc, STORE_CAPACITY) else {
+///     return Err(Stop::Memory);
+/// };
+/// ```
+///
+/// What is put in any store is read back:
+///
+/// ```
+/// let mut meter = Meter::new();
+/// let ticket = store.put(alloc, &mut meter, bytes)?;
+/// let mut buffer = Vec::new(alloc);
+/// store.get(alloc, &mut meter, &store.again(&ticket), &mut buffer)?;
+/// Ok(buffer)
+/// ```
 #[derive(Drop)]
 pub struct AgentStore<R> {
     rt: R,

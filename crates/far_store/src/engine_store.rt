@@ -21,6 +21,12 @@ use std::sync::Wait;
 ///
 /// The store keeps the engine's keys, one for each number. It answers `FarFault` (21) wherever the engine fails, and
 /// counts it. Reading waits only where the engine does; a put may wait for other threads, as an agent's.
+///
+/// Over a log of five bytes, with room for eight contents:
+///
+/// ```
+/// let store = EngineStore::new(rt, alloc, ByteLog::new(alloc, 5)?, 8)?;
+/// ```
 #[derive(Drop)]
 pub struct EngineStore<E: Engine, R> {
     rt: R,

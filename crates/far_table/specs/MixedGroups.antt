@@ -1,4 +1,5 @@
--- internal: a row group as it is lent for a recount: a column that is local in place, another from its content, which was read.
+-- A row group as it is lent for a recount: a column that is local in place, another from its content, which was read.
+-- Internal: no public contract cites it.
 use Rattle.std.specs.Prelude.{◌≡◌, ℕ, ◌<◌, ◌≤◌, ◌==◌, Bool, true, false, List, length, All, IsSome}
 use Rattle.std.specs.List.{find}
 use Rattle.far_types.specs.declared.spec.Spec.{Spec}

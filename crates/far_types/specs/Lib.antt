@@ -17,4 +17,5 @@ pub mod MayRefuse
 pub mod Pairs
 pub mod RefusalExamples
 pub mod Refusals
+pub mod Sentences
 pub mod Table

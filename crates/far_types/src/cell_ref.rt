@@ -84,8 +84,8 @@ impl<'a> CellRef<'a> {
         }
     }
 
-    /// The key that the cell gives, or `None` if it has no value. The memory of an earlier key is used again. Refused with
-    /// `NoMemory` (1) alone, and only if the cell is a text: no other cell takes memory. A number is told apart where the
+    /// The key that the cell gives, or `None` if it has no value. A text is copied into the memory of an earlier text key, or
+    /// into new memory. Refused with `NoMemory` (1) alone, and only if the cell is a text. A number is told apart where the
     /// caller's loop is: only a text costs a call.
     #[inline(always)]
     pub fn key(self, alloc: Global, earlier: Option<Key>) -> Result<Option<Key>, Refusal>

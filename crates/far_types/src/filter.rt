@@ -1,12 +1,15 @@
 // Tests of rows.
 ghost use Rattle.std.specs.Prelude.{◌≡◌, ◌↔◌, IsTrue, IfOk, IfErr, length, take};
+ghost use Rattle.std.specs.Slice.Iter.{iter_rest};
 
 use super::cell_ref::CellRef;
 use super::lend_cells::LendCells;
 use super::refusal::Refusal;
 use super::row::Row;
 use super::text::Text;
+use std::alloc::Global;
 use std::marker::Model;
+use std::slice;
 
 /// How a number is compared with a constant.
 #[derive(Clone, Copy, Debug, PartialEq, Eq)]
@@ -39,6 +42,15 @@ impl Op {
 
 /// A test of one column. It is false where the row has no such column, where the cell is of the other kind, and
 /// where it has no value, `Ne` too.
+///
+/// ```
+/// let is_rye = Test::text_is(alloc, 0, "rye")?;
+/// let are_many = Test::Int {
+///     column: 1,
+///     op: Op::Gt,
+///     value: 2,
+/// };
+/// ```
 #[derive(Drop, Debug)]
 pub enum Test {
     /// The number stands so to the constant.
@@ -52,6 +64,24 @@ pub enum Test {
 impl Test {
     ghost use Rattle.far_types.specs.Filters.{passes};
     ghost use Rattle.far_types.specs.Bounds.{column_of, has_long_constant};
+
+    /// The test that a column's text is this one. Refused with `NoMemory` (1) alone.
+    pub fn text_is(alloc: Global, column: u32, text: &str) -> Result<Test, Refusal>
+        ensures test { IfOk result (λ test. test ≡ Test.TextIs column text.now) }
+        ensures memory { IfErr result (λ e. e ≡ Refusal.NoMemory) }
+    {
+        let text = Text::from_str(alloc, text)?;
+        Ok(Test::TextIs { column, text })
+    }
+
+    /// The test that a column's text begins with this one. Refused with `NoMemory` (1) alone.
+    pub fn text_begins(alloc: Global, column: u32, text: &str) -> Result<Test, Refusal>
+        ensures test { IfOk result (λ test. test ≡ Test.TextBegins column text.now) }
+        ensures memory { IfErr result (λ e. e ≡ Refusal.NoMemory) }
+    {
+        let text = Text::from_str(alloc, text)?;
+        Ok(Test::TextBegins { column, text })
+    }
 
     /// The column that the test looks at.
     pub fn column(&self) -> u32
@@ -151,6 +181,18 @@ impl Test {
 }
 
 /// Tests that must all hold. Contracts see their list.
+///
+/// More than two, and each of them rye:
+///
+/// ```
+/// let is_rye = Test::text_is(alloc, 0, "rye")?;
+/// let are_many = Test::Int {
+///     column: 1,
+///     op: Op::Gt,
+///     value: 2,
+/// };
+/// Ok(Filter::from(Vec::from_array(alloc, [is_rye, are_many])?))
+/// ```
 #[derive(Drop, Debug)]
 pub struct Filter {
     tests: Vec<Test>,
@@ -188,6 +230,13 @@ impl Filter {
         ensures { result.now ≡ self.now }
     {
         self.tests.as_slice()
+    }
+
+    /// The tests in order, lent in place. Takes no memory.
+    pub fn iter(&self) -> slice::Iter<'_, Test>
+        ensures { iter_rest result ≡ self.now }
+    {
+        self.tests.iter()
     }
 
     /// Whether every test holds of the row. Takes no memory.
@@ -234,5 +283,30 @@ impl Filter {
             tests.push(test.clone()?)?;
         }
         Ok(Filter { tests })
+    }
+}
+
+impl From<Vec<Test>> for Filter {
+    ghost use Rattle.std.specs.Prelude.{◌≡◌};
+
+    ghost from_gives = { λ tests filter. filter ≡ tests.items };
+
+    fn from(tests: Vec<Test>) -> Filter {
+        Filter::new(tests)
+    }
+}
+
+impl<'a> IntoIterator for &'a Filter {
+    ghost use Rattle.std.specs.Prelude.{◌≡◌};
+    ghost use Rattle.std.specs.Slice.Iter.{iter_rest};
+
+    type Item = &'a Test;
+
+    type IntoIter = slice::Iter<'a, Test>;
+
+    ghost into_iter_gives = { λ filter it. iter_rest it ≡ filter.now };
+
+    fn into_iter(self) -> Self::IntoIter {
+        self.iter()
     }
 }

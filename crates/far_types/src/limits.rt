@@ -4,6 +4,16 @@ ghost use Rattle.std.specs.Prelude.{◌≡◌, OnOk, IfErr};
 use super::refusal::Refusal;
 
 /// What a table is opened for.
+///
+/// The usual limits, for at most 1,000 rows:
+///
+/// ```
+/// let limits = Limits {
+///     places: 1_000,
+///     ..Limits::default()
+/// };
+/// limits.check() == Ok(())
+/// ```
 #[derive(Clone, Copy, Debug, PartialEq, Eq)]
 pub struct Limits {
     /// How many places a row group has: 1 to 65,536.

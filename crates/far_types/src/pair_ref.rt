@@ -32,8 +32,8 @@ pub fn number_key(number: Option<i64>) -> Option<Key>
 }
 
 impl<'a> PairRef<'a> {
-    /// The pair with a key of its own, or `None` if there is none. The memory of an earlier key is used again. Refused with
-    /// `NoMemory` (1) alone, and only if the key is a text: no other pair takes memory.
+    /// The pair with a key of its own, or `None` if there is none. A text is copied into the memory of an earlier text key, or
+    /// into new memory. Refused with `NoMemory` (1) alone, and only if the key is a text.
     pub fn pair(
         self,
         alloc: Global,

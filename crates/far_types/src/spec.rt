@@ -19,6 +19,13 @@ pub enum Fold {
 }
 
 /// An aggregate: what it makes of the values of which rows, by which key.
+///
+/// The totals of column 1 by column 0, over the rows whose text in column 0 begins with an r:
+///
+/// ```
+/// let begins_with_r = Test::text_begins(alloc, 0, "r")?;
+/// Spec::totals(alloc, 1).by(0).only(begins_with_r)
+/// ```
 #[derive(Drop, Debug)]
 pub struct Spec {
     pub fold: Fold,

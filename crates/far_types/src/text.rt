@@ -8,6 +8,7 @@ ghost use Rattle.std.specs.Ordering.{nat_cmp, as_partial_cmp};
 ghost use Rattle.std.specs.Cmp.Lexicographic.{slice_cmp, pointwise};
 
 use super::refusal::Refusal;
+use std::alloc::Global;
 use std::cmp::Ordering;
 use std::marker::Model;
 
@@ -32,6 +33,16 @@ impl Text {
         ensures { result ≡ string_bytes string }
     {
         Text { string }
+    }
+
+    /// A text of its own with these characters. Refused with `NoMemory` (1) alone.
+    pub fn from_str(alloc: Global, text: &str) -> Result<Text, Refusal>
+        ensures equal { IfOk result (λ made. made ≡ text.now) }
+        ensures memory { IfErr result (λ e. e ≡ Refusal.NoMemory) }
+    {
+        Ok(Text {
+            string: String::from_str(alloc, text)?,
+        })
     }
 
     /// The text, lent in place.

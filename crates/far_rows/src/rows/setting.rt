@@ -73,8 +73,8 @@ impl<S: FarTickets> Rows<S> {
         self.reciprocal.quotient(place, self.size as usize) as u32
     }
 
-    // Whether a number may be put at a place of a column of numbers, which is of this row group: a division that is not made
-    // again.
+    // Whether a number may be put at a place of a column of numbers. The place is of this row group: so its quotient is not
+    // computed again.
     fn number_is_writable(&self, i: usize, place: usize, group: u32) -> Result<(), Refusal>
         requires within { i < length self.now.numbers }
         requires place { place < length self.now.alive }

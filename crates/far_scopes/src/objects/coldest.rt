@@ -13,7 +13,8 @@ impl<T: Elem, S: FarTickets> Objects<T, S> {
     /// and where there is none, that of all without pins. `None` exactly where no local object is without pins.
     ///
     /// Takes no memory. It looks at the order of use from its end. If every local object is hot, it stops at the first
-    /// object without pins, else at the first that is neither pinned nor hot.
+    /// object without pins. Else it stops at the first that is neither pinned nor hot, or where there is none at the order's
+    /// beginning.
     pub fn coldest(&self) -> Option<u32>
         ensures coldest { result ≡ coldest self.now }
         ensures local { IfSome result (λ o. is_local self.now o ≡ true) }
