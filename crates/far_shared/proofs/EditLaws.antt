@@ -13,7 +13,7 @@ use Rattle.far_rows.specs.Rows.{Rows}
 use Rattle.far_rows.specs.Refusing.{absents, absents_from}
 use Rattle.far_table.specs.Edits.{edit_due, group_of, no_room}
 use Rattle.far_table.specs.State.{State}
-use Rattle.far_frame.specs.Changes.{Accepts, Refuses}
+use Rattle.far_frame.specs.Changes.{Accepts, Refuses, edit_reply}
 use Rattle.far_frame.specs.State.{State as Whole, live}
 use Rattle.far_frame.specs.declared.step.Reply.{Reply}
 use Rattle.far_frame.specs.declared.step.Reply.TheVariants as reply
@@ -66,6 +66,10 @@ module _ {K : Type 0} (s : State K) (slots : length s.rows.slots ≡ length s.ta
 module _ {K : Type 0} (content : K → List ℕ) (old new : Whole K) (slots : length old.rows.slots ≡ length old.table.schema) where
   pub made-free : (e : Edit) (given : Reply) → Accepts content old (step.Edit e) given new → edit_refusal old.table e ≡ None
   made-free e given h = plain-accepts (live old) slots e h.1.changed.due
+
+  -- the reply to an edit that is made is the plain table's
+  pub made-accepted : (e : Edit) (given : Reply) → Accepts content old (step.Edit e) given new → Accepts content old (step.Edit e) (edit_reply old.table e) new
+  made-accepted e given h = (refl, h.1)
 
   pub made-table : (e : Edit) (given : Reply) → Accepts content old (step.Edit e) given new → new.table ≡ edited e old.table
   made-table e given h = h.1.changed.table

@@ -12,5 +12,6 @@ mod PlaceLaws
 mod RegisterLaws
 mod ReportLaws
 mod StripeLaws
+mod UndoLaws
 mod WatchLaws
 mod WorkLaws

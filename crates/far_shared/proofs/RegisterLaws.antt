@@ -40,7 +40,7 @@ first-kept [] a x ne = refl
 first-kept (y ∷ ys) zero x ne = absurd (ne refl)
 first-kept (y ∷ ys) (suc a) x ne = refl
 
-free-within : (n : ℕ) (xs : List (Option Registered)) (a : ℕ) → free_from n xs ≡ Some a → (n ≤ a) × (a < n + length xs)
+pub free-within : (n : ℕ) (xs : List (Option Registered)) (a : ℕ) → free_from n xs ≡ Some a → (n ≤ a) × (a < n + length xs)
 free-within n [] a is = absurd cc
 free-within n (None ∷ rest) a is = (let e : n ≡ a = cc in (omega (arith, e), omega (arith, e)))
 free-within n (Some r ∷ rest) a is = (let ih = free-within (n + 1) rest a is in (omega (arith, ih.0), omega (arith, ih.1)))

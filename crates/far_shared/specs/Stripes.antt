@@ -5,10 +5,16 @@ use Rattle.far_types.specs.declared.spec.Spec.{Spec}
 use Rattle.far_types.specs.Table.{Table, Registered}
 use Rattle.far_rows.specs.Rows.{Rows}
 use Rattle.far_table.specs.Watching.{aggregate_at}
+use Rattle.far_frame.specs.State.{State}
 use Rattle.far_history.specs.Histories.{Planned, replay}
 use Rattle.far_history.specs.declared.view.Entry.{Entry}
 use Rattle.far_shared.specs.Fours.{left_in}
 use Rattle.far_shared.specs.Plans.{IsPlan}
+
+-- what contracts see of a stripe: its history, and its table with its objects and aggregates
+pub record Held (K : Type 0) : Type 0 where
+  pub log : List Entry
+  pub state : State K
 
 -- an aggregate that was registered first of all, before there was a row: nothing was ever left to be built into it
 abbrev pub first_registered : Spec → Registered

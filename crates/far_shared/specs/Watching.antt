@@ -1,12 +1,27 @@
--- Why an aggregate is not registered in all four stripes.
-use Rattle.std.specs.Prelude.{◌≡◌, ◌⊎◌, List, None, Some}
+-- How an aggregate is registered in four stripes, and why it is not.
+use Rattle.std.specs.Prelude.{◌≡◌, ◌⊎◌, ℕ, List, None, Some}
 use Rattle.far_types.specs.declared.cell.Kind.{Kind}
 use Rattle.far_types.specs.declared.refusal.Refusal.{Refusal}
 use Rattle.far_types.specs.declared.refusal.Refusal.TheVariants as refusal
 use Rattle.far_types.specs.declared.spec.Spec.{Spec}
 use Rattle.far_types.specs.Bounds.{spec_refusal}
+use Rattle.far_table.specs.Watching.{registered_at, with_aggregate}
+use Rattle.far_shared.specs.Stripes.{Held}
 
 -- it cannot be had over the schema; or there are too many, or they have not the same number in all four, or memory is wanted
 abbrev pub WatchRefusal : List Kind → Spec → Refusal → Type 0
 WatchRefusal schema spec given = (spec_refusal schema spec ≡ Some given)
     ⊎ ((spec_refusal schema spec ≡ None) × ((given ≡ refusal.TooManyAggregates) ⊎ (given ≡ refusal.NoMemory)))
+
+module _ {K : Type 0} where
+  -- a stripe whose table has an aggregate more, under a number
+  abbrev pub registered : ℕ → Spec → Held K → Held K
+  registered a spec h = record h { state = record h.state { table = registered_at a spec h.state.table } }
+
+  -- a stripe whose table has no aggregate under a number
+  abbrev pub unregistered : ℕ → Held K → Held K
+  unregistered a h = record h { state = record h.state { table = with_aggregate a None h.state.table } }
+
+  -- a stripe but for how many registrations were made: its history, rows, objects, pins and aggregates
+  abbrev pub uncounted : Held K → Held K
+  uncounted h = record h { state = record h.state { table = record h.state.table { registrations = 0 } } }

@@ -37,15 +37,60 @@ fn end<N: Naming, B: Site, R: Wait>(
     settle(rt, &cells, &mut keepers, sessions);
 }
 
-/// A table that is taken from under its lock, and what keeps its history.
-fn parted<N: Naming, B: Site, S: FarTickets, const I: usize>(
-    lock: CachePadded<RwLock<Stripe<N, B, S, I>>>,
-) -> (Frame<S>, Keeper<N, B, I>)
-    ensures stripe { IsStripe N.plan result.1 result.0.table }
-    ensures here { AreAt S.is_of B.store result.0.rows }
+impl<N: Naming, B: Site, S: FarTickets, const I: usize> Stripe<N, B, S, I> {
+    /// The table as it is, and what keeps its history.
+    fn into_parts(self) -> (Frame<S>, Keeper<N, B, I>)
+        ensures table { result.0 ≡ self.state }
+        ensures history { result.1 ≡ self.log }
+        ensures stripe { IsStripe N.plan result.1 result.0.table }
+        ensures here { AreAt S.is_of B.store result.0.rows }
+    {
+        let Stripe { frame, keeper } = self;
+        (frame, keeper)
+    }
+}
+
+/// Ends these sessions, and gives the tables of the four stripes. Each is as it was, with its objects and its aggregates.
+fn end_stripes<N: Naming, B: Site, S: FarTickets, R: Wait>(
+    rt: &R,
+    cells: Cells<N, B>,
+    zero: Stripe<N, B, S, 0>,
+    one: Stripe<N, B, S, 1>,
+    two: Stripe<N, B, S, 2>,
+    three: Stripe<N, B, S, 3>,
+    sessions: Vec<Session<B>>,
+) -> Four<Frame<S>>
+    ensures same { (result.zero ≡ zero.state) × (result.one ≡ one.state) × (result.two ≡ two.state) × (result.three ≡ three.state) }
+    ensures zero { IsClosed N.plan 0 sessions.items result.zero.table }
+    ensures one { IsClosed N.plan 1 sessions.items result.one.table }
+    ensures two { IsClosed N.plan 2 sessions.items result.two.table }
+    ensures three { IsClosed N.plan 3 sessions.items result.three.table }
+    ensures here { AreAt S.is_of B.store result.zero.rows × AreAt S.is_of B.store result.one.rows × AreAt S.is_of B.store result.two.rows × AreAt S.is_of B.store result.three.rows }
 {
-    let stripe = lock.into_inner().into_inner();
-    (stripe.frame, stripe.keeper)
+    let (frame_zero, keeper_zero) = zero.into_parts();
+    let (frame_one, keeper_one) = one.into_parts();
+    let (frame_two, keeper_two) = two.into_parts();
+    let (frame_three, keeper_three) = three.into_parts();
+    let keepers = Keepers {
+        zero: keeper_zero,
+        one: keeper_one,
+        two: keeper_two,
+        three: keeper_three,
+    };
+    end(rt, cells, keepers, sessions);
+    Four {
+        zero: frame_zero,
+        one: frame_one,
+        two: frame_two,
+        three: frame_three,
+    }
+}
+
+/// What lay under a stripe's lock.
+fn unlocked<N: Naming, B: Site, S: FarTickets, const I: usize>(
+    lock: CachePadded<RwLock<Stripe<N, B, S, I>>>,
+) -> Stripe<N, B, S, I> {
+    lock.into_inner().into_inner()
 }
 
 impl<N: Naming, B: Site, S: FarTickets> Shared<N, B, S> {
@@ -90,22 +135,14 @@ impl<N: Naming, B: Site, S: FarTickets> Shared<N, B, S> {
             two,
             three,
         } = self;
-        let (frame_zero, zero) = parted(zero);
-        let (frame_one, one) = parted(one);
-        let (frame_two, two) = parted(two);
-        let (frame_three, three) = parted(three);
-        let keepers = Keepers {
-            zero,
-            one,
-            two,
-            three,
-        };
-        end(rt, cells, keepers, sessions);
-        Four {
-            zero: frame_zero,
-            one: frame_one,
-            two: frame_two,
-            three: frame_three,
-        }
+        end_stripes(
+            rt,
+            cells,
+            unlocked(zero),
+            unlocked(one),
+            unlocked(two),
+            unlocked(three),
+            sessions,
+        )
     }
 }

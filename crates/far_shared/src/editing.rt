@@ -3,6 +3,8 @@ ghost use Rattle.std.specs.Prelude.{◌≡◌, ◌+◌, ◌<◌, ◌^◌, ℕ, L
 ghost use Rattle.far_types.specs.Edits.{edited, edit_refusal};
 ghost use Rattle.far_rows.specs.Jobs.{AreAt};
 ghost use Rattle.far_table.specs.Watching.{aggregate_at};
+ghost use Rattle.far_frame.specs.Changes.{Accepts, edit_reply};
+ghost use Rattle.far_frame.specs.declared.step.Step.TheVariants as step;
 ghost use Rattle.far_history.specs.Histories.{folded};
 ghost use Rattle.far_shared.specs.Applying.{place_of, WhyNot};
 ghost use Rattle.far_shared.specs.Plans.{IsPlan};
@@ -25,6 +27,7 @@ fn make<S: FarTickets>(frame: &mut Frame<S>, edit: Edit) -> Result<u32, Refusal>
     requires slots { length frame.old.rows.slots ≡ length frame.old.table.schema }
     ensures may { OnOk result (edit_refusal frame.old.table edit ≡ None) }
     ensures made { OnOk result (frame.new.table ≡ edited edit frame.old.table) }
+    ensures accepted { OnOk result (Accepts S.content frame.old (step.Edit edit) (edit_reply frame.old.table edit) frame.new) }
     ensures place { IfOk result (λ place. place ≡ place_of frame.old.table edit) }
     ensures refused { IfErr result (WhyNot frame.old.table edit) }
     ensures err { OnErr result (frame.new ≡ frame.old) }
@@ -72,6 +75,7 @@ pub(crate) fn change<N: Naming, S: FarTickets>(
     requires few { edits < 2 ^ 63 }
     ensures may { OnOk result (edit_refusal frame.old.table edit ≡ None) }
     ensures made { OnOk result (frame.new.table ≡ edited edit frame.old.table) }
+    ensures accepted { OnOk result (Accepts S.content frame.old (step.Edit edit) (edit_reply frame.old.table edit) frame.new) }
     ensures place { IfOk result (λ changed. changed.place ≡ place_of frame.old.table edit) }
     ensures after { IfOk result (λ changed. changed.after ≡ record { edits = edits + 1; count = (folded N.plan.gauge frame.new.table.places).0; sum = (folded N.plan.gauge frame.new.table.places).1 }) }
     ensures refused { IfErr result (WhyNot frame.old.table edit) }

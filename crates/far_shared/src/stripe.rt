@@ -1,6 +1,8 @@
 // What lies under the lock of a stripe.
 ghost use Rattle.std.specs.Prelude.{◌≡◌, ◌++◌, ◌∷◌, [], length, IfOk, IfErr, OnOk, OnErr};
 ghost use mathlib.Core.List.{IsPrefix};
+ghost use Rattle.far_frame.specs.Changes.{Accepts, edit_reply};
+ghost use Rattle.far_frame.specs.declared.step.Step.TheVariants as step;
 ghost use Rattle.far_history.specs.Histories.{replay, by_session, IsLegal};
 ghost use Rattle.far_history.specs.Rule.{entry};
 ghost use Rattle.far_shared.specs.Applying.{place_of, WhyNot, Extends, IsRefused};
@@ -39,8 +41,8 @@ pub struct Applied {
 
 /// A table and what keeps its history. It lies under the lock of stripe I.
 ///
-/// Contracts see the history. The table is its replay, the gauge is its aggregate 0, its objects bear the number I, and all its
-/// tickets are of the store.
+/// Contracts see the history and the table's state. The table is the replay of the history, the gauge is its aggregate 0, its objects
+/// bear the number I, and all its tickets are of the store.
 #[derive(Drop)]
 pub struct Stripe<N: Naming, B: Site, S: FarTickets, const I: usize> {
     pub(crate) frame: Frame<S>,
@@ -48,20 +50,19 @@ pub struct Stripe<N: Naming, B: Site, S: FarTickets, const I: usize> {
 }
 
 impl<N: Naming, B: Site, S: FarTickets, const I: usize> Model for Stripe<N, B, S, I> {
-    ghost use Rattle.std.specs.Prelude.{List};
-    ghost use Rattle.far_history.specs.declared.view.Entry.{Entry};
     ghost use Rattle.far_rows.specs.Jobs.{AreAt};
-    ghost use Rattle.far_shared.specs.Stripes.{AreRowsOf, IsStripe};
+    ghost use Rattle.far_shared.specs.Stripes.{AreRowsOf, Held, IsStripe};
 
-    ghost Value = { List Entry };
+    ghost Value = { Held S.Ticket };
 
-    ghost view = { λ s. s.keeper };
+    ghost view = { λ s. record { log = s.keeper; state = s.frame } };
 
     ghost invariant = { λ s. IsStripe N.plan s.keeper s.frame.table × AreAt S.is_of B.store s.frame.rows × AreRowsOf N.plan.schema I s.frame.rows };
 }
 
 impl<N: Naming, B: Site, S: FarTickets, const I: usize> Stripe<N, B, S, I> {
-    /// Makes an edit, as the session of this place. Refused as `Frame`'s call of that edit is.
+    /// Makes an edit, as the session of this place, as `Frame`'s call of that edit does. Refused as that call is; the table, its objects
+    /// and its aggregates are then as before.
     pub fn apply<R: Wait>(
         &mut self,
         rt: &R,
@@ -69,16 +70,17 @@ impl<N: Naming, B: Site, S: FarTickets, const I: usize> Stripe<N, B, S, I> {
         me: &mut Place<B, I>,
         edit: Edit,
     ) -> Result<Applied, Refusal>
-        ensures prefix { IsPrefix me.old.seen self.old }
+        ensures prefix { IsPrefix me.old.seen self.old.log }
         ensures by { me.new.by ≡ me.old.by }
         ensures own { by_session me.new.by me.new.seen ≡ me.new.mine }
         ensures legal { IsLegal N.plan me.new.seen }
-        ensures whole { me.new.seen ≡ self.new }
-        ensures ok { OnOk result ((self.new ≡ self.old ++ entry me.old.by edit ∷ []) × (me.new.mine ≡ me.old.mine ++ entry me.old.by edit ∷ [])) }
-        ensures number { IfOk result (λ applied. applied.number ≡ length self.new) }
-        ensures place { IfOk result (λ applied. applied.place ≡ place_of (replay N.plan self.old) edit) }
+        ensures whole { me.new.seen ≡ self.new.log }
+        ensures ok { OnOk result ((self.new.log ≡ self.old.log ++ entry me.old.by edit ∷ []) × (me.new.mine ≡ me.old.mine ++ entry me.old.by edit ∷ [])) }
+        ensures accepted { OnOk result (Accepts S.content self.old.state (step.Edit edit) (edit_reply self.old.state.table edit) self.new.state) }
+        ensures number { IfOk result (λ applied. applied.number ≡ length self.new.log) }
+        ensures place { IfOk result (λ applied. applied.place ≡ place_of (replay N.plan self.old.log) edit) }
         ensures refused { OnErr result ((self.new ≡ self.old) × (me.new.mine ≡ me.old.mine)) }
-        ensures why { IfErr result (WhyNot (replay N.plan self.old) edit) }
+        ensures why { IfErr result (WhyNot (replay N.plan self.old.log) edit) }
     {
         let before = self.keeper.look(rt, counter, me);
         let told = Snapshot::of(&edit);

@@ -1,8 +1,11 @@
 // Work in the background, on what lies under the lock of a stripe.
-ghost use Rattle.std.specs.Prelude.{◌≡◌, ◌<◌, ◌≤◌, [], ◌∷◌, None, length, IfOk, IfSome, IsErrOf, OnOk};
+ghost use Rattle.std.specs.Prelude.{◌≡◌, ◌<◌, ◌≤◌, [], ◌∷◌, None, length, IfOk, IfErr, IfSome, IsErrOf, OnOk, OnErr};
 ghost use Rattle.far_store.specs.Faults.{RefusedBy};
+ghost use Rattle.far_frame.specs.Changes.{Accepts, Refuses};
+ghost use Rattle.far_frame.specs.declared.step.Reply.TheVariants as reply;
+ghost use Rattle.far_frame.specs.declared.step.Step.TheVariants as step;
 ghost use Rattle.far_frame.specs.Jobs.{IsJobAt, kind_of};
-ghost use Rattle.far_shared.specs.Works.{IsJobOf, IsBuildOf, IsBuildingAt, begin_refusals, begun_kind, columns_for, end_refusals};
+ghost use Rattle.far_shared.specs.Works.{Begins, BeginRefusal, BeginsBuild, BuildRefusal, Ends, EndRefusal, IsJobOf, IsBuildOf, IsBuildingAt, begin_refusals, begun_kind, columns_for, end_refusals};
 
 use crate::stripe::{Site, Stripe};
 use crate::work::{Building, Work};
@@ -20,8 +23,10 @@ impl<N: Naming, B: Site, S: FarTickets, const I: usize> Stripe<N, B, S, I> {
     /// that its aggregate needs is dirty, and with `NoMemory` (1).
     pub fn begin(&self, store: &S, work: &Work) -> Result<Option<Job<S>>, Refusal>
         requires store { S.name store.now ≡ B.store }
+        ensures begins { IfOk result (Begins self.now.state work.now) }
         ensures begun { IfOk result (IsJobOf work.now) }
         ensures here { IfOk result (λ job. IfSome job (IsJobAt S.is_of B.store)) }
+        ensures why { IfErr result (BeginRefusal self.now.state work.now) }
         ensures column { length N.plan.schema < columns_for work.now → IsErrOf result Refusal.NoColumn }
         ensures refused { columns_for work.now ≤ length N.plan.schema → RefusedBy (begin_refusals work.now) result }
     {
@@ -31,11 +36,14 @@ impl<N: Naming, B: Site, S: FarTickets, const I: usize> Stripe<N, B, S, I> {
     /// Ends a job by its kind: commits, installs or merges it. The history stays, and so does each row. Only a job that was carried is
     /// accepted.
     ///
-    /// Refused as `Frame::commit`, `Frame::install` and `Frame::merge` are.
+    /// Refused as `Frame::commit`, `Frame::install` and `Frame::merge` are. Then nothing is changed.
     pub fn finish(&mut self, store: &S, job: &Job<S>) -> Result<(), Refusal>
         requires store { S.name store.now ≡ B.store }
         requires here { IsJobAt S.is_of B.store job.now }
-        ensures same { self.new ≡ self.old }
+        ensures same { self.new.log ≡ self.old.log }
+        ensures ended { OnOk result (Ends S.number_of S.content self.old.state (kind_of job.now) job.now.work self.new.state) }
+        ensures why { IfErr result (EndRefusal S.number_of S.content self.old.state (kind_of job.now) job.now.work) }
+        ensures err { OnErr result (self.new ≡ self.old) }
         ensures carried { OnOk result (begun_kind job.now.work ≡ None) }
         ensures refused { RefusedBy (end_refusals (kind_of job.now)) result }
     {
@@ -48,8 +56,10 @@ impl<N: Naming, B: Site, S: FarTickets, const I: usize> Stripe<N, B, S, I> {
     /// Refused as a build is in `begin`, where no scan is possible.
     pub fn building(&self, store: &S) -> Result<Building<Job<S>>, Refusal>
         requires store { S.name store.now ≡ B.store }
+        ensures begins { IfOk result (BeginsBuild self.now.state) }
         ensures begun { IfOk result IsBuildOf }
         ensures here { IfOk result (IsBuildingAt S.is_of B.store) }
+        ensures why { IfErr result (BuildRefusal self.now.state) }
         ensures refused { RefusedBy (14 ∷ 20 ∷ 1 ∷ []) result }
     {
         building_on(&self.frame, store)
@@ -57,9 +67,12 @@ impl<N: Naming, B: Site, S: FarTickets, const I: usize> Stripe<N, B, S, I> {
 
     /// Builds a row group into an aggregate by a scan. The history stays, and so does each row.
     ///
-    /// Refused as `Frame::scan_group` is.
+    /// Refused as `Frame::scan_group` is. Then nothing is changed.
     pub fn scan(&mut self, aggregate: u32, group: u32) -> Result<(), Refusal>
-        ensures same { self.new ≡ self.old }
+        ensures same { self.new.log ≡ self.old.log }
+        ensures scanned { OnOk result (Accepts S.content self.old.state (step.ScanGroup aggregate group) reply.Done self.new.state) }
+        ensures why { IfErr result (λ e. Refuses self.old.state (step.ScanGroup aggregate group) e self.new.state) }
+        ensures err { OnErr result (self.new ≡ self.old) }
         ensures refused { RefusedBy (12 ∷ 14 ∷ 20 ∷ 16 ∷ 1 ∷ []) result }
     {
         scan_on(&mut self.frame, aggregate, group)

@@ -1,7 +1,8 @@
 // Aggregates that are registered in all four stripes.
-ghost use Rattle.std.specs.Prelude.{◌≡◌, ◌≢◌, ◌<◌, Some, None, IfOk, IfErr, IfSome, OnOk};
+ghost use Rattle.std.specs.Prelude.{◌≡◌, ◌≢◌, ◌<◌, length, is_none, Some, None, IfOk, IfErr, IfSome, IsTrue, OnOk, OnErr};
 ghost use Rattle.far_types.specs.Bounds.{spec_refusal};
-ghost use Rattle.far_shared.specs.Watching.{WatchRefusal};
+ghost use Rattle.far_table.specs.Watching.{aggregate_at, lowest_free};
+ghost use Rattle.far_shared.specs.Watching.{WatchRefusal, registered, uncounted, unregistered};
 
 use crate::shared::Shared;
 use crate::stripe::{Site, Stripe};
@@ -11,12 +12,20 @@ use far_store::FarTickets;
 use far_types::{Refusal, Spec};
 use std::sync::Wait;
 
-/// The lowest number under which a table has no aggregate beside its gauge. Takes no memory.
-fn free_number<S: FarTickets>(frame: &Frame<S>) -> Option<u32>
-    ensures { IfSome result (λ a. (a ≢ 0) × (a < 32)) }
+/// Whether a table has no aggregate under a number. Takes no memory.
+fn is_free<S: FarTickets>(frame: &Frame<S>, a: u32) -> bool
+    ensures { result ≡ is_none (aggregate_at frame.now.table a) }
 {
-    for a in 1..32 {
-        if frame.spec(a).is_none() {
+    frame.spec(a).is_none()
+}
+
+/// The lowest number under which a table has no aggregate. Takes no memory.
+fn free_number<S: FarTickets>(frame: &Frame<S>) -> Option<u32>
+    requires all { length frame.now.table.aggregates ≡ 32 }
+    ensures { result ≡ lowest_free frame.now.table }
+{
+    for a in 0..32 {
+        if is_free(frame, a) {
             return Some(a);
         }
     }
@@ -26,9 +35,20 @@ fn free_number<S: FarTickets>(frame: &Frame<S>) -> Option<u32>
 impl<N: Naming, B: Site, S: FarTickets, const I: usize> Stripe<N, B, S, I> {
     /// The number under which the next aggregate is registered, which is not the gauge's. Takes no memory.
     fn next_number(&self) -> Option<u32>
-        ensures { IfSome result (λ a. (a ≢ 0) × (a < 32)) }
+        ensures free { result ≡ lowest_free self.now.state.table }
+        ensures number { IfSome result (λ a. (a ≢ 0) × (a < 32)) }
     {
         free_number(&self.frame)
+    }
+
+    /// Whether the next aggregate is registered under this number. Takes no memory.
+    fn is_next(&self, a: u32) -> bool
+        ensures { IsTrue result → lowest_free self.now.state.table ≡ Some a }
+    {
+        match self.next_number() {
+            Some(next) => next == a,
+            None => false,
+        }
     }
 
     /// Whether an aggregate may be had over the schema. Takes no memory.
@@ -39,9 +59,10 @@ impl<N: Naming, B: Site, S: FarTickets, const I: usize> Stripe<N, B, S, I> {
         spec.check(self.frame.schema())
     }
 
-    /// Registers an aggregate under the next number.
+    /// Registers an aggregate under the next number. Where that is refused, nothing is changed.
     fn watch(&mut self, spec: Spec) -> Result<u32, Refusal>
-        ensures history { self.new ≡ self.old }
+        ensures ok { IfOk result (λ a. (lowest_free self.old.state.table ≡ Some a) × (self.new ≡ registered a spec self.old)) }
+        ensures err { OnErr result (self.new ≡ self.old) }
         ensures refused { IfErr result (WatchRefusal N.plan.schema spec) }
     {
         // For the proof: a legal history leaves few places, so few row groups are left.
@@ -52,30 +73,37 @@ impl<N: Naming, B: Site, S: FarTickets, const I: usize> Stripe<N, B, S, I> {
     /// Forgets the aggregate of a number, if there is one.
     fn unwatch(&mut self, a: u32)
         requires { a ≢ 0 }
-        ensures history { self.new ≡ self.old }
+        ensures { self.new ≡ unregistered a self.old }
     {
         let _done = self.frame.unwatch(a);
     }
 }
 
-/// Registers two equal aggregates in two stripes, whose next number is this one, or none in either.
-fn watch_two<N: Naming, B: Site, S: FarTickets>(
-    two: &mut Stripe<N, B, S, 2>,
-    three: &mut Stripe<N, B, S, 3>,
-    first: Spec,
-    second: Spec,
+/// Registers an aggregate in two stripes, whose next number is this one, or in neither.
+fn watch_two<N: Naming, B: Site, S: FarTickets, const I: usize, const J: usize>(
+    one: &mut Stripe<N, B, S, I>,
+    other: &mut Stripe<N, B, S, J>,
+    spec: &Spec,
     a: u32,
 ) -> Result<(), Refusal>
     requires next { a ≢ 0 }
-    requires equal { second ≡ first }
-    ensures refused { IfErr result (WatchRefusal N.plan.schema first) }
+    requires allowed { spec_refusal N.plan.schema spec.now ≡ None }
+    requires one { lowest_free one.old.state.table ≡ Some a }
+    requires other { lowest_free other.old.state.table ≡ Some a }
+    ensures both { OnOk result ((one.new ≡ registered a spec.now one.old) × (other.new ≡ registered a spec.now other.old)) }
+    ensures none { OnErr result ((uncounted one.new ≡ uncounted one.old) × (uncounted other.new ≡ uncounted other.old)) }
+    ensures refused { IfErr result (WatchRefusal N.plan.schema spec.now) }
 {
-    two.watch(first)?;
-    if let Err(refusal) = three.watch(second) {
-        two.unwatch(a);
-        return Err(refusal);
+    let first = spec.clone()?;
+    let second = spec.clone()?;
+    one.watch(first)?;
+    match other.watch(second) {
+        Ok(_) => Ok(()),
+        Err(refusal) => {
+            one.unwatch(a);
+            Err(refusal)
+        }
     }
-    Ok(())
 }
 
 /// The number under which the next aggregate is registered in all four stripes; `None` where there is none, or it is not the same in
@@ -86,16 +114,23 @@ fn common_number<N: Naming, B: Site, S: FarTickets>(
     two: &Stripe<N, B, S, 2>,
     three: &Stripe<N, B, S, 3>,
 ) -> Option<u32>
-    ensures { IfSome result (λ a. (a ≢ 0) × (a < 32)) }
+    ensures number { IfSome result (λ a. (a ≢ 0) × (a < 32)) }
+    ensures zero { IfSome result (λ a. lowest_free zero.now.state.table ≡ Some a) }
+    ensures one { IfSome result (λ a. lowest_free one.now.state.table ≡ Some a) }
+    ensures two { IfSome result (λ a. lowest_free two.now.state.table ≡ Some a) }
+    ensures three { IfSome result (λ a. lowest_free three.now.state.table ≡ Some a) }
 {
-    let a = zero.next_number()?;
-    if one.next_number()? != a || two.next_number()? != a || three.next_number()? != a {
+    let Some(a) = zero.next_number() else {
         return None;
+    };
+    if one.is_next(a) && two.is_next(a) && three.is_next(a) {
+        return Some(a);
     }
-    Some(a)
+    None
 }
 
-/// Registers an aggregate in four stripes under one number, or in none.
+/// Registers an aggregate in four stripes under one number, or in none. Where it is refused, the four are as before, but for how many
+/// registrations were made.
 fn watch_four<N: Naming, B: Site, S: FarTickets>(
     zero: &mut Stripe<N, B, S, 0>,
     one: &mut Stripe<N, B, S, 1>,
@@ -105,6 +140,8 @@ fn watch_four<N: Naming, B: Site, S: FarTickets>(
 ) -> Result<u32, Refusal>
     ensures number { IfOk result (λ a. (a ≢ 0) × (a < 32)) }
     ensures allowed { OnOk result (spec_refusal N.plan.schema spec.now ≡ None) }
+    ensures all { IfOk result (λ a. (zero.new ≡ registered a spec.now zero.old) × (one.new ≡ registered a spec.now one.old) × (two.new ≡ registered a spec.now two.old) × (three.new ≡ registered a spec.now three.old)) }
+    ensures none { OnErr result ((uncounted zero.new ≡ uncounted zero.old) × (uncounted one.new ≡ uncounted one.old) × (uncounted two.new ≡ uncounted two.old) × (uncounted three.new ≡ uncounted three.old)) }
     ensures refused { IfErr result (WatchRefusal N.plan.schema spec.now) }
 {
     // Both before memory is asked for, so that want of memory hides neither.
@@ -112,19 +149,15 @@ fn watch_four<N: Naming, B: Site, S: FarTickets>(
     let Some(a) = common_number(zero, one, two, three) else {
         return Err(Refusal::TooManyAggregates);
     };
-    let (first, second) = (spec.clone()?, spec.clone()?);
-    let (third, fourth) = (spec.clone()?, spec.clone()?);
-    zero.watch(first)?;
-    if let Err(refusal) = one.watch(second) {
-        zero.unwatch(a);
-        return Err(refusal);
+    watch_two(zero, one, spec, a)?;
+    match watch_two(two, three, spec, a) {
+        Ok(()) => Ok(a),
+        Err(refusal) => {
+            zero.unwatch(a);
+            one.unwatch(a);
+            Err(refusal)
+        }
     }
-    if let Err(refusal) = watch_two(two, three, third, fourth, a) {
-        zero.unwatch(a);
-        one.unwatch(a);
-        return Err(refusal);
-    }
-    Ok(a)
 }
 
 impl<N: Naming, B: Site, S: FarTickets> Shared<N, B, S> {
@@ -133,7 +166,7 @@ impl<N: Naming, B: Site, S: FarTickets> Shared<N, B, S> {
     ///
     /// Refused with `BadSpec` (3), `NoColumn` (4) or `WrongKind` (5) exactly as `Spec::check` says; else with `TooManyAggregates` (13) where
     /// a stripe has 32, or the lowest free numbers differ; else with `NoMemory` (1), and with `TooManyAggregates` (13) where a stripe
-    /// registered 2^32.
+    /// registered 2^32. The four stripes then have the rows, objects and aggregates that they had.
     pub fn watch_all<R: Wait>(&self, rt: &R, spec: Spec) -> Result<u32, Refusal>
         ensures number { IfOk result (λ a. (a ≢ 0) × (a < 32)) }
         ensures allowed { OnOk result (spec_refusal N.plan.schema spec ≡ None) }

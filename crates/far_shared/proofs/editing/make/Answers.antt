@@ -4,7 +4,7 @@ use Rattle.far_types.specs.declared.edit.Edit.TheVariants as edit
 use Rattle.far_frame.specs.declared.step.Reply.TheVariants as reply
 use Rattle.far_frame.specs.State.{State}
 use Rattle.far_shared.proofs.ColumnLaws.{same-columns, edit-columns, either-columns}
-use Rattle.far_shared.proofs.EditLaws.{made-free, made-table, made-place, made-refused}
+use Rattle.far_shared.proofs.EditLaws.{made-accepted, made-free, made-table, made-place, made-refused}
 use Rattle.far_shared.proofs.NumberLaws.{if-err}
 use Rattle.far_shared.proofs.editing.make.Goals as goal
 
@@ -57,3 +57,15 @@ returns-in_ok-set-in-Set-clause-columns g c =
 pub returns-in_ok-remove-in-Remove-clause-columns : goal.returns-in_ok-remove-in-Remove-clause-columns
 returns-in_ok-remove-in-Remove-clause-columns g c =
     edit-columns g.S.FarTickets.content c.args.frame.now.rows (edit.Remove c.in-Remove.place) c.remove.new.self.rows c.in_ok-remove-in-Remove.ensures.ok.1.changed.rows
+
+pub returns-in-Insert-clause-accepted : goal.returns-in-Insert-clause-accepted
+returns-in-Insert-clause-accepted g c =
+    rw c.in-Insert.is (IfOk-weaker c.insert.result _ _ (λ place h. made-accepted g.S.FarTickets.content c.args.frame.now c.insert.new.self c.requires.slots (edit.Insert c.in-Insert.row) (reply.Place place) h) c.insert.ensures.ok)
+
+pub returns-in_ok-set-in-Set-clause-accepted : goal.returns-in_ok-set-in-Set-clause-accepted
+returns-in_ok-set-in-Set-clause-accepted g c =
+    rw c.in-Set.is (made-accepted g.S.FarTickets.content c.args.frame.now c.set.new.self c.requires.slots (edit.Set c.in-Set.place c.in-Set.column c.in-Set.cell) reply.Done c.in_ok-set-in-Set.ensures.ok)
+
+pub returns-in_ok-remove-in-Remove-clause-accepted : goal.returns-in_ok-remove-in-Remove-clause-accepted
+returns-in_ok-remove-in-Remove-clause-accepted g c =
+    rw c.in-Remove.is (made-accepted g.S.FarTickets.content c.args.frame.now c.remove.new.self c.requires.slots (edit.Remove c.in-Remove.place) reply.Done c.in_ok-remove-in-Remove.ensures.ok)

@@ -39,6 +39,9 @@ returns-in_err-changed-clause-why g c =
     let s = c.self.inside in
     rw (← c.self.view_is) (let why = same-why g.N.Naming.plan s.keeper s.frame.table c.self.invariant.0 c.args.edit _ c.in_err-changed.ensures.refused in search rules)
 
+pub returns-clause-accepted : goal.returns-clause-accepted
+returns-clause-accepted g c = rw (← c.self.view_is) c.in_ok-changed.ensures.accepted
+
 pub invariant_of-self-2 : goal.invariant_of-self-2
 invariant_of-self-2 g c =
     let s = c.self.inside in

@@ -1,5 +1,12 @@
+use Rattle.std.proofs.Common.{ap}
 use Rattle.far_shared.proofs.RegisterLaws.{held-unwatch}
+use Rattle.far_shared.proofs.UndoLaws.{forgotten, held}
 use Rattle.far_shared.proofs.stripe.Stripe.unwatch.Goals as goal
+
+pub returns : goal.returns
+returns g c =
+    let s = c.self.inside in
+    rw (← c.self.view_is) (ap (held s.keeper) (forgotten g.S.FarTickets.content s.frame c.unwatch-done.new.self c.args.a c.unwatch-done.result c.unwatch-done.ensures.ok c.unwatch-done.ensures.err))
 
 pub invariant_of-self : goal.invariant_of-self
 invariant_of-self g c =

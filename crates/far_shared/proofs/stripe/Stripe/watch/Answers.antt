@@ -1,6 +1,19 @@
+use Rattle.std.proofs.Common.{ap}
+use Rattle.std.proofs.lemmas.Result.{IfOk-weaker}
 use Rattle.far_shared.proofs.NumberLaws.{if-err}
 use Rattle.far_shared.proofs.RegisterLaws.{held-watch, refused-watched}
+use Rattle.far_shared.proofs.UndoLaws.{held, watched}
 use Rattle.far_shared.proofs.stripe.Stripe.watch.Goals as goal
+
+pub returns-clause-ok : goal.returns-clause-ok
+returns-clause-ok g c =
+    let s = c.self.inside in
+    rw (← c.self.view_is) (IfOk-weaker c.watch.result _ _ (λ a h. watched g.S.FarTickets.content s.frame c.watch.new.self s.keeper c.args.spec a h) c.watch.ensures.ok)
+
+pub returns-clause-err : goal.returns-clause-err
+returns-clause-err g c =
+    let s = c.self.inside in
+    rw (← c.self.view_is) (if-err c.watch.result _ _ (λ e h. ap (held s.keeper) h.0) c.watch.ensures.err)
 
 pub returns-clause-refused : goal.returns-clause-refused
 returns-clause-refused g c =

@@ -1,0 +1,15 @@
+use Rattle.std.proofs.Common.{ap}
+use Rattle.far_shared.proofs.UndoLaws.{at-number, taken-back}
+use Rattle.far_shared.specs.Watching.{uncounted}
+use Rattle.far_shared.proofs.watching.watch_two.Goals as goal
+
+pub returns-in-Ok-clause-both : goal.returns-in-Ok-clause-both
+returns-in-Ok-clause-both g c = (
+  at-number c.args.a _ c.in_ok-first.first c.args.spec.now c.args.one.now c.watch.new.self c.in_ok-first.ensures.equal c.requires.one c.in_ok-watch.ensures.ok,
+  at-number c.args.a _ c.in_ok-second.second c.args.spec.now c.args.other.now c.watch-2.new.self c.in_ok-second.ensures.equal c.requires.other c.in-Ok.ensures.ok,
+)
+
+pub returns-in-Err-clause-none : goal.returns-in-Err-clause-none
+returns-in-Err-clause-none g c =
+    let made = at-number c.args.a _ c.in_ok-first.first c.args.spec.now c.args.one.now c.watch.new.self c.in_ok-first.ensures.equal c.requires.one c.in_ok-watch.ensures.ok in
+    (taken-back c.args.a c.args.spec.now c.args.one.now c.watch.new.self c.unwatch.new.self c.requires.one made c.unwatch.ensures, ap uncounted c.in-Err.ensures.err)
