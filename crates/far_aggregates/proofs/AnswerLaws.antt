@@ -12,7 +12,7 @@ use Rattle.far_types.specs.declared.answer.Answer.TheVariants as answer
 use Rattle.far_types.specs.declared.spec.Spec.{Spec}
 use Rattle.far_types.specs.declared.spec.Fold.{Fold}
 use Rattle.far_types.specs.Answers.{Extrema, totals, extrema, or_zero, total_lines, extrema_lines, answer_of, answer_over}
-use Rattle.far_types.specs.Changes.{together, join_spans, joined_extrema}
+use Rattle.far_types.specs.Effects.{merge_two, join_spans, joined_extrema}
 use Rattle.far_types.specs.Keys.{line_cmp}
 use Rattle.far_types.specs.Pairs.{Pair, pairs_of}
 use Rattle.far_types.specs.Table.{Place, rows_of, place_pair, in_group, left}
@@ -24,19 +24,19 @@ use Rattle.far_aggregates.specs.declared.aggregate.Aggregate.{Aggregate}
 use Rattle.far_aggregates.specs.declared.aggregate.Accumulator.{Accumulator}
 use Rattle.far_aggregates.specs.declared.aggregate.Accumulator.TheVariants as accumulator
 use Rattle.far_aggregates.specs.Accumulators.{group_pairs, fold_of, left_in, accumulator_answer, IsKept, KeepsSlot}
-use Rattle.far_aggregates.proofs.BuiltLaws.{none_left, built-all}
+use Rattle.far_aggregates.proofs.ScannedLaws.{none_left, built-all}
 use Rattle.far_aggregates.proofs.ListLaws.{index-replicate}
 
 abbrev none : Extrema
 none = fin.empty
 
-alone : (o : Option (ℤ × ℤ)) → together join_spans o None ≡ o
+alone : (o : Option (ℤ × ℤ)) → merge_two join_spans o None ≡ o
 alone None = refl
 alone (Some span) = refl
 
 -- nothing more leaves extrema as they are
 joined-none : (m : Extrema) → joined_extrema m none ≡ m
-joined-none m = same _ _ (λ q. get-joined join_spans m none q ∙ ap (together join_spans (fin.get m q)) (fin.get-empty line_cmp q) ∙ alone (fin.get m q))
+joined-none m = same _ _ (λ q. get-joined join_spans m none q ∙ ap (merge_two join_spans (fin.get m q)) (fin.get-empty line_cmp q) ∙ alone (fin.get m q))
 
 fold-none : (n : ℕ) (m : Extrema) → fold joined_extrema m (replicate n none) ≡ m
 fold-none zero m = refl

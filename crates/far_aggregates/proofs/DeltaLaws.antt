@@ -4,7 +4,7 @@ use Rattle.std.specs.Prelude.{ℤ, option_map}
 use Rattle.std.specs.FinMap as fin
 use Rattle.std.proofs.lemmas.List.{get_or-set_same, length-map, length-take-le, take-map, take_all}
 use Rattle.far_types.specs.Answers.{Totals, Extrema, totals}
-use Rattle.far_types.specs.Changes.{count_in, with_pair, without_pair, with_seen, widened}
+use Rattle.far_types.specs.Effects.{count_in, with_pair, without_pair, with_observed, widened}
 use Rattle.far_types.specs.Pairs.{Pair}
 use Rattle.far_types.proofs.ByKeyMaps.{get_inserted}
 use Rattle.far_types.proofs.TotalLaws.{totals-cons, without_pair-totals}
@@ -38,26 +38,26 @@ some_not x None h e = cc
 some_not x (Some y) h e = cc
 
 -- what was seen in a row group is there
-seen-there : (g : ℕ) (gs : List Extrema) (p : Pair) → g < length gs → fin.get (group_at (slice_set gs g (with_seen (group_at gs g) p)) g) p.0 ≢ None
+seen-there : (g : ℕ) (gs : List Extrema) (p : Pair) → g < length gs → fin.get (group_at (slice_set gs g (with_observed (group_at gs g) p)) g) p.0 ≢ None
 seen-there g gs p l =
     let m = group_at gs g in
-    some_not (widened p.1 (fin.get m p.0)) _ (ap (λ n. fin.get n p.0) (get_or-set_same gs g (with_seen m p) fin.empty l) ∙ get_inserted m p.0 (widened p.1 (fin.get m p.0)))
+    some_not (widened p.1 (fin.get m p.0)) _ (ap (λ n. fin.get n p.0) (get_or-set_same gs g (with_observed m p) fin.empty l) ∙ get_inserted m p.0 (widened p.1 (fin.get m p.0)))
 
 -- and goes again
 seen-undone : (g : ℕ) (gs : List Extrema) (p : Pair) (o : Option (ℤ × ℤ)) → g < length gs → o ≡ fin.get (group_at gs g) p.0
-    → slice_set (slice_set gs g (with_seen (group_at gs g) p)) g (put_span (group_at (slice_set gs g (with_seen (group_at gs g) p)) g) p.0 o) ≡ gs
+    → slice_set (slice_set gs g (with_observed (group_at gs g) p)) g (put_span (group_at (slice_set gs g (with_observed (group_at gs g) p)) g) p.0 o) ≡ gs
 seen-undone g gs p o l h =
     let m = group_at gs g in
-    set-again gs g (with_seen m p) (put_span (group_at (slice_set gs g (with_seen m p)) g) p.0 o)
-    ∙ ap (λ n. slice_set gs g (put_span n p.0 o)) (get_or-set_same gs g (with_seen m p) fin.empty l)
-    ∙ ap (λ s. slice_set gs g (put_span (with_seen m p) p.0 s)) h
+    set-again gs g (with_observed m p) (put_span (group_at (slice_set gs g (with_observed m p)) g) p.0 o)
+    ∙ ap (λ n. slice_set gs g (put_span n p.0 o)) (get_or-set_same gs g (with_observed m p) fin.empty l)
+    ∙ ap (λ s. slice_set gs g (put_span (with_observed m p) p.0 s)) h
     ∙ ap (slice_set gs g) (seen-undo m p)
     ∙ set-own gs g fin.empty
 
 kept-may_undo : (g : ℕ) (k : Accumulator) (c : Delta) → AccumulatorFits g k c → AccumulatorMayUndo g (accumulator_more g k c.pair) c.pair
 kept-may_undo g (accumulator.Totals live) c h = subst (λ m. CanTake c.pair.1 (fin.get m c.pair.0)) (totals-cons c.pair h.0 ∙ ap (λ m. with_pair m c.pair) (sym h.1)) (can_take c.pair h.0 h.2)
 kept-may_undo g (accumulator.Extrema live) c h =
-    let same = length-written live.groups g (with_seen (group_at live.groups g) c.pair) in
+    let same = length-written live.groups g (with_observed (group_at live.groups g) c.pair) in
     let room = h.0 in
     (omega arith, seen-there g live.groups c.pair h.0)
 

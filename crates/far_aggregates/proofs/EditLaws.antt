@@ -4,17 +4,17 @@ use Rattle.std.specs.Prelude.{option_map}
 use Rattle.far_types.specs.declared.spec.Spec.{Spec}
 use Rattle.far_types.specs.Cells.{RowFits}
 use Rattle.far_types.specs.Edits.{changed_at, removed}
-use Rattle.far_types.specs.Table.{Place, in_group, is_unbuilt}
+use Rattle.far_types.specs.Table.{Place, in_group, is_pending}
 use Rattle.far_aggregates.specs.declared.aggregate.Accumulator.{Accumulator}
 use Rattle.far_aggregates.specs.declared.aggregate.Accumulator.TheVariants as accumulator
 use Rattle.far_aggregates.specs.declared.deltas.Delta.{Delta}
-use Rattle.far_aggregates.specs.Accumulators.{Slot, Change, PlacesFit, built_pairs, KeepsSlot, Keeps, registered_in}
+use Rattle.far_aggregates.specs.Accumulators.{Slot, Change, PlacesFit, scanned_pairs, KeepsSlot, Keeps, registered_in}
 use Rattle.far_aggregates.specs.Pairs.{place_gives, change_of, Folds, EachFolds}
 use Rattle.far_aggregates.specs.Deltas.{delta_of, row_delta, added, undo}
 use Rattle.far_aggregates.specs.Retract.{retracted, MayRetract, EachMayRetract}
 use Rattle.far_aggregates.specs.Reserve.{HaveRoom}
 use Rattle.far_aggregates.specs.Until.{zip_all}
-use Rattle.far_aggregates.proofs.BuiltLaws.{built-fits, length-built}
+use Rattle.far_aggregates.proofs.ScannedLaws.{built-fits, length-built}
 use Rattle.far_aggregates.proofs.GroupLaws.{get-changed}
 use Rattle.far_aggregates.proofs.KeepLaws.{slot, slot-insert, slot-set, slot-may_retract}
 use Rattle.far_aggregates.proofs.ListLaws.{all-get, map-zip_all}
@@ -23,7 +23,7 @@ use Rattle.far_aggregates.proofs.ListLaws.{all-get, map-zip_all}
 
 kept-folds : (size : ℕ) (ps : List Place) (spec : Spec) (registration : ℕ) (unbuilt : List Bool) (k : Accumulator) → PlacesFit ps → length ps ≤ 2 ^ 24 → KeepsSlot size ps (slot spec registration unbuilt k) → Folds (slot spec registration unbuilt k)
 kept-folds size ps spec registration unbuilt (accumulator.Totals live) fit few h =
-    (built_pairs spec size unbuilt 0 ps, h.1.0, built-fits spec size unbuilt 0 ps fit, (let b = length-built spec size unbuilt 0 ps in omega arith))
+    (scanned_pairs spec size unbuilt 0 ps, h.1.0, built-fits spec size unbuilt 0 ps fit, (let b = length-built spec size unbuilt 0 ps in omega arith))
 kept-folds size ps spec registration unbuilt (accumulator.Extrema live) fit few h = tt
 
 slot-folds : (size : ℕ) (ps : List Place) (s : Slot) → PlacesFit ps → length ps ≤ 2 ^ 24 → KeepsSlot size ps s → Folds s
@@ -69,7 +69,7 @@ delta_none g k false = refl
 
 pub removed-adds : (size i : ℕ) (x : Place) (s : Slot) → added (i / size) s (row_delta size i (place_gives (removed x)) s) ≡ s
 removed-adds size i x None = refl
-removed-adds size i x (Some a) = ap (added (i / size) (Some a)) (delta_none (i / size) a.accumulator (is_unbuilt a.unbuilt (i / size)))
+removed-adds size i x (Some a) = ap (added (i / size) (Some a)) (delta_none (i / size) a.accumulator (is_pending a.unbuilt (i / size)))
 
 pub removed-adds_all : (size i : ℕ) (x : Place) (slots : List Slot) → zip_all (added (i / size)) slots (map (row_delta size i (place_gives (removed x))) slots) ≡ slots
 removed-adds_all size i x [] = refl

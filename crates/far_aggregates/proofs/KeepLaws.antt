@@ -9,18 +9,18 @@ use Rattle.far_types.specs.Answers.{Extrema, totals, extrema}
 use Rattle.far_types.specs.Cells.{RowFits}
 use Rattle.far_types.specs.Edits.{changed_at}
 use Rattle.far_types.specs.Pairs.{Pair, PairsFit}
-use Rattle.far_types.specs.Table.{Place, place_pair, is_unbuilt, in_group}
+use Rattle.far_types.specs.Table.{Place, place_pair, is_pending, in_group}
 use Rattle.far_groups.specs.Live as groups
 use Rattle.far_extrema.specs.Live as spans
 use Rattle.far_extrema.specs.Live.{group_at}
 use Rattle.far_aggregates.specs.declared.aggregate.Accumulator.{Accumulator}
 use Rattle.far_aggregates.specs.declared.aggregate.Accumulator.TheVariants as accumulator
-use Rattle.far_aggregates.specs.Accumulators.{Slot, Change, PlacesFit, built_pair, built_pairs, pairs_here, group_pairs, built_group, KeepsSlot}
-use Rattle.far_aggregates.specs.Pairs.{place_gives, change_of, with_change, without_change, with_seen_change}
+use Rattle.far_aggregates.specs.Accumulators.{Slot, Change, PlacesFit, scanned_pair, scanned_pairs, pairs_here, group_pairs, scanned_group, KeepsSlot}
+use Rattle.far_aggregates.specs.Pairs.{place_gives, change_of, with_change, without_change, with_observed_change}
 use Rattle.far_aggregates.specs.Deltas.{delta_of, row_delta, added}
 use Rattle.far_aggregates.specs.Retract.{retracted, MayRetract}
 use Rattle.far_aggregates.specs.Reserve.{HasRoom}
-use Rattle.far_aggregates.proofs.BuiltLaws.{totals-more, totals-swap, others, built-apart, built-changed, built-appended, built_pair-fits, cons-fits, others-fits}
+use Rattle.far_aggregates.proofs.ScannedLaws.{totals-more, totals-swap, others, built-apart, built-changed, built-appended, scanned_pair-fits, cons-fits, others-fits}
 use Rattle.far_aggregates.proofs.CountLaws.{can_take}
 use Rattle.far_aggregates.proofs.ExtremaLaws.{seen-more, seen-swap, rest, rest-apart, rest-changed, gone-leaves, gone-seen, groups_seen, groups_left, seen-is, left-is, seen-length, kept-built, kept-unbuilt}
 use Rattle.far_aggregates.proofs.GroupLaws.{in_group-changed, in_group-appended, in_group-last, in_group-there, get-in_group, nth}
@@ -47,36 +47,36 @@ module _ (spec : Spec) (registration : ℕ) (unbuilt : List Bool) (g : ℕ) wher
   retracted-left here live (Some pair) = refl
 
 -- a row group that is scanned has the extrema of its places
-here-kept : (spec : Spec) (size : ℕ) (unbuilt : List Bool) (g : ℕ) (ps : List Place) (gs : List Extrema) → is_unbuilt unbuilt g ≡ false → ((h : ℕ) → group_at gs h ≡ built_group spec size unbuilt ps h) → group_at gs g ≡ extrema (group_pairs spec size g ps)
+here-kept : (spec : Spec) (size : ℕ) (unbuilt : List Bool) (g : ℕ) (ps : List Place) (gs : List Extrema) → is_pending unbuilt g ≡ false → ((h : ℕ) → group_at gs h ≡ scanned_group spec size unbuilt ps h) → group_at gs g ≡ extrema (group_pairs spec size g ps)
 here-kept spec size unbuilt g ps gs is kept = kept g ∙ ap (λ b. cond b fin.empty (extrema (group_pairs spec size g ps))) is
 
 -- one slot under an insert
 
 module _ (size : ℕ) (spec : Spec) (registration : ℕ) (unbuilt : List Bool) (ps : List Place) (p : Place) (positive : 0 < size) where
-  appended-seen : extrema (group_pairs spec size (length ps / size) (ps ++ p ∷ [])) ≡ with_seen_change (extrema (group_pairs spec size (length ps / size) ps)) (place_pair spec p)
+  appended-seen : extrema (group_pairs spec size (length ps / size) (ps ++ p ∷ [])) ≡ with_observed_change (extrema (group_pairs spec size (length ps / size) ps)) (place_pair spec p)
   appended-seen =
       let mine = in_group size (length ps / size) ps in
       ap (λ l. extrema (filter_map (place_pair spec) l)) (in_group-last size ps p positive)
       ∙ ap extrema (filter_map-append (place_pair spec) mine (p ∷ []))
       ∙ extrema-joined (filter_map (place_pair spec) mine) (place_pair spec p)
 
-  insert-extrema : (live : spans.Live) (b : Bool) → is_unbuilt unbuilt (length ps / size) ≡ b → KeepsSlot size ps (slot spec registration unbuilt (accumulator.Extrema live)) → length ps / size < length live.groups
+  insert-extrema : (live : spans.Live) (b : Bool) → is_pending unbuilt (length ps / size) ≡ b → KeepsSlot size ps (slot spec registration unbuilt (accumulator.Extrema live)) → length ps / size < length live.groups
       → KeepsSlot size (ps ++ p ∷ []) (added (length ps / size) (slot spec registration unbuilt (accumulator.Extrema live)) (option_map (delta_of (length ps / size) (accumulator.Extrema live)) (cond b None (place_pair spec p))))
   insert-extrema live true is h room = (h.0, (kept-unbuilt spec size unbuilt (length ps / size) ps (ps ++ p ∷ []) (λ k n. in_group-appended size k ps p positive n) live.groups is h.1.0, h.1.1))
   insert-extrema live false is h room =
       let g = length ps / size in
       let o = place_pair spec p in
       let w = seen-is g live.groups o room in
-      let new : with_seen_change (group_at live.groups g) o ≡ extrema (group_pairs spec size g (ps ++ p ∷ [])) = ap (λ m. with_seen_change m o) (here-kept spec size unbuilt g ps live.groups is h.1.0) ∙ sym appended-seen in
+      let new : with_observed_change (group_at live.groups g) o ≡ extrema (group_pairs spec size g (ps ++ p ∷ [])) = ap (λ m. with_observed_change m o) (here-kept spec size unbuilt g ps live.groups is h.1.0) ∙ sym appended-seen in
       subst (KeepsSlot size (ps ++ p ∷ [])) (sym (added-seen spec registration unbuilt g live o))
       (h.0, (kept-built spec size unbuilt g ps (ps ++ p ∷ []) (λ k n. in_group-appended size k ps p positive n) live.groups (groups_seen g live.groups o) is h.1.0 (w.0 ∙ new, w.1), h.1.1))
 
   insert-kept : (k : Accumulator) → KeepsSlot size ps (slot spec registration unbuilt k) → HasRoom (length ps / size) (slot spec registration unbuilt k)
       → KeepsSlot size (ps ++ p ∷ []) (added (length ps / size) (slot spec registration unbuilt k) (row_delta size (length ps) (place_gives p) (slot spec registration unbuilt k)))
   insert-kept (accumulator.Totals live) h room =
-      let o = built_pair spec size unbuilt (length ps) p in
+      let o = scanned_pair spec size unbuilt (length ps) p in
       subst (KeepsSlot size (ps ++ p ∷ [])) (sym (added-is spec registration unbuilt (length ps / size) live o)) (h.0, (ap (λ m. with_change m o) h.1.0 ∙ built-appended spec size unbuilt ps p, h.1.1))
-  insert-kept (accumulator.Extrema live) h room = insert-extrema live (is_unbuilt unbuilt (length ps / size)) refl h room
+  insert-kept (accumulator.Extrema live) h room = insert-extrema live (is_pending unbuilt (length ps / size)) refl h room
 
 pub slot-insert : (size : ℕ) (ps : List Place) (p : Place) (s : Slot) → 0 < size → KeepsSlot size ps s → HasRoom (length ps / size) s
     → KeepsSlot size (ps ++ p ∷ []) (added (length ps / size) s (row_delta size (length ps) (place_gives p) s))
@@ -102,13 +102,13 @@ module _ (size : ℕ) (f : Place → Place) (ps : List Place) (i : ℕ) (x y : P
       ∙ ap (λ r. extrema (cons_option (place_pair spec y) r)) (rest-changed spec f mine (nth size i))
 
   -- the new pair is in, and the old one still
-  both-in : (spec : Spec) (m : Extrema) → m ≡ extrema (group_pairs spec size (i / size) ps) → with_seen_change m (place_pair spec y) ≡ extrema (cons_option (place_pair spec x) (cons_option (place_pair spec y) (beside spec)))
+  both-in : (spec : Spec) (m : Extrema) → m ≡ extrema (group_pairs spec size (i / size) ps) → with_observed_change m (place_pair spec y) ≡ extrema (cons_option (place_pair spec x) (cons_option (place_pair spec y) (beside spec)))
   both-in spec m h =
-      ap (λ n. with_seen_change n (place_pair spec y)) (h ∙ was-apart spec)
+      ap (λ n. with_observed_change n (place_pair spec y)) (h ∙ was-apart spec)
       ∙ sym (seen-more (place_pair spec y) (cons_option (place_pair spec x) (beside spec)))
       ∙ seen-swap (place_pair spec y) (place_pair spec x) (beside spec)
 
-  set-extrema : (spec : Spec) (registration : ℕ) (unbuilt : List Bool) (live : spans.Live) (b : Bool) → is_unbuilt unbuilt (i / size) ≡ b → KeepsSlot size ps (slot spec registration unbuilt (accumulator.Extrema live)) → i / size < length live.groups
+  set-extrema : (spec : Spec) (registration : ℕ) (unbuilt : List Bool) (live : spans.Live) (b : Bool) → is_pending unbuilt (i / size) ≡ b → KeepsSlot size ps (slot spec registration unbuilt (accumulator.Extrema live)) → i / size < length live.groups
       → KeepsSlot size (changed_at f i ps) (retracted (i / size) (in_group size (i / size) (changed_at f i ps)) (added (i / size) (slot spec registration unbuilt (accumulator.Extrema live)) (option_map (delta_of (i / size) (accumulator.Extrema live)) (cond b None (place_pair spec y)))) (cond b None (place_pair spec x)))
   set-extrema spec registration unbuilt live true is h room = (h.0, (kept-unbuilt spec size unbuilt (i / size) ps (changed_at f i ps) (λ k n. in_group-changed size k f i ps positive n) live.groups is h.1.0, h.1.1))
   set-extrema spec registration unbuilt live false is h room =
@@ -127,12 +127,12 @@ module _ (size : ℕ) (f : Place → Place) (ps : List Place) (i : ℕ) (x y : P
   set-kept : (spec : Spec) (registration : ℕ) (unbuilt : List Bool) (k : Accumulator) → KeepsSlot size ps (slot spec registration unbuilt k) → HasRoom (i / size) (slot spec registration unbuilt k)
       → KeepsSlot size (changed_at f i ps) (retracted (i / size) (in_group size (i / size) (changed_at f i ps)) (added (i / size) (slot spec registration unbuilt k) (row_delta size i (place_gives y) (slot spec registration unbuilt k))) (change_of size i (place_gives x) (slot spec registration unbuilt k)))
   set-kept spec registration unbuilt (accumulator.Totals live) h room =
-      let delta = built_pair spec size unbuilt i y in
-      let went = built_pair spec size unbuilt i x in
+      let delta = scanned_pair spec size unbuilt i y in
+      let went = scanned_pair spec size unbuilt i x in
       let mid : groups.Live = record { left = live.left; totals = with_change live.totals delta } in
       subst (KeepsSlot size (changed_at f i ps)) (sym (ap (λ s. retracted (i / size) (in_group size (i / size) (changed_at f i ps)) s went) (added-is spec registration unbuilt (i / size) live delta) ∙ retracted-is spec registration unbuilt (i / size) (in_group size (i / size) (changed_at f i ps)) mid went))
       (h.0, (ap (λ m. without_change (with_change m delta) went) h.1.0 ∙ built-changed spec size unbuilt f ps i x y here there, h.1.1))
-  set-kept spec registration unbuilt (accumulator.Extrema live) h room = set-extrema spec registration unbuilt live (is_unbuilt unbuilt (i / size)) refl h room
+  set-kept spec registration unbuilt (accumulator.Extrema live) h room = set-extrema spec registration unbuilt live (is_pending unbuilt (i / size)) refl h room
 
   pub slot-set : (s : Slot) → KeepsSlot size ps s → HasRoom (i / size) s → KeepsSlot size (changed_at f i ps) (retracted (i / size) (in_group size (i / size) (changed_at f i ps)) (added (i / size) s (row_delta size i (place_gives y) s)) (change_of size i (place_gives x) s))
   slot-set None h room = tt
@@ -148,7 +148,7 @@ module _ (size : ℕ) (f : Place → Place) (ps : List Place) (i : ℕ) (x y : P
   may_retract-extrema spec registration unbuilt live None qs h new = tt
   may_retract-extrema spec registration unbuilt live (Some p) qs h new = gone-seen p qs (group_at live.groups (i / size)) (extrema (group_pairs spec size (i / size) (changed_at f i ps))) h new
 
-  set-may_retract-extrema : (spec : Spec) (registration : ℕ) (unbuilt : List Bool) (live : spans.Live) (b : Bool) → is_unbuilt unbuilt (i / size) ≡ b → KeepsSlot size ps (slot spec registration unbuilt (accumulator.Extrema live)) → i / size < length live.groups
+  set-may_retract-extrema : (spec : Spec) (registration : ℕ) (unbuilt : List Bool) (live : spans.Live) (b : Bool) → is_pending unbuilt (i / size) ≡ b → KeepsSlot size ps (slot spec registration unbuilt (accumulator.Extrema live)) → i / size < length live.groups
       → MayRetract (i / size) (in_group size (i / size) (changed_at f i ps)) (added (i / size) (slot spec registration unbuilt (accumulator.Extrema live)) (option_map (delta_of (i / size) (accumulator.Extrema live)) (cond b None (place_pair spec y)))) (cond b None (place_pair spec x))
   set-may_retract-extrema spec registration unbuilt live true is h room = tt
   set-may_retract-extrema spec registration unbuilt live false is h room =
@@ -163,15 +163,15 @@ module _ (size : ℕ) (f : Place → Place) (ps : List Place) (i : ℕ) (x y : P
     set-may_retract : (spec : Spec) (registration : ℕ) (unbuilt : List Bool) (k : Accumulator) → KeepsSlot size ps (slot spec registration unbuilt k) → HasRoom (i / size) (slot spec registration unbuilt k)
         → MayRetract (i / size) (in_group size (i / size) (changed_at f i ps)) (added (i / size) (slot spec registration unbuilt k) (row_delta size i (place_gives y) (slot spec registration unbuilt k))) (change_of size i (place_gives x) (slot spec registration unbuilt k))
     set-may_retract spec registration unbuilt (accumulator.Totals live) h room =
-        let delta = built_pair spec size unbuilt i y in
-        let went = built_pair spec size unbuilt i x in
+        let delta = scanned_pair spec size unbuilt i y in
+        let went = scanned_pair spec size unbuilt i x in
         let r = others spec size unbuilt 0 ps i in
-        let apart : totals (built_pairs spec size unbuilt 0 ps) ≡ totals (cons_option went r) = built-apart spec size unbuilt 0 ps i x here ∙ rw zero-add refl in
+        let apart : totals (scanned_pairs spec size unbuilt 0 ps) ≡ totals (cons_option went r) = built-apart spec size unbuilt 0 ps i x here ∙ rw zero-add refl in
         subst (λ s. MayRetract (i / size) (in_group size (i / size) (changed_at f i ps)) s went) (sym (added-is spec registration unbuilt (i / size) live delta))
         (may_retract-totals spec registration unbuilt (record { left = live.left; totals = with_change live.totals delta }) went (cons_option delta r)
         (ap (λ m. with_change m delta) (h.1.0 ∙ apart) ∙ sym (totals-more delta (cons_option went r)) ∙ totals-swap delta went r)
-        (cons-fits delta r (built_pair-fits spec size unbuilt i y row) (others-fits spec size unbuilt 0 ps i fit)))
-    set-may_retract spec registration unbuilt (accumulator.Extrema live) h room = set-may_retract-extrema spec registration unbuilt live (is_unbuilt unbuilt (i / size)) refl h room
+        (cons-fits delta r (scanned_pair-fits spec size unbuilt i y row) (others-fits spec size unbuilt 0 ps i fit)))
+    set-may_retract spec registration unbuilt (accumulator.Extrema live) h room = set-may_retract-extrema spec registration unbuilt live (is_pending unbuilt (i / size)) refl h room
 
     pub slot-may_retract : (s : Slot) → KeepsSlot size ps s → HasRoom (i / size) s → MayRetract (i / size) (in_group size (i / size) (changed_at f i ps)) (added (i / size) s (row_delta size i (place_gives y) s)) (change_of size i (place_gives x) s)
     slot-may_retract None h room = tt

@@ -6,7 +6,7 @@ use Rattle.std.proofs.lemmas.List.{get_or-set_same, length-map}
 use Rattle.far_types.specs.declared.key.Key.{Key}
 use Rattle.far_types.specs.declared.spec.Spec.{Spec}
 use Rattle.far_types.specs.Answers.{Extrema, extrema}
-use Rattle.far_types.specs.Changes.{with_seen, widened}
+use Rattle.far_types.specs.Effects.{with_observed, widened}
 use Rattle.far_types.specs.Pairs.{Pair}
 use Rattle.far_types.specs.Table.{Place, in_group}
 use Rattle.far_types.proofs.ByKeyMaps.{get_inserted}
@@ -28,9 +28,9 @@ use Rattle.far_aggregates.proofs.ExtremaLaws.{left-within, same_or_not}
 use Rattle.far_aggregates.proofs.PendingLaws.{get-set_other}
 
 -- what stands under the key of a delta
-seen-under_key : (m : Extrema) (p : Pair) (k : Option Key) (span : ℤ × ℤ) → fin.get m p.0 ≡ Some span → p.0 ≡ k → fin.get (with_seen m p) k ≡ Some (widened p.1 (Some span))
+seen-under_key : (m : Extrema) (p : Pair) (k : Option Key) (span : ℤ × ℤ) → fin.get m p.0 ≡ Some span → p.0 ≡ k → fin.get (with_observed m p) k ≡ Some (widened p.1 (Some span))
 seen-under_key m p k span is same =
-    ap (fin.get (with_seen m p)) (sym same)
+    ap (fin.get (with_observed m p)) (sym same)
     ∙ get_inserted m p.0 (widened p.1 (fin.get m p.0))
     ∙ ap (λ (o : Option (ℤ × ℤ)). Some (widened p.1 o)) is
 
@@ -46,10 +46,10 @@ module _ (g : ℕ) (here : List Place) where
   needless-kept spec (accumulator.Totals live) p pair room s may = absurd (none-span s.0 s.1)
   needless-kept spec (accumulator.Extrema live) p pair room s may =
       let m = group_at live.groups g in
-      let gs = slice_set live.groups g (with_seen m p) in
+      let gs = slice_set live.groups g (with_observed m p) in
       let wide = widened p.1 (Some s.0) in
       let found : fin.get (group_at gs g) pair.0 ≡ Some wide =
-      ap (λ (n : Extrema). fin.get n pair.0) (get_or-set_same live.groups g (with_seen m p) fin.empty room) ∙ seen-under_key m p pair.0 s.0 s.1 s.2 in
+      ap (λ (n : Extrema). fin.get n pair.0) (get_or-set_same live.groups g (with_observed m p) fin.empty room) ∙ seen-under_key m p pair.0 s.0 s.1 s.2 in
       ap (λ (hs : List Extrema). accumulator.Extrema (record live { groups = hs })) (sym (left-within g gs pair.0 pair.1 (fin.get (extrema (pairs_here spec here)) pair.0) wide may found s.3 s.4))
 
   -- of one slot, which has a delta or none

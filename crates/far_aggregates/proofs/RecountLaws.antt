@@ -8,7 +8,7 @@ use Rattle.far_types.specs.declared.refusal.Refusal.{Refusal}
 use Rattle.far_types.specs.declared.refusal.Refusal.TheVariants as refusal
 use Rattle.far_types.specs.declared.spec.Spec.{Spec}
 use Rattle.far_types.specs.MayRefuse.{MayRefuse}
-use Rattle.far_types.specs.Table.{Place, Registered, groups, is_unbuilt, left}
+use Rattle.far_types.specs.Table.{Place, Registered, groups, is_pending, left}
 use Rattle.far_offload.specs.declared.partial.PartialDone.{PartialDone}
 use Rattle.far_offload.specs.Partials.{partial_of}
 use Rattle.far_aggregates.specs.declared.aggregate.Aggregate.{Aggregate}
@@ -25,7 +25,7 @@ all-left : (n : ℕ) → left (replicate n true) ≡ n
 all-left zero = refl
 all-left (suc n) = let e = sum_by-cons (λ (b : Bool). cond b 1 0) true (replicate n true) in let rest = all-left n in omega arith
 
-left-at : (n k : ℕ) → k < n → is_unbuilt (replicate n true) k ≡ true
+left-at : (n k : ℕ) → k < n → is_pending (replicate n true) k ≡ true
 left-at zero k within = absurd (omega arith)
 left-at (suc n) zero within = refl
 left-at (suc n) (suc k) within = left-at n k (omega arith)
@@ -68,7 +68,7 @@ module _ (spec : Spec) (size count : ℕ) (partials : List PartialDone) where
     pub same_spec : aggregate.spec ≡ spec
     pub all : number + length rest ≡ groups size count
     pub some : left aggregate.unbuilt + number ≡ groups size count
-    pub flags : (k : ℕ) → number ≤ k → k < groups size count → is_unbuilt aggregate.unbuilt k ≡ true
+    pub flags : (k : ℕ) → number ≤ k → k < groups size count → is_pending aggregate.unbuilt k ≡ true
     pub others : (all : List Place) → AreThose all → rest ≡ partials_from spec size all number (length rest)
     pub kept : (all : List Place) → length all ≡ count → AreThose all → KeepsSlot size all (Some aggregate)
 
@@ -82,7 +82,7 @@ module _ (spec : Spec) (size count : ℕ) (partials : List PartialDone) where
         same_spec = ap (λ (r : Registered). r.spec) told ∙ equal;
         all = omega (arith, long);
         some = (let none = ap left flags in let every = all-left (groups size count) in omega arith);
-        flags = λ k low within. ap (λ u. is_unbuilt u k) flags ∙ left-at (groups size count) k within;
+        flags = λ k low within. ap (λ u. is_pending u k) flags ∙ left-at (groups size count) k within;
         others = λ all those. those ∙ ap (partials_from spec size all 0) (sym long);
         kept = λ all few those. kept all few;
       }
@@ -92,7 +92,7 @@ module _ (spec : Spec) (size count : ℕ) (partials : List PartialDone) where
     pub next-is : (all : List Place) → AreThose all → partial ≡ partial_at spec size all number
     next-is all those = let e = are.others all those in cc
 
-    next-left : is_unbuilt a.unbuilt number ≡ true
+    next-left : is_pending a.unbuilt number ≡ true
     next-left = are.flags number (omega arith) (let e = are.all in omega arith)
 
     -- and one row group more is merged
@@ -102,7 +102,7 @@ module _ (spec : Spec) (size count : ℕ) (partials : List PartialDone) where
       same_spec = same ∙ are.same_spec;
       all = (let e = are.all in omega arith);
       some = (let e = are.some in let l = left-cleared a.unbuilt number next-left in let is : left b.unbuilt ≡ left (slice_set a.unbuilt number false) = ap left cleared in omega arith);
-      flags = λ k low within. ap (λ u. is_unbuilt u k) cleared ∙ cleared-other a.unbuilt number k (λ e. omega arith) ∙ are.flags k (omega arith) within;
+      flags = λ k low within. ap (λ u. is_pending u k) cleared ∙ cleared-other a.unbuilt number k (λ e. omega arith) ∙ are.flags k (omega arith) within;
       others = λ all those. (let e = are.others all those in cc);
       kept = λ all few those. kept all (next-is all those ∙ ap (λ s. partial_at s size all number) (sym are.same_spec)) (are.kept all few those);
     }

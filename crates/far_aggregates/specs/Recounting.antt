@@ -2,7 +2,7 @@
 use Rattle.std.specs.Prelude.{◌≡◌, ℕ, zero, suc, ◌+◌, ◌-◌, List, [], ◌∷◌, slice_set}
 use Rattle.std.specs.FinMap as fin
 use Rattle.far_types.specs.declared.spec.Spec.{Spec}
-use Rattle.far_types.specs.Changes.{joined_totals}
+use Rattle.far_types.specs.Effects.{joined_totals}
 use Rattle.far_types.specs.Table.{Place}
 use Rattle.far_extrema.specs.Live.{with_room, group_at}
 use Rattle.far_groups.specs.Live.{CanJoin}

@@ -68,7 +68,7 @@ fn add_to(
             live.add_under(key, value)?;
             Ok(None)
         }
-        Accumulator::Extrema(live) => live.see_under(group, key, value),
+        Accumulator::Extrema(live) => live.observe_under(group, key, value),
     }
 }
 

@@ -1,7 +1,7 @@
 // Live extrema, with what stands under no key beside them.
 ghost use Rattle.std.specs.Prelude.{◌≡◌, ◌≢◌, ◌-◌, ◌<◌, [], None, Some, Err, OnOk, OnErr, IfOk, IfErr, IfSome, IsTrue, ℤ, ◌≤ℤ◌, length, slice_get, slice_set};
 ghost use Rattle.std.specs.FinMap as fin;
-ghost use Rattle.far_types.specs.Changes.{widened, with_seen};
+ghost use Rattle.far_types.specs.Effects.{widened, with_observed};
 ghost use Rattle.far_extrema.specs.Live.{all_groups, group_at};
 ghost use Rattle.far_aggregates.specs.Known.{IsNoted};
 
@@ -42,7 +42,7 @@ fn make_place(plain: &mut Vec<Option<MinMax>>, group: usize)
 }
 
 /// Notes what stands under no key in a row group, or that it is not known. Where the list has no place for it, and behind
-/// the row group after the last, nothing is noted. Takes no memory.
+/// the row group after the last, nothing is noted. Allocates nothing.
 fn note(plain: &mut Vec<Option<MinMax>>, group: usize, span: Option<MinMax>)
     ensures { IsNoted plain.old.items group span plain.new.items }
 {
@@ -77,7 +77,7 @@ fn is_within(value: i64, span: Option<MinMax>) -> bool
 }
 
 /// One folded row more under no key, whose least and greatest value are noted or looked up. Returns the previous ones.
-fn see_noted(
+fn observe_noted(
     live: &mut LiveExtrema,
     group: u32,
     value: i64,
@@ -86,17 +86,17 @@ fn see_noted(
     requires room { group < length live.old.groups }
     requires noted { IfSome noted (λ span. fin.get (group_at live.old.groups group) None ≡ Some span) }
     ensures previous { IfOk result (λ previous. previous ≡ fin.get (group_at live.old.groups group) None) }
-    ensures ok { OnOk result (live.new ≡ record live.old { groups = slice_set live.old.groups group (with_seen (group_at live.old.groups group) (None, value)) }) }
+    ensures ok { OnOk result (live.new ≡ record live.old { groups = slice_set live.old.groups group (with_observed (group_at live.old.groups group) (None, value)) }) }
     ensures err { OnErr result (live.new ≡ live.old) }
     ensures only_new { OnErr result (fin.get (group_at live.old.groups group) None ≡ None) }
     ensures memory { IfErr result (λ e. e ≡ Refusal.NoMemory) }
 {
     match noted {
         Some(span) => {
-            live.see_over(group, &None, value, span);
+            live.observe_over(group, &None, value, span);
             Ok(Some(span))
         }
-        None => live.see_under(group, &None, value),
+        None => live.observe_under(group, &None, value),
     }
 }
 
@@ -146,12 +146,12 @@ impl KnownExtrema {
         self.live.make_room_for(group, extrema)
     }
 
-    /// As `see_under`, for a row under no key: where what stands there is noted, a value within that costs no look-up, and
+    /// As `observe_under`, for a row under no key: where what stands there is noted, a value within that costs no look-up, and
     /// nothing is written.
-    fn see_plain(&mut self, group: u32, value: i64) -> Result<Option<MinMax>, Refusal>
+    fn observe_plain(&mut self, group: u32, value: i64) -> Result<Option<MinMax>, Refusal>
         requires { group < length self.old.groups }
         ensures previous { IfOk result (λ previous. previous ≡ fin.get (group_at self.old.groups group) None) }
-        ensures ok { OnOk result (self.new ≡ record self.old { groups = slice_set self.old.groups group (with_seen (group_at self.old.groups group) (None, value)) }) }
+        ensures ok { OnOk result (self.new ≡ record self.old { groups = slice_set self.old.groups group (with_observed (group_at self.old.groups group) (None, value)) }) }
         ensures err { OnErr result (self.new ≡ self.old) }
         ensures only_new { OnErr result (fin.get (group_at self.old.groups group) None ≡ None) }
         ensures memory { IfErr result (λ e. e ≡ Refusal.NoMemory) }
@@ -161,7 +161,7 @@ impl KnownExtrema {
             return Ok(noted);
         }
         make_place(&mut self.plain, group as usize);
-        let previous = see_noted(&mut self.live, group, value, noted)?;
+        let previous = observe_noted(&mut self.live, group, value, noted)?;
         note(
             &mut self.plain,
             group as usize,
@@ -170,9 +170,9 @@ impl KnownExtrema {
         Ok(previous)
     }
 
-    /// As `LiveExtrema::see_under`.
+    /// As `LiveExtrema::observe_under`.
     #[inline(always)]
-    pub fn see_under(
+    pub fn observe_under(
         &mut self,
         group: u32,
         key: &Option<Key>,
@@ -180,14 +180,14 @@ impl KnownExtrema {
     ) -> Result<Option<MinMax>, Refusal>
         requires { group < length self.old.groups }
         ensures previous { IfOk result (λ previous. previous ≡ fin.get (group_at self.old.groups group) key.now) }
-        ensures ok { OnOk result (self.new ≡ record self.old { groups = slice_set self.old.groups group (with_seen (group_at self.old.groups group) (key.now, value)) }) }
+        ensures ok { OnOk result (self.new ≡ record self.old { groups = slice_set self.old.groups group (with_observed (group_at self.old.groups group) (key.now, value)) }) }
         ensures err { OnErr result (self.new ≡ self.old) }
         ensures only_new { OnErr result (fin.get (group_at self.old.groups group) key.now ≡ None) }
         ensures memory { IfErr result (λ e. e ≡ Refusal.NoMemory) }
     {
         match key {
-            None => self.see_plain(group, value),
-            Some(_) => self.live.see_under(group, key, value),
+            None => self.observe_plain(group, value),
+            Some(_) => self.live.observe_under(group, key, value),
         }
     }
 

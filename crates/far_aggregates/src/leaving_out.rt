@@ -1,6 +1,6 @@
 // Pairs that need not be retracted from extrema.
 ghost use Rattle.std.specs.Prelude.{◌≡◌, ◌<ℤ◌, Some, IsTrue, length};
-ghost use Rattle.far_types.specs.Changes.{widened};
+ghost use Rattle.far_types.specs.Effects.{widened};
 ghost use Rattle.far_aggregates.specs.LeavingOut.{NeedNotGo, IsLeftOut, EachLeftOut};
 
 use super::deltas::Delta;

@@ -22,7 +22,7 @@ impl Model for PendingGroups {
 }
 
 impl PendingGroups {
-    ghost use Rattle.far_types.specs.Table.{is_unbuilt};
+    ghost use Rattle.far_types.specs.Table.{is_pending};
 
     /// The first `groups` row groups are pending.
     pub fn all(alloc: Global, groups: usize) -> Result<PendingGroups, AllocError>
@@ -36,7 +36,7 @@ impl PendingGroups {
 
     /// Whether a row group is pending.
     pub fn has(&self, group: usize) -> bool
-        ensures { result ≡ is_unbuilt self.now group }
+        ensures { result ≡ is_pending self.now group }
     {
         match self.flags.get(group) {
             Some(flag) => *flag,
@@ -46,8 +46,8 @@ impl PendingGroups {
 
     /// The first row group that is pending, if there is one.
     pub fn first(&self) -> Option<u32>
-        ensures some { IfSome result (λ g. is_unbuilt self.now g ≡ true) }
-        ensures none { IfNone result ((g : ℕ) → is_unbuilt self.now g ≡ false) }
+        ensures some { IfSome result (λ g. is_pending self.now g ≡ true) }
+        ensures none { IfNone result ((g : ℕ) → is_pending self.now g ≡ false) }
     {
         first_set(self.flags.as_slice())
     }

@@ -2,7 +2,7 @@
 ghost use Rattle.std.specs.Prelude.{◌≡◌, ◌≤◌, ◌<◌, [], Some, false, length, map, slice_get, slice_set};
 ghost use Rattle.std.specs.FinMap as fin;
 ghost use Rattle.far_types.specs.Answers.{extrema};
-ghost use Rattle.far_types.specs.Changes.{widened};
+ghost use Rattle.far_types.specs.Effects.{widened};
 ghost use Rattle.far_extrema.specs.Live.{group_at};
 ghost use Rattle.far_extrema.specs.Spans.{put_span};
 ghost use Rattle.far_aggregates.specs.Accumulators.{pairs_here, registered_in};

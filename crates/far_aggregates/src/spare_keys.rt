@@ -20,7 +20,7 @@ pub struct SpareKeys {
 }
 
 impl SpareKeys {
-    /// No key. Takes no memory.
+    /// No key. Allocates nothing.
     pub fn new(alloc: Global) -> SpareKeys
         ensures { result.keys.items ≡ [] }
     {
@@ -42,7 +42,7 @@ impl SpareKeys {
         CellRef::Text(text).key(self.alloc, earlier)
     }
 
-    /// Keeps the key of a pair that is needed no more, if it is a text and the list has capacity for it. Takes no memory.
+    /// Keeps the key of a pair that is needed no more, if it is a text and the list has capacity for it. Allocates nothing.
     pub fn keep(&mut self, pair: Pair)
         ensures kept { vec_len self.old.keys < vec_capacity self.old.keys → self.new.keys.items ≡ self.old.keys.items ++ text_key pair.0 }
         ensures full { vec_capacity self.old.keys ≤ vec_len self.old.keys → self.new.keys.items ≡ self.old.keys.items }

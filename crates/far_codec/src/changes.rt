@@ -4,7 +4,7 @@ ghost use Rattle.std.specs.List.{flat_map, list_any};
 ghost use Rattle.std.specs.Int.{w32, to_le_bytes};
 ghost use Rattle.std.specs.Str.{IsUtf8};
 ghost use Rattle.far_types.specs.FormLengths.{text_bytes, texts_length};
-ghost use Rattle.far_codec.specs.Changes.{with_text};
+ghost use Rattle.far_codec.specs.Effects.{with_text};
 ghost use Rattle.far_codec.specs.TextForm.{bytes_of, ends_of, texts_of, ends_in, texts_meaning, AreTexts, AreTextParts, IsTextsForm};
 
 use crate::flags::ChangedFlags;

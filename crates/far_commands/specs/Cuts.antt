@@ -15,7 +15,7 @@ use Rattle.far_commands.specs.Progress.{At}
 abbrev pub IsFront : (List ℕ → Type 0) → List ℕ → Type 0
 IsFront answer text = (text ≡ []) ⊎ ((rest : List ℕ) × answer (text ++ rest))
 
--- what is printed of the answer that a fault ends: nothing where the input is at fault
+-- what is printed of the answer that a fault ends: nothing if the input is at fault
 abbrev pub CutOff : ShellFault → (List ℕ → Type 0) → List ℕ → Type 0
 CutOff fault.BadStart answer text = ⊥
 CutOff fault.Input answer text = text ≡ []

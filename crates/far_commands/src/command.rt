@@ -230,7 +230,7 @@ fn complete(
     }
 }
 
-/// The command that a line spells over a table of these columns, or `None` where it spells none. Refused with `NoMemory`
+/// The command that a line spells over a table of these columns, or `None` if it spells none. Refused with `NoMemory`
 /// (1) alone.
 pub fn parse(alloc: Global, kinds: &[Kind], line: &str) -> Result<Option<Command>, Refusal>
     ensures command { IfOk result (λ command. command ≡ command_of kinds.now line.now) }

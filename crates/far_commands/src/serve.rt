@@ -20,7 +20,7 @@ use super::renewing::renew;
 use super::resources::Resources;
 use far_frame::{Reply, Step, World};
 use far_script::print::{answer, numbered, refused};
-use far_script::{Input, Output, Page, ShellFault, Span};
+use far_script::{ByteRange, Input, Output, Page, ShellFault};
 use far_store::FarStore;
 use far_types::Refusal;
 use std::alloc::Global;
@@ -193,7 +193,7 @@ fn print_syntax(output: &mut Output, number: u32) -> Result<(), ShellFault>
 pub fn answer_line<S: FarStore, A: Resources<S>, R: Read + Drop, W: Write>(
     resources: &A,
     progress: &mut Progress<S>,
-    line: Span,
+    line: ByteRange,
     input: &mut Input<R>,
     output: &mut Output,
     writer: &mut W,

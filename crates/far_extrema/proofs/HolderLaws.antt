@@ -10,7 +10,7 @@ use Rattle.far_types.specs.declared.key.Key.{Key}
 use Rattle.far_types.specs.Keys.{line_cmp}
 use Rattle.far_types.specs.KeyOrder.{line_total}
 use Rattle.far_types.specs.Answers.{Extrema}
-use Rattle.far_types.specs.Changes.{together, join_spans, joined_extrema, widened, with_seen}
+use Rattle.far_types.specs.Effects.{merge_two, join_spans, joined_extrema, widened, with_observed}
 use Rattle.std.specs.Prelude.{◌≤ℤ◌}
 use Rattle.std.specs.Int.{int_min, int_max}
 use Rattle.std.proofs.lemmas.Int.{ints, int_min_is, int_max_is}
@@ -23,7 +23,7 @@ use Rattle.std.specs.BTreeMap.{is_at}
 use Rattle.std.specs.declared.cmp.Ordering.TheVariants.{Less}
 use Rattle.std.proofs.lemmas.List.{append-nil, append_assoc}
 use Rattle.far_types.specs.Answers.{extrema_lines}
-use Rattle.far_types.proofs.ByKeyMaps.{get_at, by_key, entries-by_key, AreApart, sorted_apart}
+use Rattle.far_types.proofs.ByKeyMaps.{get_at, by_key, entries-by_key, HaveDistinctKeys, sorted_distinct}
 use Rattle.far_types.proofs.ByKeyMaps as map_in
 use Rattle.far_extrema.proofs.GroupLaws.{past_room}
 use Rattle.far_extrema.specs.Spans.{put_span}
@@ -158,11 +158,11 @@ get-all m zero q = fin.get-empty line_cmp q
 get-all m (suc n) q =
     ap (λ e. fin.get e q) (fold-append joined_extrema fin.empty (groups_in m n) (group_in m n ∷ []))
     ∙ get-joined join_spans (all_groups (groups_in m n)) (group_in m n) q
-    ∙ (λ i. together join_spans (get-all m n q i) (get-group_in m n q i))
+    ∙ (λ i. merge_two join_spans (get-all m n q i) (get-group_in m n q i))
 
 pub none_joined : (n : ℕ) → joined_to n (λ g. None) ≡ None
 none_joined zero = refl
-none_joined (suc n) = ap (λ o. together join_spans o None) (none_joined n)
+none_joined (suc n) = ap (λ o. merge_two join_spans o None) (none_joined n)
 
 -- no row group has no span
 pub top-none : IsTopOf [] None
@@ -204,7 +204,7 @@ top_of e = option_map (λ (top : ℤ × ℤ). (e.0, top)) e.1.top
 abbrev tops : Entries → List (Option Key × (ℤ × ℤ))
 tops es = filter_map top_of es
 
-tops_at : (es : Entries) (q : Option Key) → AreApart es → map_in.at (tops es) q ≡ top_in (map_in.at es q)
+tops_at : (es : Entries) (q : Option Key) → HaveDistinctKeys es → map_in.at (tops es) q ≡ top_in (map_in.at es q)
 tops_at [] q h = refl
 tops_at (e ∷ es) q h =
     elim e.1.top as (λ o. e.1.top ≡ o → map_in.at (cons_option (option_map (λ (top : ℤ × ℤ). (e.0, top)) o) (tops es)) q ≡ top_in (map_in.at (e ∷ es) q)) [
@@ -246,7 +246,7 @@ pub lines-all : (es : Entries) (room : ℕ) → HaveRoom room (holders_of es) �
 lines-all es room kept topped sorted =
     sym (lines_tops es)
     ∙ ap (map {B = Option Key × ℤ × ℤ} (λ (e : Option Key × (ℤ × ℤ)). (e.0, e.1.0, e.1.1))) (sym (entries-by_key (tops es) (sorted_tops es sorted)))
-    ∙ ap extrema_lines (same (by_key (tops es)) (all_groups (groups_in (holders_of es) room)) (λ q. get_at (tops es) q ∙ tops_at es q (sorted_apart es sorted) ∙ ap top_in (sym (get_at es q)) ∙ sym (get-tops es room q kept topped)))
+    ∙ ap extrema_lines (same (by_key (tops es)) (all_groups (groups_in (holders_of es) room)) (λ q. get_at (tops es) q ∙ tops_at es q (sorted_distinct es sorted) ∙ ap top_in (sym (get_at es q)) ∙ sym (get-tops es room q kept topped)))
 
 -- a span that is put in a row group with room leaves none without
 pub room-put : (m m' : Holders) (room g : ℕ) (k : Option Key) (o : Option (ℤ × ℤ)) → HaveRoom room m → g < room → IsPut m g k o m' → HaveRoom room m'
@@ -327,7 +327,7 @@ put-own m g k x there h q = elim (h == g) as (λ a. (h == g) ≡ a → span_at m
 ] refl
 
 -- a value that is seen
-pub seen-in : (m m' : Holders) (room g : ℕ) (k : Option Key) (v : ℤ) (o : Option (ℤ × ℤ)) → HaveRoom room m → span_at m g k ≡ o → g < room → IsPut m g k (Some (widened v o)) m' → groups_in m' room ≡ slice_set (groups_in m room) g (with_seen (group_at (groups_in m room) g) (k, v))
+pub seen-in : (m m' : Holders) (room g : ℕ) (k : Option Key) (v : ℤ) (o : Option (ℤ × ℤ)) → HaveRoom room m → span_at m g k ≡ o → g < room → IsPut m g k (Some (widened v o)) m' → groups_in m' room ≡ slice_set (groups_in m room) g (with_observed (group_at (groups_in m room) g) (k, v))
 seen-in m m' room g k v o kept previous l put =
     put-in m m' room g k (Some (widened v o)) l put
     ∙ ap (λ p. slice_set (groups_in m room) g (put_span (group_at (groups_in m room) g) k (Some (widened v p)))) (sym (get-group_at m room g k kept ∙ previous))

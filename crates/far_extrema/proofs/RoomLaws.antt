@@ -11,7 +11,7 @@ use Rattle.far_types.specs.Keys.{line_cmp}
 use Rattle.far_types.specs.KeyOrder.{line_total}
 use Rattle.far_types.specs.Answers.{Extrema}
 use Rattle.far_types.proofs.Grouping.{same_key, own_key}
-use Rattle.far_types.proofs.ByKeyMaps.{get_at, AreApart}
+use Rattle.far_types.proofs.ByKeyMaps.{get_at, HaveDistinctKeys}
 use Rattle.far_types.proofs.ByKeyMaps as map_in
 use Rattle.far_extrema.specs.Spreads.{Spans, at, IsSet}
 use Rattle.far_extrema.specs.Holders.{Holding, Holders, span_in, span_at, room_in, room_at, HaveRoom, IsPut, IsGroup, IsCleared, HaveSameSpans, HaveSameRoom, KeepsRoom, HasRoomFor}
@@ -141,7 +141,7 @@ over (Some x) o = Some x
 
 -- a row group is filled with entries but for the rest of them
 pub record IsFilling (old now : Holders) (group : ℕ) (entries rest : Spanned) : Type 0 where
-  pub apart : AreApart rest
+  pub apart : HaveDistinctKeys rest
   pub room : (q : Option Key) → map_in.at rest q ≢ None → room_at now q ≢ None
   pub new : (q : Option Key) → map_in.at rest q ≢ None → span_at now group q ≡ None
   pub there : (q : Option Key) → over (map_in.at rest q) (span_at now group q) ≡ map_in.at entries q
@@ -163,7 +163,7 @@ pub next-new : (old now : Holders) (g : ℕ) (es : Spanned) (e : Option Key × (
 next-new old now g es e rest f = f.new e.0 (head_there e rest)
 
 -- a key of the rest is not that of the entry before
-other_key : (e : Option Key × (ℤ × ℤ)) (rest : Spanned) (q : Option Key) → AreApart (e ∷ rest) → map_in.at rest q ≢ None → eq_by_cmp line_cmp q e.0 ≡ false
+other_key : (e : Option Key × (ℤ × ℤ)) (rest : Spanned) (q : Option Key) → HaveDistinctKeys (e ∷ rest) → map_in.at rest q ≢ None → eq_by_cmp line_cmp q e.0 ≡ false
 other_key e rest q apart there = elim (eq_by_cmp line_cmp q e.0) as (λ b. eq_by_cmp line_cmp q e.0 ≡ b → b ≡ false) [
   | true ↦ λ s. absurd (there (ap (map_in.at rest) (same_key q e.0 s) ∙ apart.0))
   | false ↦ λ s. refl
@@ -201,7 +201,7 @@ rooms-next now next es e rest before kept own q there gone = elim (eq_by_cmp lin
 ] refl
 
 -- none is in yet
-pub filled-none : (m : Holders) (g : ℕ) (es : Spanned) → AreApart es → HasRoomFor (map_in.by_key es) m → ((q : Option Key) → span_at m g q ≡ None) → IsFilling m m g es es
+pub filled-none : (m : Holders) (g : ℕ) (es : Spanned) → HaveDistinctKeys es → HasRoomFor (map_in.by_key es) m → ((q : Option Key) → span_at m g q ≡ None) → IsFilling m m g es es
 filled-none m g es apart room new = record {
   apart = apart;
   room = λ q there. room q (λ none. there (sym (get_at es q) ∙ none));
@@ -233,7 +233,7 @@ nothing_cleared g = (λ h. elim (h == g) as (λ b. None ≡ cond b None (span_in
 
 -- what `retain` leaves of each key, where its closure clears a row group and stays as it was
 pub cleared-at : {F : Type 0} (T : F → Option Key → Holding → Bool → Holding → F → Type 0) (g : ℕ) (f : F)
-    → ((k : Option Key) (v : Holding) (b : Bool) (w : Holding) (f' : F) → T f k v b w f' → IsCleared g v b w × (f' ≡ f)) → (es kept : Entries) → AreApart es → RetainsPairs T f es kept
+    → ((k : Option Key) (v : Holding) (b : Bool) (w : Holding) (f' : F) → T f k v b w f' → IsCleared g v b w × (f' ≡ f)) → (es kept : Entries) → HaveDistinctKeys es → RetainsPairs T f es kept
     → (q : Option Key) → AreCleared g (map_in.at es q) (map_in.at kept q) × (map_in.at es q ≡ None → map_in.at kept q ≡ None)
 cleared-at T g f says [] kept apart r q = subst (λ (ks : Entries). AreCleared g absent (map_in.at ks q) × (absent ≡ None → map_in.at ks q ≡ None)) (sym r) (nothing_cleared g, λ e. e)
 cleared-at {F} T g f says (e ∷ es) kept apart (b, w, f', rest, t, r, is) q =

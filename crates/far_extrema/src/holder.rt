@@ -1,10 +1,10 @@
 // What stands under one key.
 ghost use Rattle.std.specs.Prelude.{◌≡◌, ◌≢◌, ◌∷◌, [], None, Some, true, false, IsTrue, OnOk, OnErr, IfOk, IfErr};
-ghost use Rattle.far_types.specs.Changes.{widened};
+ghost use Rattle.far_types.specs.Effects.{widened};
 ghost use Rattle.far_extrema.specs.Spreads.{at, IsSet, IsTopOf};
 
 use super::rows_left::RowsLeft;
-use super::spans::{MinMax, is_inside, is_within, together};
+use super::spans::{MinMax, is_inside, is_within, merge_two};
 use super::tournament::{Spare, Tournament};
 use far_types::Refusal;
 use std::alloc::Global;
@@ -28,7 +28,7 @@ impl Model for Holder {
 }
 
 impl Holder {
-    /// One row group, and no room for another. Takes no memory.
+    /// One row group, and no room for another. Allocates nothing.
     pub fn new(group: u32, span: MinMax) -> Holder
         ensures spans { result.spans ≡ (group, span) ∷ [] }
         ensures room { result.room ≡ false }
@@ -39,7 +39,7 @@ impl Holder {
         }
     }
 
-    /// No row group, and room for one. Takes no memory.
+    /// No row group, and room for one. Allocates nothing.
     pub fn with_room(spare: Spare) -> Holder
         ensures spans { result.spans ≡ [] }
         ensures room { result.room ≡ true }
@@ -50,7 +50,7 @@ impl Holder {
         }
     }
 
-    /// The span of a row group, or `None` where the key does not occur in it.
+    /// The span of a row group, or `None` if the key does not occur in it.
     pub fn span(&self, group: u32) -> Option<MinMax>
         ensures { result ≡ at self.now.spans group }
     {
@@ -60,7 +60,7 @@ impl Holder {
         }
     }
 
-    /// The span of all row groups together, or `None` where there is none.
+    /// The span of all row groups together, or `None` if there is none.
     pub fn top(&self) -> Option<MinMax>
         ensures is { result ≡ self.now.top }
         ensures top { IsTopOf self.now.spans result }
@@ -111,7 +111,7 @@ impl Holder {
         Ok(())
     }
 
-    /// A value more in a row group whose span is known: a value within that changes nothing. Takes no memory.
+    /// A value more in a row group whose span is known: a value within that changes nothing. Allocates nothing.
     fn widen(&mut self, group: u32, previous: MinMax, value: i64)
         requires { at self.old.spans group ≡ Some previous }
         ensures spans { IsSet self.old.spans group (Some (widened value (Some previous))) self.new.spans }
@@ -120,11 +120,11 @@ impl Holder {
         if is_within(value, previous) {
             return;
         }
-        let wide = together((value, value), previous);
+        let wide = merge_two((value, value), previous);
         self.put(group, wide);
     }
 
-    /// A value more in a row group, which leaves the room as it is. Returns the previous span there, or `None` where the
+    /// A value more in a row group, which leaves the room as it is. Returns the previous span there, or `None` if the
     /// key did not occur. Refused with `NoMemory` (1) alone, where the key is new there, and then nothing is changed.
     pub fn see(&mut self, alloc: Global, group: u32, value: i64) -> Result<Option<MinMax>, Refusal>
         ensures previous { IfOk result (λ previous. previous ≡ at self.old.spans group) }
@@ -146,7 +146,7 @@ impl Holder {
         }
     }
 
-    /// A row group more, which takes the room. Takes no memory.
+    /// A row group more, which takes the room. Allocates nothing.
     pub fn fill(&mut self, group: u32, span: MinMax)
         requires room { self.old.room ≡ true }
         requires new { at self.old.spans group ≡ None }
@@ -165,7 +165,7 @@ impl Holder {
         }
     }
 
-    /// A span in place of that of a row group in which the key occurs. Takes no memory.
+    /// A span in place of that of a row group in which the key occurs. Allocates nothing.
     pub fn put(&mut self, group: u32, span: MinMax)
         requires { at self.old.spans group ≢ None }
         ensures spans { IsSet self.old.spans group (Some span) self.new.spans }
@@ -181,7 +181,7 @@ impl Holder {
         }
     }
 
-    /// A row group in which the key occurs no more. Takes no memory.
+    /// A row group in which the key occurs no more. Allocates nothing.
     pub fn leave(&mut self, group: u32)
         requires { at self.old.spans group ≢ None }
         ensures spans { IsSet self.old.spans group None self.new.spans }
@@ -227,7 +227,7 @@ impl Holder {
         }
     }
 
-    /// A row group in which the key occurs no more, if it did. Takes no memory.
+    /// A row group in which the key occurs no more, if it did. Allocates nothing.
     pub fn clear(&mut self, group: u32)
         ensures spans { IsSet self.old.spans group None self.new.spans }
         ensures room { self.new.room ≡ self.old.room }

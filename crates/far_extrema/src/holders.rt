@@ -5,7 +5,7 @@ ghost use Rattle.std.specs.List.{AllByRecursion, filter_map};
 ghost use Rattle.std.specs.Ordering.{eq_by_cmp};
 ghost use Rattle.std.specs.FinMap as fin;
 ghost use Rattle.far_types.specs.declared.key.Key.{Key};
-ghost use Rattle.far_types.specs.Changes.{widened};
+ghost use Rattle.far_types.specs.Effects.{widened};
 ghost use Rattle.far_types.specs.Keys.{line_cmp};
 ghost use Rattle.far_extrema.specs.Spans.{extrema_of};
 ghost use Rattle.far_extrema.specs.Holders.{holders_of, span_at, room_at, line_of, IsPut, IsTopped, HaveSameRoom, HaveSameSpans, KeepsRoom, HasRoomFor, IsGroup, IsCleared};
@@ -21,7 +21,7 @@ use std::collections::BTreeMap;
 /// What stands by key.
 pub type Holders = BTreeMap<Option<Key>, Holder>;
 
-/// The span of a key in a row group. Takes no memory.
+/// The span of a key in a row group. Allocates nothing.
 pub fn span_in(holders: &Holders, group: u32, key: &Option<Key>) -> Option<MinMax>
     ensures { result ≡ span_at (holders_of holders.now.entries) group key.now }
 {
@@ -34,7 +34,7 @@ pub fn span_in(holders: &Holders, group: u32, key: &Option<Key>) -> Option<MinMa
 /// A value more under a key in a row group. One look-up brings it in where the key is known. Returns the previous
 /// span there, or `None`. A clone of the key is made where it is new. Refused with `NoMemory` (1) alone, where the key is new in the
 /// row group, and then nothing is changed.
-pub fn see_in(
+pub fn observe_in(
     holders: &mut Holders,
     alloc: Global,
     group: u32,
@@ -57,7 +57,7 @@ pub fn see_in(
     }
 }
 
-/// A span in place of that of a key in a row group. Takes no memory.
+/// A span in place of that of a key in a row group. Allocates nothing.
 pub fn set_in(holders: &mut Holders, group: u32, key: &Option<Key>, span: MinMax)
     requires { span_at (holders_of holders.old.entries) group key.now ≢ None }
     ensures spans { IsPut (holders_of holders.old.entries) group key.now (Some span) (holders_of holders.new.entries) }
@@ -69,7 +69,7 @@ pub fn set_in(holders: &mut Holders, group: u32, key: &Option<Key>, span: MinMax
     }
 }
 
-/// A row group in which a key occurs no more: the key goes with its last one, if it has no room. Takes no memory.
+/// A row group in which a key occurs no more: the key goes with its last one, if it has no room. Allocates nothing.
 pub fn leave_in(holders: &mut Holders, group: u32, key: &Option<Key>)
     requires { span_at (holders_of holders.old.entries) group key.now ≢ None }
     ensures spans { IsPut (holders_of holders.old.entries) group key.now None (holders_of holders.new.entries) }
@@ -145,7 +145,7 @@ pub fn reserve_all(holders: &mut Holders, alloc: Global, spans: &Spans) -> Resul
     Ok(())
 }
 
-/// A row group more for a key that has room. Takes no memory.
+/// A row group more for a key that has room. Allocates nothing.
 fn fill_in(holders: &mut Holders, group: u32, key: &Option<Key>, span: MinMax)
     requires room { room_at (holders_of holders.old.entries) key.now ≢ None }
     requires new { span_at (holders_of holders.old.entries) group key.now ≡ None }
@@ -158,7 +158,7 @@ fn fill_in(holders: &mut Holders, group: u32, key: &Option<Key>, span: MinMax)
     }
 }
 
-/// These are the spans of a row group in which no key occurs yet; each of their keys has room. Takes no memory.
+/// These are the spans of a row group in which no key occurs yet; each of their keys has room. Allocates nothing.
 pub fn fill_all(holders: &mut Holders, group: u32, spans: &Spans)
     requires room { HasRoomFor (extrema_of spans.now.entries) (holders_of holders.old.entries) }
     requires new { (q : Option Key) → span_at (holders_of holders.old.entries) group q ≡ None }
@@ -177,7 +177,7 @@ fn clear(holder: &mut Holder, group: u32) -> bool
     !holder.is_vacant()
 }
 
-/// No key occurs in a row group any more. Takes no memory.
+/// No key occurs in a row group any more. Allocates nothing.
 pub fn clear_in(holders: &mut Holders, group: u32)
     ensures spans { IsGroup (holders_of holders.old.entries) group fin.empty (holders_of holders.new.entries) }
     ensures room { HaveSameRoom (holders_of holders.old.entries) (holders_of holders.new.entries) }

@@ -8,6 +8,6 @@ pub mod PlaceLaws
 pub mod PlainLaws
 pub mod RaiseLaws
 pub mod RoomLaws
-pub mod TallyLaws
+pub mod CountSumLaws
 pub mod WalkLaws
 pub mod WalkedJoin

@@ -140,7 +140,7 @@ fn span_under_key(
 }
 
 /// The least and the greatest value of the live places that stand under a key, where there is one: what the extrema of
-/// `fold` have under it. Takes no memory.
+/// `fold` have under it. Allocates nothing.
 pub fn span_under(
     spec: &Spec,
     columns: &[Column<'_>],

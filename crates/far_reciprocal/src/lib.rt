@@ -15,7 +15,7 @@ pub struct Reciprocal {
 }
 
 impl Reciprocal {
-    /// The hint for divisions by a number. Takes no memory.
+    /// The hint for divisions by a number. Allocates nothing.
     pub fn new(divisor: usize) -> Reciprocal
         requires { 0 < divisor }
         ensures { result.factor ≡ 2 ^ 40 / divisor + 1 }
@@ -25,7 +25,7 @@ impl Reciprocal {
         }
     }
 
-    /// How often a divisor goes into a number, rounded down. Takes no memory.
+    /// How often a divisor goes into a number, rounded down. Allocates nothing.
     #[inline(always)]
     pub fn quotient(self, number: usize, divisor: usize) -> usize
         requires { 0 < divisor }
@@ -43,7 +43,7 @@ impl Reciprocal {
         number / divisor
     }
 
-    /// What is left of a number once a divisor is taken from it as often as it goes. Takes no memory.
+    /// What is left of a number once a divisor is taken from it as often as it goes. Allocates nothing.
     #[inline(always)]
     pub fn remainder(self, number: usize, divisor: usize) -> usize
         requires { 0 < divisor }

@@ -8,7 +8,7 @@ pub mod GrownTexts
 pub mod ShortRows
 pub mod Filling
 pub mod Opening
-pub mod EmptySlots
+pub mod EmptyColumnIndexes
 pub mod EmptyRows
 pub mod Names
 pub mod NamesPushed

@@ -16,20 +16,20 @@ module _ {K : Type 0} (content : K → List ℕ) (r : Rows K) (are : AreRows con
   same : get_or r.numbers i v ≡ v
   same = get_or_from_slice_get r.numbers i v v column
 
-  even : (v.size ≡ r.size) × (v.len ≡ length r.alive)
-  even = subst (λ (d : Vector (Option ℤ)). (d.size ≡ r.size) × (d.len ≡ length r.alive)) same (are.even_numbers i v (slice_get_within r.numbers i v column))
+  same_length : (v.size ≡ r.size) × (v.len ≡ length r.alive)
+  same_length = subst (λ (d : Vector (Option ℤ)). (d.size ≡ r.size) × (d.len ≡ length r.alive)) same (are.same_length_numbers i v (slice_get_within r.numbers i v column))
 
   shaped : IsShaped v
   shaped = subst IsShaped same (are.shaped i v (slice_get_within r.numbers i v column))
 
   -- its row group has an object
   pub group-there : slice_get v.objects group ≡ Some (object_at v place)
-  group-there = ap (slice_get v.objects) (of ∙ ap (λ n. place / n) (sym even.0)) ∙ object-there v shaped place (omega (arith, used, even.1, shaped.enough))
+  group-there = ap (slice_get v.objects) (of ∙ ap (λ n. place / n) (sym same_length.0)) ∙ object-there v shaped place (omega (arith, used, same_length.1, shaped.enough))
 
   -- and it may not be written
   pub group-writable : (o : ℕ) → Some o ≡ slice_get v.objects group → write_refusal r.number_objects o ≡ option_and_then (λ w. set_refusal r.number_objects w place) (slice_get r.numbers i)
   group-writable o found =
-      let there : nat_lt place v.len ≡ true = lt-ltb place v.len (omega (arith, used, even.1)) in
+      let there : nat_lt place v.len ≡ true = lt-ltb place v.len (omega (arith, used, same_length.1)) in
       let m = r.number_objects in
       ap (write_refusal m) (same_Some o (object_at v place) (found ∙ group-there))
       ∙ sym (ap (λ b. first_of ((not b, refusal.OutOfRange) ∷ absent m (object_at v place) ∷ written_out m (object_at v place) ∷ [])) there)

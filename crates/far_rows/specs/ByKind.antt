@@ -6,7 +6,7 @@ use Rattle.far_types.specs.declared.refusal.Refusal.{Refusal}
 use Rattle.far_types.specs.FirstOf.{first_of}
 use Rattle.far_columns.specs.NumbersTogether.{push_numbers_refusal}
 use Rattle.far_texts.specs.RefusingTogether.{push_texts_refusal}
-use Rattle.far_rows.specs.Slots.{Values}
+use Rattle.far_rows.specs.ColumnIndexes.{Values}
 use Rattle.far_rows.specs.Rows.{Rows}
 use Rattle.far_rows.specs.Refusing.{absents}
 

@@ -1,4 +1,4 @@
--- An order of use of objects below a bound has them all exactly where it has as many as the bound.
+-- An order of use of objects below a bound has them all exactly if it has as many as the bound.
 use Rattle.std.proofs.Common.{◌≡◌, ◌≢◌, ℕ, zero, suc, ◌+◌, ◌<◌, ◌≤◌, ◌||◌, Bool, true, false, nat_eq, inl, inr, List, [], ◌∷◌, length, refl, sym, ap, subst, ◌∙◌, arith}
 use Rattle.std.specs.Prelude.{◌↔◌}
 use Rattle.std.proofs.lemmas.Bool.{cases_eq, cases_Bool, eq-eqb, ne_eqb}
@@ -57,9 +57,9 @@ at-least (suc n) order each =
 
 module _ {X K : Type 0} (meaning : List ℕ → List X) (content : K → List ℕ) (spelled : List X → List ℕ → Type 0) (m : Movement X K) (tracked : AreTracked meaning content spelled m) where
   below : (o : ℕ) → has m.order o ≡ true → o < length m.entries
-  below o there = subst (λ n. o < n) (sym tracked.even) (place-within m.memory.words o (some-true (place_of m.memory.words o) (sym (tracked.ordered o) ∙ there)))
+  below o there = subst (λ n. o < n) (sym tracked.same_length) (place-within m.memory.words o (some-true (place_of m.memory.words o) (sym (tracked.ordered o) ∙ there)))
 
-  -- every object is local exactly where as many are in the order of use as there are
+  -- every object is local exactly if as many are in the order of use as there are
   pub all-local : (length m.order ≡ length m.entries) ↔ ((o : ℕ) → o < length m.entries → is_local m o ≡ true)
   all-local = (each-local, as-many)
     where

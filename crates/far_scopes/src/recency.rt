@@ -36,7 +36,7 @@ impl Recency {
         })
     }
 
-    /// How many objects are in the order. Takes no memory.
+    /// How many objects are in the order. Allocates nothing.
     pub fn len(&self) -> usize
         ensures { result ≡ length self.now }
     {
@@ -55,14 +55,14 @@ impl Recency {
         Ok(())
     }
 
-    /// Takes an object out. Takes no memory.
+    /// Takes an object out. Allocates nothing.
     pub fn remove(&mut self, o: u32)
         ensures { self.new ≡ without self.old o }
     {
         self.cache.pop(&o);
     }
 
-    /// Puts an object first that is in the order. Takes no memory.
+    /// Puts an object first that is in the order. Allocates nothing.
     pub fn touch(&mut self, o: u32)
         ensures { self.new ≡ used self.old o }
     {
@@ -81,7 +81,7 @@ impl Recency {
         }
     }
 
-    /// The objects, the last used first. Takes no memory.
+    /// The objects, the last used first. Allocates nothing.
     pub fn iter(&self) -> Iter<'_, u32, ()>
         ensures { keys_of result ≡ self.now }
     {

@@ -6,7 +6,7 @@ use Rattle.std.specs.Io.KnownBytes.{Appends, Consumes}
 use Rattle.std.specs.declared.io.traits.Read.{Ghosts}
 use Rattle.far_script.specs.declared.fault.ShellFault.{ShellFault}
 use Rattle.far_script.specs.declared.input.Input.{Input}
-use Rattle.far_script.specs.declared.input.Span.{Span}
+use Rattle.far_script.specs.declared.input.ByteRange.{ByteRange}
 use Rattle.far_script.specs.declared.input.Line.{Line}
 use Rattle.far_script.specs.declared.input.Line.TheVariants as line
 use Rattle.far_script.specs.declared.output.Output.{Output}
@@ -30,11 +30,11 @@ module _ {R : Type 0} (read : Ghosts R) where
   unread input = drop input.start input.held
 
   -- a span lies within what is held of a script
-  abbrev pub Holds : Input R read → Span → Type 0
+  abbrev pub Holds : Input R read → ByteRange → Type 0
   Holds input span = (span.from ≤ span.to) × (span.to ≤ length input.held)
 
   -- the bytes of a span
-  abbrev pub spanned : Input R read → Span → List ℕ
+  abbrev pub spanned : Input R read → ByteRange → List ℕ
   spanned input span = slice_range input.held span.from span.to
 
   -- bytes of a script were taken: what was held before and what came from the reader were taken, or are held still. What
@@ -54,7 +54,7 @@ module _ {R : Type 0} (read : Ghosts R) where
   TakesLine old (line.Last span) new =
       (list_any (λ c. c == 10) (spanned new span) ≡ false) × (unread new ≡ []) × (new.source.ended ≡ true) × Reads old (spanned new span) new
 
-  abbrev pub span_of : Line → Span
+  abbrev pub span_of : Line → ByteRange
   span_of (line.Whole span) = span
   span_of (line.Last span) = span
 

@@ -24,7 +24,7 @@ pub(crate) fn before(text: &str, at: usize, wanted: u8) -> &str
     if at < text.len() { &text[..at] } else { text }
 }
 
-/// What stands behind the first such byte of ASCII, whose place is known, or nothing where there is none.
+/// What stands behind the first such byte of ASCII, whose place is known, or nothing if there is none.
 #[inline(always)]
 pub(crate) fn behind(text: &str, at: usize, wanted: u8) -> &str
     requires ascii { wanted < 128 }

@@ -112,7 +112,7 @@ pub fn record_cells(
     Ok(cells)
 }
 
-/// The row of a text that is exactly one record, or `None` where it is not. Refused with `NoMemory` (1) alone.
+/// The row of a text that is exactly one record, or `None` if it is not. Refused with `NoMemory` (1) alone.
 pub fn row(alloc: Global, kinds: &[Kind], text: &str) -> Result<Option<Row>, Refusal>
     ensures row { IfOk result (λ row. row ≡ row_of kinds.now text.now) }
     ensures memory { IfErr result (λ e. e ≡ Refusal.NoMemory) }
@@ -153,7 +153,7 @@ fn lone_record_cell(
     }
 }
 
-/// The cell of a text that is exactly one record of one field, or `None` where it is not. Refused with `NoMemory` (1)
+/// The cell of a text that is exactly one record of one field, or `None` if it is not. Refused with `NoMemory` (1)
 /// alone. A number is such a record as it stands.
 pub fn lone_cell(alloc: Global, column: Option<Kind>, text: &str) -> Result<Option<Cell>, Refusal>
     ensures cell { IfOk result (λ cell. cell ≡ lone_cell_of column text.now) }

@@ -19,7 +19,7 @@ pub mod watch;
 mod words;
 
 pub use fault::ShellFault;
-pub use input::{Input, Line, Span};
+pub use input::{ByteRange, Input, Line};
 pub use opening::{FirstLine, Opening};
 pub use output::Output;
 pub use page::Page;

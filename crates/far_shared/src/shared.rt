@@ -88,7 +88,7 @@ impl<N: Naming, B: Site, S: FarTickets> Shared<N, B, S> {
     /// Makes an edit on a stripe, as this session, under the stripe's write lock. The session has then seen the stripe's history
     /// up to the edit; at the other stripes it stays as it was.
     ///
-    /// Refused with `OutOfRange` (14) where there is no such stripe; the session is then as it was. Else refused as `Frame`'s call of
+    /// Refused with `OutOfRange` (14) if there is no such stripe; the session is then as it was. Else refused as `Frame`'s call of
     /// the edit is, and the session has then seen the history so far.
     pub fn apply<R: Wait>(
         &self,

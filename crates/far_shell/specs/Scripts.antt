@@ -21,7 +21,7 @@ bytes_of turn = turn.line ++ 10 ∷ turn.rows
 abbrev pub text_of : Turn → List ℕ
 text_of turn = turn.text
 
--- the first command of a script is this line: empty lines stand before it, and it has a byte. It may lack its end only where nothing comes
+-- the first command of a script is this line: empty lines stand before it, and it has a byte. It may lack its end only if nothing comes
 -- behind it
 pub record Begins (bytes : List ℕ) (spent : Type 0) (line : List ℕ) : Type 0 where
   pub blanks : List (List ℕ)

@@ -59,7 +59,7 @@ impl<T: Drop, E> From<AllocFailed<T>> for Failure<E> {
 ///
 ///     ghost written = { λ key. map (λ token. token.value) key.written.items };
 ///
-///     ghost name = { λ log. log };
+///     ghost engine_id = { λ log. log };
 ///
 ///     ghost is_of = { λ key name. (i : ℕ) → IfSome (slice_get key.written.items i) (λ token. slice_get name (key.offset + i) ≡ Some token.of) };
 ///
@@ -87,14 +87,14 @@ pub trait Engine: Sync + Drop {
     ghost written: { Self.Key → List ℕ };
 
     /// Numbers that tell the engine from others. They are the same as long as it lasts.
-    ghost name: { Self → List ℕ };
+    ghost engine_id: { Self → List ℕ };
 
-    /// The key is of the engine of this name.
+    /// The key is of the engine with this id.
     ghost is_of: { Self.Key → List ℕ → Type 0 };
 
     /// Writes these bytes, for good, and gives the key under which they lie.
     fn write(&self, alloc: Global, bytes: &[u8]) -> Result<Self::Key, Failure<Self::Error>>
-        ensures here { IfOk result (λ key. is_of key (name self.now)) }
+        ensures here { IfOk result (λ key. is_of key (engine_id self.now)) }
         ensures written { IfOk result (λ key. written key ≡ bytes.now) };
 
     /// Reads the bytes under a key into the buffer, which is empty. What the buffer holds after a failure is thrown away.
@@ -104,7 +104,7 @@ pub trait Engine: Sync + Drop {
         key: &Self::Key,
         buffer: &mut Vec<u8>,
     ) -> Result<(), Failure<Self::Error>>
-        requires here { is_of key.now (name self.now) }
+        requires here { is_of key.now (engine_id self.now) }
         requires empty { buffer.old.items ≡ [] }
         ensures { OnOk result (buffer.new.items ≡ written key.now) };
 }

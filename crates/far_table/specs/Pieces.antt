@@ -24,7 +24,7 @@ pub record IsPiece (spec : Spec) (size : ℕ) (places : List Place) (from to : �
   pub partials : IfOk piece.partials (λ partials. partials.items ≡ partials_from spec size places from (to - from))
   pub faults : piece.meter ≡ faults_in piece.partials
 
--- what the row groups of a piece come to; nothing where it was refused
+-- what the row groups of a piece come to; nothing if it was refused
 abbrev pub partials_in : Piece → List PartialDone
 partials_in piece = option_map_or (λ partials. partials.items) (result_ok piece.partials) []
 

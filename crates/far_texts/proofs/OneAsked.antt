@@ -6,13 +6,13 @@ use Rattle.far_types.specs.declared.refusal.Refusal.{Refusal}
 use Rattle.far_types.specs.declared.refusal.Refusal.TheVariants as refusal
 use Rattle.far_types.specs.FirstOf.{first_of}
 use Rattle.far_types.specs.FormLengths.{texts_length}
-use Rattle.far_log.specs.Room.{spaces_of, fits_in, lowest_for, fit_in_order}
+use Rattle.far_log.specs.RegionState.{spaces_of, fits_in, lowest_for, fit_in_order}
 use Rattle.far_codec.specs.TextForm.{texts_form}
 use Rattle.far_codec.proofs.Laws.{texts_form_length}
 use Rattle.far_scopes.specs.Movement.{Movement}
 use Rattle.far_scopes.specs.Refusing.{absent, written_out}
 use Rattle.far_texts.specs.Texts.{Texts, lists_of}
-use Rattle.far_texts.specs.Changes.{begins_group, last_object, group_with_next}
+use Rattle.far_texts.specs.Effects.{begins_group, last_object, group_with_next}
 use Rattle.far_texts.specs.Refusing.{text_too_long, chunk_full, push_refusal}
 use Rattle.far_texts.specs.Together.{object_for}
 use Rattle.far_texts.specs.RefusingTogether.{push_texts_refusal}
@@ -50,16 +50,16 @@ module _ {K : Type 0} (content : K → List ℕ) (m : Movement ℕ K) where
       let texts = group_with_next (lists_of content m) c text in
       let o = last_object c in
       let n = length m.entries in
-      let fits : fit_in_order (spaces_of m.memory.room) (length (texts_form texts) ∷ []) ≡ fits_in m.memory.room (texts_length texts) =
-      ap (λ k. fit_in_order (spaces_of m.memory.room) (k ∷ [])) (texts_form_length texts) ∙ one-fits (spaces_of m.memory.room) (texts_length texts) in
+      let fits : fit_in_order (spaces_of m.memory.state) (length (texts_form texts) ∷ []) ≡ fits_in m.memory.state (texts_length texts) =
+      ap (λ k. fit_in_order (spaces_of m.memory.state) (k ∷ [])) (texts_form_length texts) ∙ one-fits (spaces_of m.memory.state) (texts_length texts) in
       one-due (begins_group c) (text_too_long text).0 (absent m o).0 (chunk_full c texts).0 _ _ (written_out m (object_for c n)).0 (written_out m o).0
       refusal.TextTooLong (absent m o).1 refusal.ChunkFull refusal.RegionFull refusal.EditsUsedUp fits (λ begun. ap (λ p. (written_out m p).0) (object-longer c n begun))
 
   -- where there is one column, it is asked alone
   pub one-asked : (columns : List Texts) (texts : List (Option (List ℕ))) (c : Texts) (text : Option (List ℕ)) → length columns ≡ 1 → length texts ≡ length columns → c ≡ get_or columns 0 c → text ≡ get_or texts 0 text
       → push_refusal content m c text ≡ push_texts_refusal content m columns texts
-  one-asked [] texts c text one even first given = absurd (omega arith)
-  one-asked (d ∷ (b ∷ columns)) texts c text one even first given = absurd (omega arith)
-  one-asked (d ∷ []) [] c text one even first given = absurd (omega arith)
-  one-asked (d ∷ []) (t ∷ (s ∷ texts)) c text one even first given = absurd (omega arith)
-  one-asked (d ∷ []) (t ∷ []) c text one even first given = ap (λ (x : Texts). push_refusal content m x text) first ∙ ap (push_refusal content m d) given ∙ sym (alone d t)
+  one-asked [] texts c text one same_length first given = absurd (omega arith)
+  one-asked (d ∷ (b ∷ columns)) texts c text one same_length first given = absurd (omega arith)
+  one-asked (d ∷ []) [] c text one same_length first given = absurd (omega arith)
+  one-asked (d ∷ []) (t ∷ (s ∷ texts)) c text one same_length first given = absurd (omega arith)
+  one-asked (d ∷ []) (t ∷ []) c text one same_length first given = ap (λ (x : Texts). push_refusal content m x text) first ∙ ap (push_refusal content m d) given ∙ sym (alone d t)

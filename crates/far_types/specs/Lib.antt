@@ -1,7 +1,7 @@
 pub mod Answers
 pub mod Bounds
 pub mod Cells
-pub mod Changes
+pub mod Effects
 pub mod Codes
 pub mod EditExamples
 pub mod Edits

@@ -105,7 +105,7 @@ impl Test {
         }
     }
 
-    /// Whether the test holds of a row. Texts are compared where they lie. Takes no memory.
+    /// Whether the test holds of a row. Texts are compared where they lie. Allocates nothing.
     #[inline(always)]
     pub fn holds<R: LendCells>(&self, row: &R) -> bool
         ensures { result ≡ passes self.now (R.cells row.now) }
@@ -126,7 +126,7 @@ impl Test {
         }
     }
 
-    /// Whether it is the same test. Takes no memory.
+    /// Whether it is the same test. Allocates nothing.
     pub fn is_same(&self, other: &Test) -> bool
         ensures { IsTrue result ↔ (self.now ≡ other.now) }
     {
@@ -211,14 +211,14 @@ impl Filter {
     ghost use Rattle.far_types.specs.Filters.{keeps};
     ghost use Rattle.far_types.specs.Cells.{cells_of};
 
-    /// The filter of these tests; none keeps every row. Takes no memory.
+    /// The filter of these tests; none keeps every row. Allocates nothing.
     pub fn new(tests: Vec<Test>) -> Filter
         ensures { result ≡ tests.items }
     {
         Filter { tests }
     }
 
-    /// The tests that the filter was made of. Takes no memory.
+    /// The tests that the filter was made of. Allocates nothing.
     pub fn into_tests(self) -> Vec<Test>
         ensures { result.items ≡ self }
     {
@@ -232,21 +232,21 @@ impl Filter {
         self.tests.as_slice()
     }
 
-    /// The tests in order, lent in place. Takes no memory.
+    /// The tests in order, lent in place. Allocates nothing.
     pub fn iter(&self) -> slice::Iter<'_, Test>
         ensures { iter_rest result ≡ self.now }
     {
         self.tests.iter()
     }
 
-    /// Whether every test holds of the row. Takes no memory.
+    /// Whether every test holds of the row. Allocates nothing.
     pub fn keeps(&self, row: &Row) -> bool
         ensures { result ≡ keeps self.now (cells_of row.now) }
     {
         self.keeps_cells(row)
     }
 
-    /// Whether every test holds of a row whose cells are lent by column. Takes no memory.
+    /// Whether every test holds of a row whose cells are lent by column. Allocates nothing.
     #[inline(always)]
     pub fn keeps_cells<R: LendCells>(&self, row: &R) -> bool
         ensures { result ≡ keeps self.now (R.cells row.now) }
@@ -258,7 +258,7 @@ impl Filter {
         self.tests.iter().all(|test| test.holds(row))
     }
 
-    /// Whether it has the same tests in the same order. Takes no memory.
+    /// Whether it has the same tests in the same order. Allocates nothing.
     pub fn is_same(&self, other: &Filter) -> bool
         ensures { IsTrue result ↔ (self.now ≡ other.now) }
     {

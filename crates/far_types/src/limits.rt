@@ -51,8 +51,8 @@ impl Limits {
         }
     }
 
-    /// Whether a table may have these limits. Refused with `BadSchema` (2) exactly where one is out of its bounds.
-    /// Takes no memory.
+    /// Whether a table may have these limits. Refused with `BadSchema` (2) exactly if one is out of its bounds.
+    /// Allocates nothing.
     pub fn check(&self) -> Result<(), Refusal>
         ensures ok { OnOk result (AreLimits self.now) }
         ensures bad { IfErr result (λ e. (e ≡ Refusal.BadSchema) × ¬ (AreLimits self.now)) }

@@ -8,7 +8,7 @@ use super::key::Key;
 use super::refusal::Refusal;
 use std::alloc::Global;
 
-/// What a row gives to an aggregate: its pair, of which a text is lent where it lies, or nothing where the row is not kept or
+/// What a row gives to an aggregate: its pair, of which a text is lent where it lies, or nothing if the row is not kept or
 /// not folded. `specs/Lent.antt` has the pair that it stands for (`lent_pair`).
 #[derive(Clone, Copy, Debug)]
 pub enum PairRef<'a> {
@@ -20,7 +20,7 @@ pub enum PairRef<'a> {
     UnderText { text: &'a str, value: i64 },
 }
 
-/// The key that a number is, and no key where there is no number. Takes no memory.
+/// The key that a number is, and no key where there is no number. Allocates nothing.
 #[inline(always)]
 pub fn number_key(number: Option<i64>) -> Option<Key>
     ensures { result ≡ key_by number }

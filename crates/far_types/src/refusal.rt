@@ -23,7 +23,7 @@ use thiserror::Error;
 /// ```
 #[derive(Debug, Drop, Clone, Copy, PartialEq, Eq, Error)]
 pub enum Refusal {
-    /// 1: a growth was refused for want of memory.
+    /// 1: an allocation failed for lack of memory.
     NoMemory,
     /// 2: the schema or the limits are outside what a table may have.
     BadSchema,
@@ -51,7 +51,7 @@ pub enum Refusal {
     TooManyAggregates,
     /// 14: a range, a group, a segment, a stripe, a count of workers or a set of sessions is not as asked.
     OutOfRange,
-    /// 15: so many row groups are still to be built into the aggregate.
+    /// 15: so many row groups are still pending in the aggregate.
     Building(u32),
     /// 16: the object of this column and row group is not local.
     Absent { column: u32, group: u32 },
@@ -72,7 +72,7 @@ pub enum Refusal {
 }
 
 impl Refusal {
-    /// The number by which a script and its documentation name the refusal. Takes no memory.
+    /// The number by which a script and its documentation name the refusal. Allocates nothing.
     pub fn number(&self) -> u32
         ensures { result ≡ number_of self.now }
     {
@@ -103,7 +103,7 @@ impl Refusal {
         }
     }
 
-    /// The refusal's name, without what it carries. Takes no memory.
+    /// The refusal's name, without what it carries. Allocates nothing.
     pub fn name(&self) -> &'static str
         ensures { result.now ≡ name_of self.now }
     {

@@ -61,7 +61,7 @@ fn read_numbers(cells: &[Cell])
 }
 
 impl Row {
-    /// The row of these cells. Takes no memory.
+    /// The row of these cells. Allocates nothing.
     pub fn new(cells: Vec<Cell>) -> Row
         ensures { result ≡ cells.items }
     {
@@ -69,7 +69,7 @@ impl Row {
         Row { cells }
     }
 
-    /// The cells that the row was made of. Takes no memory.
+    /// The cells that the row was made of. Allocates nothing.
     pub fn into_cells(self) -> Vec<Cell>
         ensures cells { result.items ≡ self }
         ensures fit { RowFits self }
@@ -91,7 +91,7 @@ impl Row {
         self.cells.is_empty()
     }
 
-    /// The cell of a column, or `None` where the row has no such column.
+    /// The cell of a column, or `None` if the row has no such column.
     pub fn get(&self, column: usize) -> Option<&Cell>
         ensures { option_copied result ≡ slice_get self.now column }
     {
@@ -106,7 +106,7 @@ impl Row {
         self.cells.as_slice()
     }
 
-    /// The cells in the order of the columns, lent in place. Takes no memory.
+    /// The cells in the order of the columns, lent in place. Allocates nothing.
     pub fn iter(&self) -> slice::Iter<'_, Cell>
         ensures { iter_rest result ≡ self.now }
     {

@@ -32,7 +32,7 @@ impl Model for Schema {
 }
 
 impl Schema {
-    /// The schema with these columns. Refused with `BadSchema` (2) exactly where there are not 1 to 16. Takes no
+    /// The schema with these columns. Refused with `BadSchema` (2) exactly if there are not 1 to 16. Takes no
     /// memory.
     pub fn new(kinds: Vec<Kind>) -> Result<Schema, Refusal>
         ensures ok { IfOk result (λ schema. (schema ≡ kinds.items) × IsSchema kinds.items) }
@@ -52,7 +52,7 @@ impl Schema {
         self.kinds.len()
     }
 
-    /// The kind of a column, or `None` where there is no such column.
+    /// The kind of a column, or `None` if there is no such column.
     pub fn get(&self, column: usize) -> Option<Kind>
         ensures { result ≡ slice_get self.now column }
     {
@@ -66,7 +66,7 @@ impl Schema {
         self.kinds.as_slice()
     }
 
-    /// The kinds in the order of the columns, lent in place. Takes no memory.
+    /// The kinds in the order of the columns, lent in place. Allocates nothing.
     pub fn iter(&self) -> slice::Iter<'_, Kind>
         ensures { iter_rest result ≡ self.now }
     {

@@ -28,7 +28,7 @@ impl Model for Text {
 }
 
 impl Text {
-    /// The text of a string. Takes no memory.
+    /// The text of a string. Allocates nothing.
     pub fn new(string: String) -> Text
         ensures { result ≡ string_bytes string }
     {
@@ -59,7 +59,7 @@ impl Text {
         self.string.as_str().as_bytes()
     }
 
-    /// The string that the text was made of. Takes no memory.
+    /// The string that the text was made of. Allocates nothing.
     pub fn into_string(self) -> String
         ensures { string_bytes result ≡ self }
     {

@@ -2,7 +2,7 @@
 ghost use Rattle.std.specs.Prelude.{◌≡◌, ◌≢◌, ◌-◌, [], OnOk};
 ghost use Rattle.far_extrema.specs.Live.{with_room, HasRoomFor};
 
-use crate::accumulators::extrema::see_all;
+use crate::accumulators::extrema::observe_all;
 use crate::cases::{NamedCase, all_are_right, must_be};
 use crate::lines::{Lines, Name, Row, key_of};
 use far_extrema::{GroupExtrema, LiveExtrema, MinMax, RowsLeft};
@@ -51,7 +51,7 @@ fn make_ready(
     ensures groups { OnOk result (live.new.groups ≡ with_room number live.old.groups) }
     ensures keys { OnOk result (HasRoomFor group.new live.new) }
 {
-    see_all(alloc, group, rows)?;
+    observe_all(alloc, group, rows)?;
     make_room_for(live, number, group)
 }
 
@@ -188,11 +188,11 @@ impl RowsLeft for Left {
 fn follows_rows(live: &mut LiveExtrema, key: &Option<Key>) -> Result<bool, Refusal> {
     live.make_room(1);
     let before = live.span(1, key);
-    live.see_under(1, key, 4)?;
+    live.observe_under(1, key, 4)?;
     let Some(span) = live.span(1, key) else {
         return Ok(false);
     };
-    live.see_over(1, key, 9, span);
+    live.observe_over(1, key, 9, span);
     if live.span(1, key) != Some((4, 9)) {
         return Ok(false);
     }
@@ -201,7 +201,7 @@ fn follows_rows(live: &mut LiveExtrema, key: &Option<Key>) -> Result<bool, Refus
         return Ok(false);
     }
     live.put_span(1, key, Some((3, 5)));
-    live.see_under(1, key, -1)?;
+    live.observe_under(1, key, -1)?;
     Ok(before.is_none() && live.span(1, key) == Some((-1, 5)))
 }
 
@@ -222,12 +222,12 @@ fn a_span_follows_a_row_and_is_put_back(rt: HostRuntime) {
 }
 
 /// Whether rows under a key that a row group has are seen without memory, and each call returns what stood there. The first row
-/// alone may be refused for want of memory.
+/// alone may be refused for lack of memory.
 fn knows_a_key(live: &mut LiveExtrema, key: &Option<Key>) -> Result<bool, Refusal> {
     live.make_room(1);
-    let first = live.see_under(1, key, 4)?;
-    let beyond = live.see_under(1, key, 9);
-    let within = live.see_under(1, key, 5);
+    let first = live.observe_under(1, key, 4)?;
+    let beyond = live.observe_under(1, key, 9);
+    let within = live.observe_under(1, key, 5);
     Ok(first.is_none() && beyond == Ok(Some((4, 4))) && within == Ok(Some((4, 9))))
 }
 

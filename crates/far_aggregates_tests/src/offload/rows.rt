@@ -15,7 +15,7 @@ pub fn put_ints<S: FarStore>(
     numbers: &[Option<i64>],
 ) -> Result<S::Ticket, Refusal>
     requires { length numbers.now < 2 ^ 32 }
-    ensures here { IfOk result (λ ticket. S.is_of ticket (S.name store.now)) }
+    ensures here { IfOk result (λ ticket. S.is_of ticket (S.store_id store.now)) }
     ensures form { IfOk result (λ ticket. IsForm (S.content ticket)) }
 {
     let mut meter = Meter::new();
@@ -57,7 +57,7 @@ pub fn put_texts<S: FarStore>(
     store: &S,
     words: &[Option<&str>],
 ) -> Result<S::Ticket, Refusal>
-    ensures here { IfOk result (λ ticket. S.is_of ticket (S.name store.now)) }
+    ensures here { IfOk result (λ ticket. S.is_of ticket (S.store_id store.now)) }
     ensures form { IfOk result (λ ticket. IsForm (S.content ticket)) }
 {
     let mut meter = Meter::new();

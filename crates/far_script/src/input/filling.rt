@@ -63,7 +63,7 @@ impl<R: Read + Drop> Input<R> {
 
     /// Reads once, and says whether bytes came. They stop at the end of the script alone. Nothing waits to be written
     /// then.
-    pub fn fill(&mut self, gathered: &Page) -> Result<bool, ShellFault>
+    pub fn read_more(&mut self, gathered: &Page) -> Result<bool, ShellFault>
         requires flushed { gathered.now ≡ [] }
         ensures read { OnOk result (Reads R.Read self.old [] self.new) }
         ensures fault { IfErr result (λ fault. fault ≢ ShellFault.BadStart) }

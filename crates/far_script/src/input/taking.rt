@@ -6,7 +6,7 @@ ghost use Rattle.far_script.specs.Faults.{IfInput};
 ghost use Rattle.far_script.specs.Flow.{Holds, IsUnseen, Prints, Reads, Stops, TakesLine, has_failed, span_of, spanned, unread};
 ghost use Rattle.far_script.specs.Lines.{IsOneLine};
 
-use super::{Input, Line, Span};
+use super::{ByteRange, Input, Line};
 use crate::bounded::MAX_READS;
 use crate::fault::ShellFault;
 use crate::output::Output;
@@ -16,7 +16,7 @@ use std::str;
 /// More turns than reads are made for a script.
 const MORE_THAN_READS: u32 = MAX_READS + 1;
 
-impl Span {
+impl ByteRange {
     /// Whether there is no byte.
     pub fn is_empty(self) -> bool
         ensures { IsTrue result ↔ (self.to ≤ self.from) }
@@ -62,7 +62,7 @@ impl<R: Read + Drop> Input<R> {
                 return Ok(Some(end));
             }
             output.flush(writer)?;
-            if !self.fill(&output.page)? {
+            if !self.read_more(&output.page)? {
                 return Ok(None);
             }
         }
@@ -73,7 +73,7 @@ impl<R: Read + Drop> Input<R> {
     }
 
     /// Takes what stands up to a place.
-    fn take(&mut self, end: usize, next: usize) -> Span
+    fn take(&mut self, end: usize, next: usize) -> ByteRange
         requires { (self.old.start ≤ end) × (end ≤ next) × (next ≤ length self.old.held) }
         ensures from { result.from ≡ self.old.start }
         ensures to { result.to ≡ end }
@@ -84,7 +84,7 @@ impl<R: Read + Drop> Input<R> {
         let from = self.start;
         self.start = next;
         self.plain = 0;
-        Span { from, to: end }
+        ByteRange { from, to: end }
     }
 
     /// Takes the next line, whose end is a line feed and a carriage return directly before it, if there is one.
@@ -109,7 +109,7 @@ impl<R: Read + Drop> Input<R> {
         };
         let line = self.take(end, end + 1);
         let whole = line_len(&self.held.as_slice()[line.from..line.to]);
-        Ok(Line::Whole(Span {
+        Ok(Line::Whole(ByteRange {
             from: line.from,
             to: line.from + whole,
         }))
@@ -121,7 +121,7 @@ impl<R: Read + Drop> Input<R> {
         output: &mut Output,
         writer: &mut W,
         count: usize,
-    ) -> Result<Span, ShellFault>
+    ) -> Result<ByteRange, ShellFault>
         ensures span { IfOk result (λ span. Holds R.Read self.new span × (length (spanned R.Read self.new span) ≡ count) × Reads R.Read self.old (spanned R.Read self.new span) self.new) }
         ensures fault { IfErr result (λ fault. fault ≢ ShellFault.BadStart) }
         ensures turns { IfErr result (λ fault. fault ≢ ShellFault.Turns) }
@@ -135,7 +135,7 @@ impl<R: Read + Drop> Input<R> {
                 break;
             }
             output.flush(writer)?;
-            if !self.fill(&output.page)? {
+            if !self.read_more(&output.page)? {
                 return Err(ShellFault::Input);
             }
         }
@@ -147,7 +147,7 @@ impl<R: Read + Drop> Input<R> {
     }
 
     /// The text of a line or of a load that was just taken. Where it is no UTF-8, the fault is `Input`.
-    pub fn text(&self, span: Span) -> Result<&str, ShellFault>
+    pub fn text(&self, span: ByteRange) -> Result<&str, ShellFault>
         requires { Holds R.Read self.now span }
         ensures ok { IfOk result (λ text. (text.now ≡ spanned R.Read self.now span) × IsUtf8 text.now) }
         ensures fault { IfErr result (λ fault. (fault ≡ ShellFault.Input) × ¬ (IsUtf8 (spanned R.Read self.now span))) }

@@ -1,5 +1,5 @@
 use Rattle.std.proofs.Common.{sym, subst}
-use Rattle.far_types.proofs.ByKeyMaps.{sorted_apart}
+use Rattle.far_types.proofs.ByKeyMaps.{sorted_distinct}
 use Rattle.far_extrema.specs.Holders.{holders_of}
 use Rattle.far_extrema.proofs.RoomLaws.{IsFilling, next-room, next-new, filled-next, filled-none, filled-all}
 use Rattle.far_extrema.proofs.holders.fill_all.Goals as goal
@@ -33,7 +33,7 @@ loop-key-init c =
     let m = holders_of c.args.holders.now.entries in
     record {
       filling = subst (IsFilling m m c.args.group c.args.spans.now.entries) (sym c.into_iter-key-iterator.ensures.into_iter_gives.0)
-          (filled-none m c.args.group c.args.spans.now.entries (sorted_apart c.args.spans.now.entries c.into_iter-key-iterator.ensures.into_iter_gives.5) c.requires.room c.requires.new);
+          (filled-none m c.args.group c.args.spans.now.entries (sorted_distinct c.args.spans.now.entries c.into_iter-key-iterator.ensures.into_iter_gives.5) c.requires.room c.requires.new);
     }
 
 pub returns : goal.returns

@@ -4,10 +4,10 @@ use Rattle.std.specs.FinMap as fin
 use Rattle.std.proofs.lemmas.Int.{to_z-of_z}
 use Rattle.std.proofs.lemmas.Option.{slice_get_read}
 use Rattle.far_types.specs.Answers.{Totals}
-use Rattle.far_groups.specs.Tallies.{LeavesTally, without_tally}
+use Rattle.far_groups.specs.CountSums.{LeavesCountSum, without_count_sum}
 use Rattle.far_groups.specs.ByKey.{totals_in}
 use Rattle.far_groups.specs.Folds.{with_pairs}
-use Rattle.far_groups.proofs.FoldLaws.{pairs-next, fewer_fold, fits_at, folded_tallies, last_leaves, last_goes_back}
+use Rattle.far_groups.proofs.FoldLaws.{pairs-next, fewer_fold, fits_at, folded_count_sums, last_leaves, last_goes_back}
 use Rattle.far_groups.proofs.folds.take_back.Goals as goal
 
 pub take-requires-clause-there : goal.take-requires-clause-there
@@ -19,12 +19,12 @@ take-requires-clause-there c =
     let n = c.args.count - 1 - c.loop-done.done in
     let there = slice_get_read pairs _ n pair refl (omega arith) c.index-pairs-count.is in
     let fits = fits_at start pairs n c.args.count pair there (omega arith) came.1 in
-    let one : c.tally_of.result ≡ (1, pair.1) = c.tally_of.ensures.value ∙ ap (λ (v : ℤ). (1, v)) (to_z-of_z w64 pair.1 fits) in
+    let one : c.count_sum_of.result ≡ (1, pair.1) = c.count_sum_of.ensures.value ∙ ap (λ (v : ℤ). (1, v)) (to_z-of_z w64 pair.1 fits) in
     let before = with_pairs start (take n pairs) in
     let is = c.loop-done.invariant.rest start came ∙ pairs-next start pairs (c.args.count - c.loop-done.done) n pair there (omega arith) in
-    let tallied = folded_tallies start (take n pairs) came.0 (fewer_fold start pairs n c.args.count (omega arith) came.1) in
-    subst (λ (t : ℕ × ℤ). LeavesTally t (fin.get (totals_in c.loop-done.tallies) pair.0)) (sym one)
-    (subst (λ (m : Totals). LeavesTally (1, pair.1) (fin.get m pair.0)) (sym is) (last_leaves before pair tallied))
+    let valid_sums = folded_count_sums start (take n pairs) came.0 (fewer_fold start pairs n c.args.count (omega arith) came.1) in
+    subst (λ (t : ℕ × ℤ). LeavesCountSum t (fin.get (totals_in c.loop-done.count_sums) pair.0)) (sym one)
+    (subst (λ (m : Totals). LeavesCountSum (1, pair.1) (fin.get m pair.0)) (sym is) (last_leaves before pair valid_sums))
 
 pub loop-done-preserved : goal.loop-done-preserved
 loop-done-preserved c =
@@ -33,17 +33,17 @@ loop-done-preserved c =
     let n = c.args.count - 1 - c.loop-done.done in
     let there = slice_get_read pairs _ n pair refl (omega arith) c.index-pairs-count.is in
     record {
-      tallied = c.take.ensures.tallied;
+      valid_sums = c.take.ensures.valid_sums;
       rest = λ start came.
           let fits = fits_at start pairs n c.args.count pair there (omega arith) came.1 in
-          let one : c.tally_of.result ≡ (1, pair.1) = c.tally_of.ensures.value ∙ ap (λ (v : ℤ). (1, v)) (to_z-of_z w64 pair.1 fits) in
+          let one : c.count_sum_of.result ≡ (1, pair.1) = c.count_sum_of.ensures.value ∙ ap (λ (v : ℤ). (1, v)) (to_z-of_z w64 pair.1 fits) in
           let before = with_pairs start (take n pairs) in
           let is = c.loop-done.invariant.rest start came ∙ pairs-next start pairs (c.args.count - c.loop-done.done) n pair there (omega arith) in
-          let tallied = folded_tallies start (take n pairs) came.0 (fewer_fold start pairs n c.args.count (omega arith) came.1) in
+          let valid_sums = folded_count_sums start (take n pairs) came.0 (fewer_fold start pairs n c.args.count (omega arith) came.1) in
           let fewer : n ≡ c.args.count - (c.loop-done.done + 1) = omega arith in
           c.take.ensures.less
-          ∙ ap (without_tally (totals_in c.loop-done.tallies) pair.0) one
-          ∙ ap (λ (m : Totals). without_tally m pair.0 (1, pair.1)) is
-          ∙ last_goes_back before pair tallied
+          ∙ ap (without_count_sum (totals_in c.loop-done.count_sums) pair.0) one
+          ∙ ap (λ (m : Totals). without_count_sum m pair.0 (1, pair.1)) is
+          ∙ last_goes_back before pair valid_sums
           ∙ ap (λ k. with_pairs start (take k pairs)) fewer;
     }

@@ -7,23 +7,23 @@ use Rattle.std.proofs.lemmas.Map.Made.{filter_same_pairs}
 use Rattle.far_types.specs.Keys.{line_cmp}
 use Rattle.far_types.proofs.Grouping.{same}
 use Rattle.far_types.proofs.ByKeyMaps.{get_at}
-use Rattle.far_groups.specs.Walks.{tally_at, new_lines}
+use Rattle.far_groups.specs.Walks.{count_sum_at, new_lines}
 use Rattle.far_groups.proofs.RoomLaws.{AreAbsent, first_absent, is_used, keeps_all, keeps_room, used_kept}
 use Rattle.far_groups.proofs.NewLines.{new_absent, new_ascend, made_of, new_joined}
 use Rattle.far_groups.proofs.joins.make_room.Goals as goal
 
 pub returns-in-Ok-clause-ok : goal.returns-in-Ok-clause-ok
 returns-in-Ok-clause-ok c =
-    let es = c.args.tallies.now.entries in
+    let es = c.args.count_sums.now.entries in
     let others = c.args.other.now.entries in
     let made = subst (λ lines. IsFromIterResult line_cmp lines c.in_ok-fresh.fresh) c.in_ok-lines.ensures.ok c.in_ok-fresh.ensures.ok in
     let fresh = made_of (new_lines es others) c.in_ok-fresh.fresh (new_ascend es others c.new_lines.ensures.ordered) made in
     new_joined es c.append.new.self.entries others c.new_lines.ensures.ordered
-    (λ q. c.in-Ok.ensures.inserts_all.0 q ∙ ap (λ lines. update_all (eq_by_cmp line_cmp) (tally_at es) lines q) fresh)
+    (λ q. c.in-Ok.ensures.inserts_all.0 q ∙ ap (λ lines. update_all (eq_by_cmp line_cmp) (count_sum_at es) lines q) fresh)
 
 pub returns-clause-err : goal.returns-clause-err
 returns-clause-err c =
-    let es = c.args.tallies.now.entries in
+    let es = c.args.count_sums.now.entries in
     let others = c.args.other.now.entries in
     let made = subst (λ lines. IsFromIterResult line_cmp lines c.in_ok-fresh.fresh) c.in_ok-lines.ensures.ok c.in_ok-fresh.ensures.ok in
     let fresh = made_of (new_lines es others) c.in_ok-fresh.fresh (new_ascend es others c.new_lines.ensures.ordered) made in
@@ -34,5 +34,5 @@ returns-clause-err c =
     get_at c.retain.new.self.entries q
     ∙ used_kept c.append.new.self.entries c.retain.new.self.entries c.append.ensures.ordered kept q
     ∙ ap (option_filter is_used) (moved.2.0 q)
-    ∙ keeps_room es (tally_at es) moved.0 absent (keeps_all es c.requires.tallied) q
+    ∙ keeps_room es (count_sum_at es) moved.0 absent (keeps_all es c.requires.valid_sums) q
     ∙ sym (get_at es q))

@@ -2,7 +2,7 @@
 ghost use Rattle.std.specs.Prelude.{◌≡◌, ◌<◌, ◌≤◌, ◌+◌, ◌^◌, ◌∷◌, ℕ, [], length, true, None, All, IfOk, IfErr};
 ghost use Rattle.far_types.specs.FirstOf.{first_of};
 ghost use Rattle.far_texts.specs.Texts.{lists_of, HasGroups, IsTextColumn};
-ghost use Rattle.far_texts.specs.Changes.{begins_group};
+ghost use Rattle.far_texts.specs.Effects.{begins_group};
 ghost use Rattle.far_texts.specs.Refusing.{next_length_refusal};
 ghost use Rattle.far_texts.specs.Together.{object_for, next_forms, given_forms, AreNextForms};
 ghost use Rattle.far_texts.specs.RefusingTogether.{any_full};
@@ -48,7 +48,7 @@ pub(super) fn next_form<S: FarTickets>(
     texts: &[Option<Text>],
 ) -> Result<Replacement<u8>, Refusal>
     requires each { All (IsTextColumn (lists_of S.content objects.now)) columns.now }
-    requires even { length texts.now ≡ length columns.now }
+    requires same_length { length texts.now ≡ length columns.now }
     requires one { length columns.now ≡ 1 }
     requires few { All (λ c. begins_group c ≡ true → length objects.now.entries + length columns.now ≤ 2 ^ 28) columns.now }
     requires here { All (λ c. next_length_refusal S.content objects.now c ≡ None) columns.now }
@@ -71,7 +71,7 @@ pub(super) fn next_forms<S: FarTickets>(
     texts: &[Option<Text>],
 ) -> Result<Vec<Replacement<u8>>, Refusal>
     requires each { All (IsTextColumn (lists_of S.content objects.now)) columns.now }
-    requires even { length texts.now ≡ length columns.now }
+    requires same_length { length texts.now ≡ length columns.now }
     requires few { All (λ c. begins_group c ≡ true → length objects.now.entries + length columns.now ≤ 2 ^ 28) columns.now }
     requires here { All (λ c. next_length_refusal S.content objects.now c ≡ None) columns.now }
     requires short { first_of (any_full (lists_of S.content objects.now) columns.now texts.now ∷ []) ≡ None }

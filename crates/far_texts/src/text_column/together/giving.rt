@@ -2,7 +2,7 @@
 ghost use Rattle.std.specs.Prelude.{◌≡◌, if◌then◌else◌, ◌⊎◌, ◌<◌, ◌≤◌, ◌+◌, ◌^◌, ◌∷◌, ℕ, List, [], length, map, true, false, None, Some, All, OnOk, IfErr, OnErr};
 ghost use Rattle.far_types.specs.FirstOf.{first_of};
 ghost use Rattle.far_scopes.specs.Movement.{AreClean, AreHere};
-ghost use Rattle.far_texts.specs.Texts.{Texts, HasGroups, IsTextColumn, AreApart, lists_of, texts_in};
+ghost use Rattle.far_texts.specs.Texts.{Texts, HasGroups, IsTextColumn, AreDisjoint, lists_of, texts_in};
 ghost use Rattle.far_texts.specs.Refusing.{next_length_refusal};
 ghost use Rattle.far_texts.specs.Together.{AreColumns, AreNextForms, all_begin, next_forms, given_forms, all_pushed, all_texts_with, ChangesTo, KeepsColumns, all_created, AreReplaced};
 ghost use Rattle.far_texts.specs.RefusingTogether.{first_tests, push_texts_refusal};
@@ -25,7 +25,7 @@ pub(super) fn give_forms<S: FarTickets>(
     forms: &[Replacement<u8>],
 ) -> Result<(), Refusal>
     requires are { AreColumns (lists_of S.content objects.old) columns.old }
-    requires even { length texts.now ≡ length columns.old }
+    requires same_length { length texts.now ≡ length columns.old }
     requires few { all_begin columns.old ≡ true → length objects.old.entries + length columns.old ≤ 2 ^ 28 }
     requires objects { All (λ c. length c.objects ≤ length objects.old.entries) columns.old }
     requires groups { All HasGroups columns.old }
@@ -42,7 +42,7 @@ pub(super) fn give_forms<S: FarTickets>(
     ensures are { AreColumns (lists_of S.content objects.new) columns.new }
     ensures texts { OnOk result (map (texts_in (lists_of S.content objects.new)) columns.new ≡ all_texts_with (lists_of S.content objects.old) columns.old texts.now) }
     ensures others { KeepsColumns (lists_of S.content objects.old) (lists_of S.content objects.new) columns.old }
-    ensures apart { (d : Texts) → IsTextColumn (lists_of S.content objects.old) d → All (λ c. AreApart c d) columns.old → All (λ c. AreApart c d) columns.new }
+    ensures disjoint { (d : Texts) → IsTextColumn (lists_of S.content objects.old) d → All (λ c. AreDisjoint c d) columns.old → All (λ c. AreDisjoint c d) columns.new }
     ensures clean { AreClean (λ bytes. bytes) S.content objects.old → AreClean (λ bytes. bytes) S.content objects.new }
     ensures store { (name : List ℕ) → AreHere S.is_of name objects.old → AreHere S.is_of name objects.new }
     ensures free { OnOk result (push_texts_refusal S.content objects.old columns.old texts.now ≡ None) }
@@ -65,7 +65,7 @@ pub(super) fn make_forms<S: FarTickets>(
     texts: &[Option<Text>],
 ) -> Result<(), Refusal>
     requires are { AreColumns (lists_of S.content objects.old) columns.old }
-    requires even { length texts.now ≡ length columns.old }
+    requires same_length { length texts.now ≡ length columns.old }
     requires few { all_begin columns.old ≡ true → length objects.old.entries + length columns.old ≤ 2 ^ 28 }
     requires first { first_of (first_tests S.content objects.old columns.old texts.now) ≡ None }
     ensures pushed { OnOk result (columns.new ≡ all_pushed (length objects.old.entries) columns.old) }
@@ -76,7 +76,7 @@ pub(super) fn make_forms<S: FarTickets>(
     ensures are { AreColumns (lists_of S.content objects.new) columns.new }
     ensures texts { OnOk result (map (texts_in (lists_of S.content objects.new)) columns.new ≡ all_texts_with (lists_of S.content objects.old) columns.old texts.now) }
     ensures others { KeepsColumns (lists_of S.content objects.old) (lists_of S.content objects.new) columns.old }
-    ensures apart { (d : Texts) → IsTextColumn (lists_of S.content objects.old) d → All (λ c. AreApart c d) columns.old → All (λ c. AreApart c d) columns.new }
+    ensures disjoint { (d : Texts) → IsTextColumn (lists_of S.content objects.old) d → All (λ c. AreDisjoint c d) columns.old → All (λ c. AreDisjoint c d) columns.new }
     ensures clean { AreClean (λ bytes. bytes) S.content objects.old → AreClean (λ bytes. bytes) S.content objects.new }
     ensures store { (name : List ℕ) → AreHere S.is_of name objects.old → AreHere S.is_of name objects.new }
     ensures free { OnOk result (push_texts_refusal S.content objects.old columns.old texts.now ≡ None) }

@@ -44,8 +44,8 @@ leave_out-to_retract-requires g c =
     let as_many = ap length c.in_ok-applied.ensures.deltas ∙ length-map c.reserve_all.new.slots _ in
     many ∙ sym as_many ∙ sym (ap length c.as_slice.ensures.value)
 
-pub returns-clause-goes : goal.returns-clause-goes
-returns-clause-goes g c = λ places there kept fit.
+pub returns-clause-retracts : goal.returns-clause-retracts
+returns-clause-retracts g c = λ places there kept fit.
     let same : c.as_mut_slice-slots.result.now ≡ c.args.self.now = c.as_mut_slice-slots.ensures.value ∙ c.self.view_is in
     let before : KeepsAsBefore c.args.self.now c.reserve_all.new.slots = λ size places h. c.reserve_all.ensures.kept size places (subst (Keeps size places) (sym same) h) in
     let many : length c.apply_deltas.new.slots ≡ c.self.inside.slots.len = omega arith in

@@ -22,8 +22,8 @@ returns-clause-unchanged g c = λ size places h.
     let whole = written c.self.inside.slots.len c.reserve_all.new.slots c.self.inside.slots.items many in
     subst (Keeps size places) (sym whole) (before size places h)
 
-pub returns-clause-goes : goal.returns-clause-goes
-returns-clause-goes g c = λ places there kept.
+pub returns-clause-retracts : goal.returns-clause-retracts
+returns-clause-retracts g c = λ places there kept.
     let same : c.as_mut_slice-slots.result.now ≡ c.args.self.now = c.as_mut_slice-slots.ensures.value ∙ c.self.view_is in
     let before : KeepsAsBefore c.args.self.now c.reserve_all.new.slots = λ size places h. c.reserve_all.ensures.kept size places (subst (Keeps size places) (sym same) h) in
     let many : length c.reserve_all.new.slots ≡ c.self.inside.slots.len = omega arith in

@@ -1,7 +1,7 @@
 use Rattle.std.proofs.Common.{subst, Option, Some}
 use Rattle.std.specs.Prelude.{ℤ}
 use Rattle.std.proofs.lemmas.Int.{to_z-of_z}
-use Rattle.far_types.specs.Changes.{widened}
+use Rattle.far_types.specs.Effects.{widened}
 use Rattle.far_extrema.specs.Spreads.{IsSet}
 use Rattle.far_extrema.proofs.holder.Holder.see.Goals as goal
 

@@ -3,11 +3,11 @@ use Rattle.std.specs.Prelude.{ℤ, All, option_map, slice_get, slice_set}
 use Rattle.std.specs.Option.{option_map_or}
 use Rattle.std.proofs.lemmas.Option.{slice_get-get_or, slice_get-map, get_or_from_slice_get}
 use Rattle.far_scopes.specs.Movement.{Movement, AreHere, version_of}
-use Rattle.far_vector.specs.Vector.{Vector, IsVector, AreApart, IsUntouched, object_at}
+use Rattle.far_vector.specs.Vector.{Vector, IsVector, AreDisjoint, IsUntouched, object_at}
 use Rattle.far_vector.specs.Effects.{range_written}
 use Rattle.far_columns.specs.Numbers.{number_lists, numbers_in}
 use Rattle.far_columns.specs.NumbersTogether.{NumberColumns}
-use Rattle.far_rows.specs.declared.slot.Slot.TheVariants as slot
+use Rattle.far_rows.specs.declared.column_index.ColumnIndex.TheVariants as column_index
 use Rattle.far_rows.specs.declared.new_cell.NewCell.TheVariants as new
 use Rattle.far_rows.specs.Naming.{names_of, AreNamed, AreOwned}
 use Rattle.far_rows.specs.Rows.{AreRows, all_numbers}
@@ -30,10 +30,10 @@ invariant_of-self g c =
     let at : slice_get columns c.args.i ≡ Some v = slice_get-get_or columns c.args.i v within ∙ ap Some (sym c.index_mut.ensures.value) in
     let same : slice_set columns c.args.i c.set.new.self ≡ columns = ap (slice_set columns c.args.i) done.kept ∙ set-same columns c.args.i v at in
     let is = subst (IsVector (number_lists content now)) done.kept done.is in
-    let apart = subst (λ d. (w : Vector (Option ℤ)) → IsVector (number_lists content m) w → AreApart v w → IsUntouched (number_lists content m) (number_lists content now) d w) done.kept done.apart in
+    let disjoint = subst (λ d. (w : Vector (Option ℤ)) → IsVector (number_lists content m) w → AreDisjoint v w → IsUntouched (number_lists content m) (number_lists content now) d w) done.kept done.disjoint in
     let names : names_of now ≡ names_of m = ap names_of done.written ∙ names-written m (object_at v c.args.place) in
     let rows : AreRows content record {
-      slots = c.self.inside.slots.items;
+      column_indexes = c.self.inside.column_indexes.items;
       size = c.self.inside.size;
       numbers = columns;
       texts = c.self.inside.texts.items;
@@ -41,17 +41,17 @@ invariant_of-self g c =
       text_objects = c.self.inside.text_objects;
       alive = c.self.inside.alive;
     } = record {
-      slots = inv.slots;
+      column_indexes = inv.column_indexes;
       few = inv.few;
       some = inv.some;
       small = inv.small;
       places = inv.places;
-      numbers = numbers-still (number_lists content m) (number_lists content now) columns inv.numbers c.args.i v at is apart;
+      numbers = numbers-still (number_lists content m) (number_lists content now) columns inv.numbers c.args.i v at is disjoint;
       texts = inv.texts;
       shaped = inv.shaped;
       grouped = inv.grouped;
-      even_numbers = inv.even_numbers;
-      even_texts = inv.even_texts;
+      same_length_numbers = inv.same_length_numbers;
+      same_length_texts = inv.same_length_texts;
       number_objects = subst (λ n. All (λ (w : Vector (Option ℤ)). n ≡ length columns * length w.objects) columns) (sym (as-many m now names)) inv.number_objects;
       text_objects = inv.text_objects;
       numbered = inv.numbered;
@@ -79,7 +79,7 @@ returns-clause-moved g c =
     let put : Vector (Option ℤ) → Movement (Option ℤ) g.row.S-Ticket.Denot = λ w. range_written m w place (c.args.number ∷ []) in
     let written : c.set.new.objects ≡ option_map_or put (slice_get columns c.args.i) m = done.written ∙ sym (ap (λ o. option_map_or put o m) at) in
     (λ j. record {
-      slots = c.self.inside.slots.items;
+      column_indexes = c.self.inside.column_indexes.items;
       size = c.self.inside.size;
       numbers = same j;
       texts = c.self.inside.texts.items;
@@ -87,7 +87,7 @@ returns-clause-moved g c =
       text_objects = c.self.inside.text_objects;
       alive = c.self.inside.alive;
     })
-    ∙ ap (λ r. set_in g.S.FarTickets.content r (slot.Number c.args.i) place (new.Number c.args.number)) c.self.view_is
+    ∙ ap (λ r. set_in g.S.FarTickets.content r (column_index.Number c.args.i) place (new.Number c.args.number)) c.self.view_is
 
 pub returns-clause-numbers : goal.returns-clause-numbers
 returns-clause-numbers g c =
@@ -105,12 +105,12 @@ returns-clause-numbers g c =
     let at : slice_get columns i ≡ Some v = slice_get-get_or columns i v within ∙ ap Some (sym c.index_mut.ensures.value) in
     let same : slice_set columns i c.set.new.self ≡ columns = ap (slice_set columns i) done.kept ∙ set-same columns i v at in
     let is = subst (IsVector (number_lists content now)) done.kept done.is in
-    let apart = subst (λ d. (w : Vector (Option ℤ)) → IsVector (number_lists content m) w → AreApart v w → IsUntouched (number_lists content m) (number_lists content now) d w) done.kept done.apart in
+    let disjoint = subst (λ d. (w : Vector (Option ℤ)) → IsVector (number_lists content m) w → AreDisjoint v w → IsUntouched (number_lists content m) (number_lists content now) d w) done.kept done.disjoint in
     let was = map (numbers_in content m) columns in
     let here : numbers_in content m v ≡ get_or was i [] = sym (get_or_from_slice_get was i (numbers_in content m v) [] (slice_get-map (numbers_in content m) columns i ∙ ap (option_map (numbers_in content m)) at)) in
     let own : numbers_in content now v ≡ slice_set (get_or was i []) place number = ap (numbers_in content now) (sym done.kept) ∙ done.numbers ∙ ap (λ l. slice_set l place number) here in
     ap (map (numbers_in content now)) same
-    ∙ numbers-set (number_lists content m) (number_lists content now) columns inv.numbers i v at is apart
+    ∙ numbers-set (number_lists content m) (number_lists content now) columns inv.numbers i v at is disjoint
     ∙ ap (slice_set was i) own
     ∙ ap (λ r. slice_set (all_numbers content r) i (slice_set (get_or (all_numbers content r) i []) place number)) c.self.view_is
 

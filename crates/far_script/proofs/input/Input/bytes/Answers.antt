@@ -17,21 +17,21 @@ returns-clause-span g c =
       reads-range g.R.Read c.args.self.now c.loop.self c.take.new.self c.take.result.from c.take.result.to c.loop.invariant.0 e.source e.held (e.start ∙ sym e.to) e.from (grind (arith, e.from, e.to)),
     )
 
-pub returns-in_err-fill-clause-stopped : goal.returns-in_err-fill-clause-stopped
-returns-in_err-fill-clause-stopped g c =
+pub returns-in_err-read_more-clause-stopped : goal.returns-in_err-read_more-clause-stopped
+returns-in_err-read_more-clause-stopped g c =
     let k = dropped c.loop.self.held c.loop.self.start (front-within c.loop.self.start c.loop.self.plain (length c.loop.self.held) c.loop.self.known) in
     let low : length (unread g.R.Read c.loop.self) < c.args.count = grind (arith, k, c.if-len-self.false, c.len.ensures) in
-    let why = c.in_err-fill.field-0.0 in
-    handed-on c.from_residual-in_err-fill.result why _ c.from_residual-in_err-fill.ensures.1
-    (if-input why _ _ (λ same. stops-still g.R.Read c.args.self.now c.loop.self c.fill.new.self (λ bytes. length bytes < c.args.count) c.loop.invariant.0 same.0 low) c.in_err-fill.ensures.stopped)
+    let why = c.in_err-read_more.field-0.0 in
+    handed-on c.from_residual-in_err-read_more.result why _ c.from_residual-in_err-read_more.ensures.1
+    (if-input why _ _ (λ same. stops-still g.R.Read c.args.self.now c.loop.self c.read_more.new.self (λ bytes. length bytes < c.args.count) c.loop.invariant.0 same.0 low) c.in_err-read_more.ensures.stopped)
 
 pub returns-then-not-branch-clause-stopped : goal.returns-then-not-branch-clause-stopped
 returns-then-not-branch-clause-stopped g c =
     let k = dropped c.loop.self.held c.loop.self.start (front-within c.loop.self.start c.loop.self.plain (length c.loop.self.held) c.loop.self.known) in
     let low : length (unread g.R.Read c.loop.self) < c.args.count = grind (arith, k, c.if-len-self.false, c.len.ensures) in
-    let same : unread g.R.Read c.fill.new.self ≡ unread g.R.Read c.loop.self = (c.in_ok-fill.ensures.ended c.if-not-branch.true).1 in
-    stops-still g.R.Read c.args.self.now c.fill.new.self c.fill.new.self (λ bytes. length bytes < c.args.count)
-    (reads-then g.R.Read c.args.self.now c.loop.self c.fill.new.self [] [] c.loop.invariant.0 c.in_ok-fill.ensures.read) refl (rw same low)
+    let same : unread g.R.Read c.read_more.new.self ≡ unread g.R.Read c.loop.self = (c.in_ok-read_more.ensures.ended c.if-not-branch.true).1 in
+    stops-still g.R.Read c.args.self.now c.read_more.new.self c.read_more.new.self (λ bytes. length bytes < c.args.count)
+    (reads-then g.R.Read c.args.self.now c.loop.self c.read_more.new.self [] [] c.loop.invariant.0 c.in_ok-read_more.ensures.read) refl (rw same low)
 
 pub returns-then-len-self-2-clause-stopped : goal.returns-then-len-self-2-clause-stopped
 returns-then-len-self-2-clause-stopped g c =
@@ -41,11 +41,11 @@ returns-then-len-self-2-clause-stopped g c =
 pub returns-in_err-flush-clause-asked : goal.returns-in_err-flush-clause-asked
 returns-in_err-flush-clause-asked g c = c.loop.invariant.2
 
-pub returns-in_err-fill-clause-asked : goal.returns-in_err-fill-clause-asked
-returns-in_err-fill-clause-asked g c = omega (arith, c.fill.ensures.asked, c.loop.invariant.2)
+pub returns-in_err-read_more-clause-asked : goal.returns-in_err-read_more-clause-asked
+returns-in_err-read_more-clause-asked g c = omega (arith, c.read_more.ensures.asked, c.loop.invariant.2)
 
 pub returns-then-not-branch-clause-asked : goal.returns-then-not-branch-clause-asked
-returns-then-not-branch-clause-asked g c = omega (arith, c.fill.ensures.asked, c.loop.invariant.2)
+returns-then-not-branch-clause-asked g c = omega (arith, c.read_more.ensures.asked, c.loop.invariant.2)
 
 pub returns-then-len-self-2-clause-asked : goal.returns-then-len-self-2-clause-asked
 returns-then-len-self-2-clause-asked g c = c.loop.invariant.2

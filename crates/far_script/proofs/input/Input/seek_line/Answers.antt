@@ -18,24 +18,24 @@ loop-turn-preserved g c =
     let i = c.loop-turn.invariant in
     let p = reads-looked g.R.Read c.args.self.now c.loop-turn.self c.line_end.new.self i.0 e.source e.held e.start in
     let more = c.if-not-branch.false in
-    let taken = rw e.source at (c.in_ok-fill.ensures.taken more) in (
-      reads-then g.R.Read c.args.self.now c.line_end.new.self c.fill.new.self [] [] p c.in_ok-fill.ensures.read,
+    let taken = rw e.source at (c.in_ok-read_more.ensures.taken more) in (
+      reads-then g.R.Read c.args.self.now c.line_end.new.self c.read_more.new.self [] [] p c.in_ok-read_more.ensures.read,
       prints-then-nothing _ _ _ c.args.output.now.page [] c.loop-turn.output.page _ i.1 c.flush.ensures.printed,
       omega (arith, taken, i.2),
-      λ low. c.in_ok-fill.ensures.going more,
+      λ low. c.in_ok-read_more.ensures.going more,
     )
 
 pub returns-in_err-flush-clause-printed : goal.returns-in_err-flush-clause-printed
 returns-in_err-flush-clause-printed g c = prints-then-nothing _ _ _ c.args.output.now.page [] c.loop-turn.output.page _ c.loop-turn.invariant.1 c.flush.ensures.printed
 
-pub returns-in_err-fill-clause-stopped : goal.returns-in_err-fill-clause-stopped
-returns-in_err-fill-clause-stopped g c =
+pub returns-in_err-read_more-clause-stopped : goal.returns-in_err-read_more-clause-stopped
+returns-in_err-read_more-clause-stopped g c =
     let e = c.line_end.ensures in
     let p = reads-looked g.R.Read c.args.self.now c.loop-turn.self c.line_end.new.self c.loop-turn.invariant.0 e.source e.held e.start in
     let none : IsOneLine (unread g.R.Read c.line_end.new.self) = none-of c.line_end.result _ c.in_default.not-Some c.line_end.ensures.none in
-    let why = c.in_err-fill.field-0.0 in
-    handed-on c.from_residual-in_err-fill.result why _ c.from_residual-in_err-fill.ensures.1
-    (if-input why _ _ (λ same. stops-still g.R.Read c.args.self.now c.line_end.new.self c.fill.new.self IsOneLine p same.0 none) c.in_err-fill.ensures.stopped)
+    let why = c.in_err-read_more.field-0.0 in
+    handed-on c.from_residual-in_err-read_more.result why _ c.from_residual-in_err-read_more.ensures.1
+    (if-input why _ _ (λ same. stops-still g.R.Read c.args.self.now c.line_end.new.self c.read_more.new.self IsOneLine p same.0 none) c.in_err-read_more.ensures.stopped)
 
 pub returns-in-None-clause-stopped : goal.returns-in-None-clause-stopped
 returns-in-None-clause-stopped g c =
@@ -49,11 +49,11 @@ returns-in-Some-clause-asked g c = rw c.line_end.ensures.source (fewer _ _ _ c.l
 pub returns-in_err-flush-clause-asked : goal.returns-in_err-flush-clause-asked
 returns-in_err-flush-clause-asked g c = rw c.line_end.ensures.source (fewer _ _ _ c.loop-turn.invariant.2)
 
-pub returns-in_err-fill-clause-asked : goal.returns-in_err-fill-clause-asked
-returns-in_err-fill-clause-asked g c = let asked = rw c.line_end.ensures.source at c.fill.ensures.asked in omega (arith, asked, c.loop-turn.invariant.2)
+pub returns-in_err-read_more-clause-asked : goal.returns-in_err-read_more-clause-asked
+returns-in_err-read_more-clause-asked g c = let asked = rw c.line_end.ensures.source at c.read_more.ensures.asked in omega (arith, asked, c.loop-turn.invariant.2)
 
 pub returns-then-not-branch-clause-asked : goal.returns-then-not-branch-clause-asked
-returns-then-not-branch-clause-asked g c = let asked = rw c.line_end.ensures.source at c.fill.ensures.asked in omega (arith, asked, c.loop-turn.invariant.2)
+returns-then-not-branch-clause-asked g c = let asked = rw c.line_end.ensures.source at c.read_more.ensures.asked in omega (arith, asked, c.loop-turn.invariant.2)
 
 pub returns-in-Some-line_end-clause-asked : goal.returns-in-Some-line_end-clause-asked
 returns-in-Some-line_end-clause-asked g c = rw c.line_end-2.ensures.source (fewer _ _ _ c.loop-turn.invariant.2)
@@ -61,11 +61,11 @@ returns-in-Some-line_end-clause-asked g c = rw c.line_end-2.ensures.source (fewe
 pub returns-in-None-clause-asked : goal.returns-in-None-clause-asked
 returns-in-None-clause-asked g c = rw c.line_end-2.ensures.source (fewer _ _ _ c.loop-turn.invariant.2)
 
-pub returns-in_err-fill-clause-unseen : goal.returns-in_err-fill-clause-unseen
-returns-in_err-fill-clause-unseen g c =
-    let why = c.in_err-fill.field-0.0 in
-    handed-on c.from_residual-in_err-fill.result why _ c.from_residual-in_err-fill.ensures.1
-    (if-unseen g.R.Read why c.args.self.now c.line_end.new.self c.fill.new.self (rw c.line_end.ensures.source (fewer _ _ _ c.loop-turn.invariant.2)) c.in_err-fill.ensures.unseen)
+pub returns-in_err-read_more-clause-unseen : goal.returns-in_err-read_more-clause-unseen
+returns-in_err-read_more-clause-unseen g c =
+    let why = c.in_err-read_more.field-0.0 in
+    handed-on c.from_residual-in_err-read_more.result why _ c.from_residual-in_err-read_more.ensures.1
+    (if-unseen g.R.Read why c.args.self.now c.line_end.new.self c.read_more.new.self (rw c.line_end.ensures.source (fewer _ _ _ c.loop-turn.invariant.2)) c.in_err-read_more.ensures.unseen)
 
 pub returns-in-None-clause-unseen : goal.returns-in-None-clause-unseen
 returns-in-None-clause-unseen g c =

@@ -40,8 +40,8 @@ returns-clause-is g c =
     let below = within g c in
     vector-written (list_of g.T.Elem.meaning g.S.FarTickets.content c.args.objects.now) (list_of g.T.Elem.meaning g.S.FarTickets.content c.write.new.objects) c.args.self.now c.len-len.ensures.shaped c.requires.is c.args.i (c.args.x ∷ []) (placed g c) (omega (arith, below))
 
-pub returns-clause-apart : goal.returns-clause-apart
-returns-clause-apart g c = λ w is apart.
+pub returns-clause-disjoint : goal.returns-clause-disjoint
+returns-clause-disjoint g c = λ w is disjoint.
     let shaped = c.len-len.ensures.shaped in
     let below = within g c in
-    untouched (list_of g.T.Elem.meaning g.S.FarTickets.content c.args.objects.now) (list_of g.T.Elem.meaning g.S.FarTickets.content c.write.new.objects) c.args.self.now w is apart (object_at c.args.self.now c.args.i) (others g c) (c.args.i / c.args.self.now.size) (object-there c.args.self.now shaped c.args.i (omega (arith, below, shaped.enough))) c.args.self.now apart
+    untouched (list_of g.T.Elem.meaning g.S.FarTickets.content c.args.objects.now) (list_of g.T.Elem.meaning g.S.FarTickets.content c.write.new.objects) c.args.self.now w is disjoint (object_at c.args.self.now c.args.i) (others g c) (c.args.i / c.args.self.now.size) (object-there c.args.self.now shaped c.args.i (omega (arith, below, shaped.enough))) c.args.self.now disjoint

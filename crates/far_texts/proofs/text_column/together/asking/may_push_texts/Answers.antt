@@ -27,7 +27,7 @@ returns g c =
     c.may_place_forms.ensures ∙ second-asked (push_texts_refusal content m columns texts) _ behind (due-measured content m columns texts) c.in_ok-may_measure_forms.ensures.refused
 
 pub bounds-texts-0 : goal.bounds-texts-0
-bounds-texts-0 g c = omega (arith, c.requires.even)
+bounds-texts-0 g c = omega (arith, c.requires.same_length)
 
 pub returns-then-columns-eq1 : goal.returns-then-columns-eq1
-returns-then-columns-eq1 g c = c.may_push.ensures ∙ one-asked g.S.FarTickets.content c.args.objects.now c.args.columns.now c.args.texts.now c.index-columns-0.result c.index-texts-0.result (omega arith) c.requires.even c.index-columns-0.is c.index-texts-0.is
+returns-then-columns-eq1 g c = c.may_push.ensures ∙ one-asked g.S.FarTickets.content c.args.objects.now c.args.columns.now c.args.texts.now c.index-columns-0.result c.index-texts-0.result (omega arith) c.requires.same_length c.index-columns-0.is c.index-texts-0.is

@@ -1,7 +1,7 @@
 use Rattle.std.proofs.Common.{ap, ◌∙◌}
 use Rattle.std.proofs.lemmas.List.Sums.{list_all-from_AllPass}
 use Rattle.far_texts.specs.Texts.{Lists, lists_of}
-use Rattle.far_texts.specs.Changes.{begins_group}
+use Rattle.far_texts.specs.Effects.{begins_group}
 use Rattle.far_texts.specs.Together.{given_forms}
 use Rattle.far_texts.proofs.Checking.{all-begin}
 use Rattle.far_texts.proofs.Free.{none-full, all-here}
