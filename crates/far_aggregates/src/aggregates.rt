@@ -23,6 +23,7 @@ use super::reserve::reserve_all;
 use super::retract::{needs_rows, retract_all, retract_totals};
 use super::scans::build_at;
 use super::spare_keys::SpareKeys;
+use far_reciprocal::Reciprocal;
 use far_types::{Answer, CellRef, LendCells, Refusal, Spec};
 use std::alloc::Global;
 use std::marker::Model;
@@ -37,6 +38,8 @@ pub struct Aggregates {
     /// The lists of an edit that has ended, for the next one, so that it makes none.
     lists: Pending,
     spare_keys: SpareKeys,
+    /// A hint for divisions by how many places a row group has.
+    reciprocal: Reciprocal,
 }
 
 impl Model for Aggregates {
@@ -73,7 +76,18 @@ impl Aggregates {
             slots: Vec::new(alloc),
             lists: Pending::nothing(alloc),
             spare_keys: SpareKeys::new(alloc),
+            reciprocal: Reciprocal::new(1),
         }
+    }
+
+    // The row group of a place.
+    #[inline(always)]
+    fn group_of(&self, place: usize, size: u32) -> u32
+        requires size { 0 < size }
+        requires few { place ≤ 2 ^ 24 }
+        ensures { result ≡ place / size }
+    {
+        self.reciprocal.quotient(place, size as usize) as u32
     }
 
     /// Whether none was ever registered, so that an edit has nothing to keep. Allocates nothing.
@@ -110,6 +124,7 @@ impl Aggregates {
         ensures unchanged { OnErr result (self.new ≡ self.old) }
         ensures memory { IfErr result (λ e. e ≡ Refusal.NoMemory) }
     {
+        self.reciprocal = Reciprocal::new(size as usize);
         register(alloc, &mut self.slots, a, spec, registration, size, places)
     }
 
@@ -223,7 +238,7 @@ impl Aggregates {
         if self.slots.is_empty() {
             return Ok(Pending::nothing(alloc));
         }
-        let group = (place / size as usize) as u32;
+        let group = self.group_of(place, size);
         let Pending {
             applied,
             mut to_retract,
@@ -270,7 +285,7 @@ impl Aggregates {
         ensures registered { registered_of self.new ≡ registered_of self.old }
         ensures memory { IfErr result (λ e. e ≡ Refusal.NoMemory) }
     {
-        let group = (place / size as usize) as u32;
+        let group = self.group_of(place, size);
         let Pending {
             applied,
             to_retract,
@@ -321,7 +336,7 @@ impl Aggregates {
         ensures registered { registered_of self.new ≡ registered_of self.old }
         ensures memory { IfErr result (λ e. e ≡ Refusal.NoMemory) }
     {
-        let group = (place / size as usize) as u32;
+        let group = self.group_of(place, size);
         let Pending {
             mut applied,
             to_retract,

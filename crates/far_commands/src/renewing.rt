@@ -1,5 +1,5 @@
 // A table that goes on with a new store.
-ghost use Rattle.std.specs.Prelude.{◌≡◌, ◌++◌, ◌+◌, ◌≤◌, ◌<◌, ◌^◌, OnOk, IfErr, IsErrAnd, IsOkAnd};
+ghost use Rattle.std.specs.Prelude.{◌≡◌, ◌+◌, ◌≤◌, ◌<◌, ◌^◌, OnOk, IfErr, IsErrAnd, IsOkAnd};
 ghost use Rattle.far_frame.specs.Renewing.{IsMigratedTo};
 ghost use Rattle.far_commands.specs.Renewals.{IsRenewed, IsNotRenewed, Renews};
 

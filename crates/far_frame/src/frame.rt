@@ -92,6 +92,13 @@ impl<S: FarTickets> Frame<S> {
         })
     }
 
+    /// Cells that are needed no more: a row to come may be made in their memory. Allocates nothing.
+    pub fn spare_cells(&mut self) -> Vec<Cell>
+        ensures { self.new ≡ self.old }
+    {
+        self.table.spare_cells()
+    }
+
     /// Appends a row and gives its place. Refused with `WrongKind` (5) if a cell is of another kind than its column,
     /// `RowWidth` (6), `TextTooLong` (7), `TableFull` (10), `Absent` (16) if the last row group is begun and an object of it
     /// is away, `ChunkFull` (11), `RegionFull` (17), `EditsUsedUp` (24) and `NoMemory` (1): the first that applies.

@@ -15,7 +15,7 @@ use super::frame::Frame;
 use super::step::{Reply, Step};
 use super::waiting::Waiting;
 use far_store::{FarStore, Meter};
-use far_types::{Edit, Refusal};
+use far_types::{Cell, Edit, Refusal};
 use std::alloc::Global;
 use std::marker::Model;
 
@@ -91,6 +91,13 @@ impl<S: FarStore> World<S> {
         ensures { result ≡ self.now.faults }
     {
         self.meter.faults()
+    }
+
+    /// Cells that are needed no more: the row of an edit to come may be made in their memory. Allocates nothing.
+    pub fn spare_cells(&mut self) -> Vec<Cell>
+        ensures { self.new ≡ self.old }
+    {
+        self.frame.spare_cells()
     }
 
     /// Serves an edit, as its step is served. No fault is met.

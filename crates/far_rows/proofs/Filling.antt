@@ -1,7 +1,8 @@
 -- What a row has at each index, while its cells are taken one by one.
 use Rattle.std.proofs.Common.{◌≡◌, ◌≢◌, ℕ, zero, suc, ◌+◌, ◌<◌, Bool, true, false, List, [], ◌∷◌, ◌++◌, map, length, take, get_or, None, refl, sym, ap, ◌∙◌, arith}
 use Rattle.std.specs.Prelude.{◌&&◌, All, AllPairs}
-use Rattle.std.proofs.lemmas.List.{get_or-set_same, get_or-set_other, get_or-take, get_or_default, length-set, length-take, map-append, take_more}
+use Rattle.std.proofs.Common.{drop, set}
+use Rattle.std.proofs.lemmas.List.{get_or-set_same, get_or-set_other, get_or-take, get_or-drop, get_or_default, length-set, length-take, drop-set-lt, drop-drop, map-append, take_more}
 use Rattle.std.proofs.lemmas.List.Elements.{All-head, All-tail}
 use Rattle.far_types.specs.declared.cell.Cell.{Cell}
 use Rattle.far_types.specs.declared.cell.Cell.TheVariants as cell
@@ -31,6 +32,23 @@ kind-at (first ∷ column_indexes) (new ∷ row) (suc i) s d fit a b = kind-at c
 pub kind-next : (column_indexes : List ColumnIndex) (row : List Cell) (i j : ℕ) (s : ColumnIndex) (new : Cell) → kinds_fit (map kind_of column_indexes) row ≡ true → i ≡ j → i < length column_indexes → (j < length row) × (new ≡ get_or row j new) → is_of_kind (kind_of (get_or column_indexes i s)) new ≡ true
 kind-next column_indexes row i j s new fit same within turn =
     ap (is_of_kind (kind_of (get_or column_indexes i s))) (turn.1 ∙ ap (λ n. get_or row n new) (sym same)) ∙ kind-at column_indexes row i s new fit within (omega (arith, turn.0))
+
+-- the cells that are not taken yet are those of the row
+pub same-next : (cells row : List Cell) (n : ℕ) (d : Cell) → drop n cells ≡ drop n row → get_or cells n d ≡ get_or row n d
+same-next cells row n d rest =
+    let here : n + 0 ≡ n = omega arith in
+    sym (get_or-drop n cells 0 d ∙ ap (λ i. get_or cells i d) here) ∙ ap (λ l. get_or l 0 d) rest ∙ get_or-drop n row 0 d ∙ ap (λ i. get_or row i d) here
+
+-- also once the next one is taken, and something else is put in its place
+pub same-later : (cells row : List Cell) (n : ℕ) (a b : Cell) → drop n cells ≡ drop n row → drop (n + 1) (set (set cells n a) n b) ≡ drop (n + 1) row
+same-later cells row n a b rest =
+    drop-set-lt (n + 1) (set cells n a) n b (omega arith)
+    ∙ drop-set-lt (n + 1) cells n a (omega arith)
+    ∙ sym (drop-drop 1 n cells) ∙ ap (drop 1) rest ∙ drop-drop 1 n row
+
+-- the cells that are taken, and one more
+pub taken-more : (row taken : List Cell) (n : ℕ) (new : Cell) → n < length row → new ≡ get_or row n new → taken ≡ take n row → taken ++ new ∷ [] ≡ take (n + 1) row
+taken-more row taken n new within is so-far = ap (λ cells. cells ++ new ∷ []) so-far ∙ ap (λ cell. take n row ++ cell ∷ []) is ∙ sym (take_more row n new within)
 
 -- the indexes that come before one are others
 others-before : (column_indexes : List ColumnIndex) (n : ℕ) (s : ColumnIndex) → AllPairs (λ s t. s ≢ t) column_indexes → n < length column_indexes → All (λ t. t ≢ get_or column_indexes n s) (take n column_indexes)

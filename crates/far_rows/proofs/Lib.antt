@@ -37,6 +37,7 @@ pub mod InUse
 pub mod Moved
 pub mod Renewed
 pub mod Reading
+pub mod AllHere
 pub mod RowCells
 pub mod LentNumbers
 pub mod LentTexts

@@ -13,6 +13,7 @@ use super::new_row_ref::NewRowRef;
 use far_types::{Cell, CellRef, Kind, LentRow, Refusal, Row, Text};
 use std::alloc::Global;
 use std::marker::Model;
+use std::mem;
 
 /// The values of a row that is to come, those of its columns of numbers and those of its columns of texts apart. It is
 /// made once for a table, and filled for each row without memory.
@@ -20,6 +21,8 @@ use std::marker::Model;
 pub struct NewRow {
     numbers: Vec<Option<i64>>,
     texts: Vec<Option<Text>>,
+    // The list of the row that was taken last. Its texts are those of the row before.
+    spare: Vec<Cell>,
 }
 
 impl Model for NewRow {
@@ -45,6 +48,7 @@ impl NewRow {
         Ok(NewRow {
             numbers: nothing(alloc, numbers)?,
             texts: nothing(alloc, texts)?,
+            spare: Vec::new(alloc),
         })
     }
 
@@ -58,23 +62,38 @@ impl NewRow {
         ensures numbers { length self.new.numbers ≡ length self.old.numbers }
         ensures texts { length self.new.texts ≡ length self.old.texts }
     {
-        let mut column = 0;
-        for cell in row.into_cells() {
-            self.put(column_indexes[column], cell);
-            column += 1;
+        let mut cells = row.into_cells();
+        for column in 0..cells.len() {
+            let cell = mem::replace(&mut cells[column], Cell::Missing);
+            cells[column] = self.put(column_indexes[column], cell);
         }
+        self.spare = cells;
     }
 
-    // Takes a cell, which is of the kind of its index.
-    fn put(&mut self, column_index: ColumnIndex, cell: Cell)
+    /// Cells that are needed no more: a row to come may be made in their memory. Allocates nothing.
+    pub fn spare_cells(&mut self) -> Vec<Cell>
+        ensures { self.new ≡ self.old }
+    {
+        let alloc = *self.spare.allocator();
+        mem::replace(&mut self.spare, Vec::new(alloc))
+    }
+
+    // Takes a cell, which is of the kind of its index, and gives back a text that stood there.
+    fn put(&mut self, column_index: ColumnIndex, cell: Cell) -> Cell
         requires within { IsWithin (length self.old.numbers) (length self.old.texts) column_index }
         requires of_kind { is_of_kind (kind_of column_index) cell ≡ true }
         requires short { is_too_long cell ≡ false }
         ensures { self.new ≡ with_value self.old column_index cell }
     {
         match column_index {
-            ColumnIndex::Number(number) => self.numbers[number] = number_of(cell),
-            ColumnIndex::Text(text) => self.texts[text] = text_of(cell),
+            ColumnIndex::Number(number) => {
+                self.numbers[number] = number_of(cell);
+                Cell::Missing
+            }
+            ColumnIndex::Text(text) => {
+                let new = text_of(cell);
+                cell_of(mem::replace(&mut self.texts[text], new))
+            }
         }
     }
 
@@ -150,6 +169,16 @@ fn number_of(cell: Cell) -> Option<i64>
         Cell::Int(number) => Some(number),
         Cell::Text(_) => unreachable!(),
         Cell::Missing => None,
+    }
+}
+
+// The cell of a text.
+fn cell_of(text: Option<Text>) -> Cell
+    ensures { result ≡ text_cell text }
+{
+    match text {
+        Some(text) => Cell::Text(text),
+        None => Cell::Missing,
     }
 }
 

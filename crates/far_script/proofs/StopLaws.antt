@@ -1,14 +1,14 @@
 -- What came of a script up to a fault.
-use Rattle.std.proofs.Common.{◌≡◌, ◌+◌, ◌≤◌, ℕ, List, [], ◌++◌, length, Option, Some, None, Result, Ok, Err, IfErr, IsErrAnd, IsOk, OnOk, append_assoc, length-append, ◌∙◌, refl, sym, ap, subst, arith}
+use Rattle.std.proofs.Common.{◌≡◌, ◌+◌, ◌≤◌, ◌<◌, ℕ, ◌⊎◌, inl, inr, List, [], ◌++◌, length, Option, Some, None, Result, Ok, Err, IfErr, IsErrAnd, IsOk, OnOk, append_assoc, length-append, ◌∙◌, refl, sym, ap, subst, arith}
 use Rattle.std.specs.Prelude.{IfNone, IfSome, unwrap_or}
 use Rattle.std.specs.Io.KnownBytes.{Consumes}
 use Rattle.std.specs.declared.io.traits.Read.{Ghosts}
 use Rattle.far_script.specs.declared.fault.ShellFault.{ShellFault}
 use Rattle.far_script.specs.declared.fault.ShellFault.TheVariants as fault
 use Rattle.far_script.specs.declared.input.Input.{Input}
-use Rattle.far_script.specs.Faults.{IfInput}
-use Rattle.far_script.specs.Flow.{Counts, Gives, IsFrontOf, IsSpent, IsUnseen, Reads, StartsWith, Stops, unread}
-use Rattle.far_script.proofs.FlowLaws.{few-bytes, spent-nothing, spent-stays}
+use Rattle.far_script.specs.Faults.{IfInput, IsCut}
+use Rattle.far_script.specs.Flow.{Counts, Gives, IsFrontOf, IsShort, IsSpent, IsUnseen, Reads, StartsWith, Stops, unread}
+use Rattle.far_script.proofs.FlowLaws.{few-bytes, not-before, spent-nothing, spent-stays}
 
 -- a fault that is handed on
 pub handed-on : {T : Type 0} (r : Result T ShellFault) (why : ShellFault) (Q : ShellFault → Type 0) → IsErrAnd r (λ given. given ≡ why) → Q why → IfErr r Q
@@ -37,6 +37,14 @@ if-input fault.Output P Q f h = tt
 if-input fault.Memory P Q f h = tt
 if-input fault.Turns P Q f h = tt
 
+-- two things said of a fault of the input
+pub if-input-both : (why : ShellFault) (P Q S : Type 0) → (P → Q → S) → IfInput why P → IfInput why Q → IfInput why S
+if-input-both fault.BadStart P Q S f p q = tt
+if-input-both fault.Input P Q S f p q = f p q
+if-input-both fault.Output P Q S f p q = tt
+if-input-both fault.Memory P Q S f p q = tt
+if-input-both fault.Turns P Q S f p q = tt
+
 pub not-input : (why : ShellFault) (P : Type 0) → (why ≡ fault.Input → ⊥) → IfInput why P
 not-input fault.BadStart P other = tt
 not-input fault.Input P other = absurd (other refl)
@@ -64,6 +72,36 @@ starts-apart (Some xs) a bytes more rest h = h ∙ append_assoc bytes more rest
 starts-here : (known : Option (List ℕ)) (a : List ℕ) → IfSome known (λ coming. a ++ coming ≡ a ++ unwrap_or known [])
 starts-here None a = tt
 starts-here (Some xs) a = refl
+
+more-coming : (n came left a b : ℕ) → n ≡ came + left → a ≤ b + came → b ≤ left → a ≤ n
+more-coming n came left a b e p q = omega (arith, e, p, q)
+
+longer : (n came left a b : ℕ) → n ≡ came + left → b + came ≡ a → b < left → a < n
+longer n came left a b e p q = omega (arith, e, p, q)
+
+-- bytes came before a reader gave no more
+past-then : (known left : Option (List ℕ)) (came : List ℕ) (reads r bytes b : ℕ) → Consumes known left came → reads ≤ r + length came → b + length came ≡ bytes
+    → IfSome left (λ coming. (r ≤ length coming) ⊎ (b < length coming)) → IfSome known (λ coming. (reads ≤ length coming) ⊎ (bytes < length coming))
+past-then None left came reads r bytes b p m k h = tt
+past-then (Some xs) None came reads r bytes b p m k h = absurd p
+past-then (Some xs) (Some ys) came reads r bytes b p m k (inl h) = inl (more-coming (length xs) (length came) (length ys) reads r (ap (λ (t : List ℕ). length t) p ∙ length-append came ys) m h)
+past-then (Some xs) (Some ys) came reads r bytes b p m k (inr h) = inr (longer (length xs) (length came) (length ys) bytes b (ap (λ (t : List ℕ). length t) p ∙ length-append came ys) k h)
+
+cut-then : {R : Type 0} (may_fail : R → Type 0) (known left : Option (List ℕ)) (came : List ℕ) (reads r bytes b : ℕ) → Consumes known left came → reads ≤ r + length came → b + length came ≡ bytes
+    → IsCut may_fail r b left → IsCut may_fail reads bytes known
+cut-then may_fail known left came reads r bytes b p m k (inl h) = inl h
+cut-then may_fail known left came reads r bytes b p m k (inr h) = inr (past-then known left came reads r bytes b p m k h)
+
+-- no reads are left
+pub past-reads : {R : Type 0} (may_fail : R → Type 0) (known : Option (List ℕ)) (reads bytes : ℕ) → reads ≡ 0 → IsCut may_fail reads bytes known
+past-reads may_fail None reads bytes none = inr tt
+past-reads may_fail (Some xs) reads bytes none = inr (inl (omega (arith, none)))
+
+-- a byte more comes than may be taken
+pub past-bytes : {R : Type 0} (may_fail : R → Type 0) (known left : Option (List ℕ)) (came : List ℕ) (reads bytes : ℕ) → bytes ≡ 0 → Consumes known left came → 0 < length came → IsCut may_fail reads bytes known
+past-bytes may_fail None left came reads bytes none p some = inr tt
+past-bytes may_fail (Some xs) None came reads bytes none p some = absurd p
+past-bytes may_fail (Some xs) (Some ys) came reads bytes none p some = inr (inr (omega (arith, none, some, ap (λ (t : List ℕ). length t) p, length-append came ys)))
 
 counted-then : (x m o came u um f a fa : ℕ) → x + a ≡ m + um → m + came ≡ o → u + came ≡ f + um → fa ≡ f + a → x + fa ≡ o + u
 counted-then x m o came u um f a fa p q r s = omega (arith, p, q, r, s)
@@ -99,7 +137,7 @@ module _ {R : Type 0} (read : Ghosts R) where
   )
 
   -- all that is held came, and nothing more
-  pub stops-here : (old new : Input R read) (P : List ℕ → Type 0) → new.source.bytes ≡ old.source.bytes → P (unread read old) → Stops read P old new
+  pub stops-here : (old new : Input R read) (P : List ℕ → List ℕ → Type 0) → new.source.bytes ≡ old.source.bytes → P (unread read old) (unwrap_or (read.remaining old.source.reader) []) → Stops read P old new
   stops-here old new P same h = (
     unread read old,
     unwrap_or (read.remaining old.source.reader) [],
@@ -118,22 +156,35 @@ module _ {R : Type 0} (read : Ghosts R) where
       (starts-then old mid first bytes rest p g.0, if-input why (Counts read mid bytes new) (Counts read old (first ++ bytes) new) (λ c. counts-then old mid new first bytes p c) g.1)
 
   -- bytes were taken before those that are told
-  pub stops-then : (old mid new : Input R read) (first : List ℕ) (P Q : List ℕ → Type 0) → Reads read old first mid → ((bytes : List ℕ) → P bytes → Q (first ++ bytes)) → Stops read P mid new → Stops read Q old new
-  stops-then old mid new first P Q p f s = (first ++ s.0, s.1, starts-then old mid first s.0 s.1 p s.2, counts-then old mid new first s.0 p s.3, f s.0 s.4)
+  pub stops-then : (old mid new : Input R read) (first : List ℕ) (P Q : List ℕ → List ℕ → Type 0) → Reads read old first mid → ((bytes rest : List ℕ) → P bytes rest → Q (first ++ bytes) rest) → Stops read P mid new
+      → Stops read Q old new
+  stops-then old mid new first P Q p f s = (first ++ s.0, s.1, starts-then old mid first s.0 s.1 p s.2, counts-then old mid new first s.0 p s.3, f s.0 s.1 s.4)
 
-  pub stops-more : (old new : Input R read) (P Q : List ℕ → Type 0) → ((bytes : List ℕ) → P bytes → Q bytes) → Stops read P old new → Stops read Q old new
-  stops-more old new P Q f s = (s.0, s.1, s.2, s.3, f s.0 s.4)
-
-  -- the end was not seen, also counted from an earlier read
-  pub unseen-later : (old mid new : Input R read) → mid.source.reads ≤ old.source.reads → IsUnseen read mid new → IsUnseen read old new
-  unseen-later old mid new low u = (u.0, λ left. let fell = u.1 left in omega (arith, low, fell))
-
-  pub if-unseen : (why : ShellFault) (old mid new : Input R read) → mid.source.reads ≤ old.source.reads → IfInput why (IsUnseen read mid new) → IfInput why (IsUnseen read old new)
-  if-unseen why old mid new low u = if-input why (IsUnseen read mid new) (IsUnseen read old new) (λ x. unseen-later old mid new low x) u
+  pub stops-more : (old new : Input R read) (P Q : List ℕ → List ℕ → Type 0) → ((bytes rest : List ℕ) → P bytes rest → Q bytes rest) → Stops read P old new → Stops read Q old new
+  stops-more old new P Q f s = (s.0, s.1, s.2, s.3, f s.0 s.1 s.4)
 
   -- nothing was taken
-  pub stops-still : (old mid new : Input R read) (P : List ℕ → Type 0) → Reads read old [] mid → new.source.bytes ≡ mid.source.bytes → P (unread read mid) → Stops read P old new
-  stops-still old mid new P p same h = stops-then old mid new [] P P p (λ bytes q. q) (stops-here mid new P same h)
+  pub stops-still : (old mid new : Input R read) (P : List ℕ → List ℕ → Type 0) → Reads read old [] mid → new.source.bytes ≡ mid.source.bytes → P (unread read mid) (unwrap_or (read.remaining mid.source.reader) [])
+      → Stops read P old new
+  stops-still old mid new P p same h = stops-then old mid new [] P P p (λ bytes rest q. q) (stops-here mid new P same h)
+
+module _ {R : Type 0} (read : Ghosts R) (may_fail : R → Type 0) where
+  -- the end was not seen, also counted from an earlier read
+  pub unseen-later : (old mid new : Input R read) (bytes : List ℕ) → Reads read old bytes mid → mid.source.reads ≤ old.source.reads → IsUnseen read may_fail mid new → IsUnseen read may_fail old new
+  unseen-later old mid new bytes p low u = (
+    not-before old.source.ended mid.source.ended p.ended u.0,
+    u.1,
+    λ left. let fell = u.2 left in omega (arith, low, fell),
+    cut-then may_fail (read.remaining old.source.reader) (read.remaining mid.source.reader) p.came old.source.reads mid.source.reads old.source.bytes mid.source.bytes p.consumed (p.made u.0) p.counted u.3,
+  )
+
+  pub if-unseen : (why : ShellFault) (old mid new : Input R read) (bytes : List ℕ) → Reads read old bytes mid → mid.source.reads ≤ old.source.reads → IfInput why (IsUnseen read may_fail mid new)
+      → IfInput why (IsUnseen read may_fail old new)
+  if-unseen why old mid new bytes p low u = if-input why (IsUnseen read may_fail mid new) (IsUnseen read may_fail old new) (λ x. unseen-later old mid new bytes p low x) u
+
+  pub short-later : (old mid new : Input R read) (bytes rest : List ℕ) → Reads read old bytes mid → mid.source.reads ≤ old.source.reads → IsShort read may_fail mid new rest → IsShort read may_fail old new rest
+  short-later old mid new bytes rest p low (inl ended) = inl ended
+  short-later old mid new bytes rest p low (inr u) = inr (unseen-later old mid new bytes p low u)
 
 module _ {R : Type 0} (read : Ghosts R) where
   -- a split of a script of which nothing was read

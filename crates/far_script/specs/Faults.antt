@@ -1,9 +1,9 @@
--- The faults, and the exit statuses of the program.
-use Rattle.std.specs.Prelude.{ℕ, ⊤}
+-- The faults of a script, the exit status of the program for each, and what stops a reader.
+use Rattle.std.specs.Prelude.{ℕ, ⊤, ◌⊎◌, ◌≤◌, ◌<◌, List, length, Option, IfSome}
 use Rattle.far_script.specs.declared.fault.ShellFault.{ShellFault}
 use Rattle.far_script.specs.declared.fault.ShellFault.TheVariants.{BadStart, Input, Output, Memory, Turns}
 
--- 0 is the end of the script; 1 is left to what ends a program from outside
+-- the exit status for each fault. A script that runs to its end has status 0
 abbrev pub status_of : ShellFault → ℕ
 status_of BadStart = 2
 status_of Input = 3
@@ -18,3 +18,9 @@ IfInput Input holds = holds
 IfInput Output holds = ⊤
 IfInput Memory holds = ⊤
 IfInput Turns holds = ⊤
+
+module _ {R : Type 0} where
+  -- why a reader gives no more, though its end was not found: it may fail. Or, if its bytes are known, they are as many as it may be asked
+  -- for reads, or more than may be taken
+  abbrev pub IsCut : (R → Type 0) → ℕ → ℕ → Option (List ℕ) → Type 0
+  IsCut may_fail reads bytes known = ((reader : R) × may_fail reader) ⊎ IfSome known (λ coming. (reads ≤ length coming) ⊎ (bytes < length coming))

@@ -1,5 +1,5 @@
 -- What goes through a reader and a writer, and what is held on the way.
-use Rattle.std.specs.Prelude.{◌≡◌, ℕ, ◌+◌, ◌==◌, Bool, List, [], ◌∷◌, ◌++◌, length, Option, true, false, slice_range, drop, ◌≤◌, ◌<◌, IfSome}
+use Rattle.std.specs.Prelude.{◌≡◌, ℕ, ◌+◌, ◌==◌, Bool, List, [], ◌∷◌, ◌++◌, length, Option, true, false, slice_range, drop, ◌≤◌, ◌<◌, ◌⊎◌, IfSome}
 use Rattle.std.specs.List.{list_any}
 use Rattle.std.specs.Io.BufRead.{strip_last}
 use Rattle.std.specs.Io.KnownBytes.{Appends, Consumes}
@@ -10,7 +10,7 @@ use Rattle.far_script.specs.declared.input.ByteRange.{ByteRange}
 use Rattle.far_script.specs.declared.input.Line.{Line}
 use Rattle.far_script.specs.declared.input.Line.TheVariants as line
 use Rattle.far_script.specs.declared.output.Output.{Output}
-use Rattle.far_script.specs.Faults.{IfInput}
+use Rattle.far_script.specs.Faults.{IfInput, IsCut}
 
 -- a text was printed: what was held before it and the text went to the writer, or are held still
 abbrev pub Prints : Option (List ℕ) → List ℕ → List ℕ → Option (List ℕ) → List ℕ → Type 0
@@ -38,12 +38,13 @@ module _ {R : Type 0} (read : Ghosts R) where
   spanned input span = slice_range input.held span.from span.to
 
   -- bytes of a script were taken: what was held before and what came from the reader were taken, or are held still. What
-  -- came counts, and nothing comes after the end
+  -- came counts, each read gave a byte as long as the end was not found, and nothing comes after the end
   pub record Reads (old : Input R read) (bytes : List ℕ) (new : Input R read) : Type 0 where
     pub came : List ℕ
     pub consumed : Consumes (read.remaining old.source.reader) (read.remaining new.source.reader) came
     pub taken : unread old ++ came ≡ bytes ++ unread new
     pub counted : new.source.bytes + length came ≡ old.source.bytes
+    pub made : new.source.ended ≡ false → old.source.reads ≤ new.source.reads + length came
     pub none : old.source.ended ≡ true → came ≡ []
     pub ended : old.source.ended ≡ true → new.source.ended ≡ true
 
@@ -62,9 +63,14 @@ module _ {R : Type 0} (read : Ghosts R) where
   abbrev pub IsSpent : Input R read → Type 0
   IsSpent input = (unread input ≡ []) × (input.source.ended ≡ true)
 
-  -- the end of a script was not seen, though the reader was asked, or may not be asked any more
-  abbrev pub IsUnseen : Input R read → Input R read → Type 0
-  IsUnseen old new = (new.source.ended ≡ false) × (0 < new.source.reads → new.source.reads < old.source.reads)
+  -- the end of a script was not seen, before and now, though the reader was asked, or may not be asked any more; and why no more came
+  abbrev pub IsUnseen : (R → Type 0) → Input R read → Input R read → Type 0
+  IsUnseen may_fail old new = (old.source.ended ≡ false) × (new.source.ended ≡ false) × (0 < new.source.reads → new.source.reads < old.source.reads)
+      × IsCut may_fail old.source.reads old.source.bytes (read.remaining old.source.reader)
+
+  -- why a load lacks bytes, with the rest of the script, which did not come: the end was seen, and there is no rest; or it was not seen
+  abbrev pub IsShort : (R → Type 0) → Input R read → Input R read → List ℕ → Type 0
+  IsShort may_fail old new rest = ((new.source.ended ≡ true) × (rest ≡ [])) ⊎ IsUnseen may_fail old new
 
   -- what is left of a script, where it is known, is these bytes and the rest behind them
   abbrev pub StartsWith : Input R read → List ℕ → List ℕ → Type 0
@@ -79,6 +85,6 @@ module _ {R : Type 0} (read : Ghosts R) where
   abbrev pub Gives : ShellFault → Input R read → Input R read → List ℕ → List ℕ → Type 0
   Gives why old new bytes rest = StartsWith old bytes rest × IfInput why (Counts old bytes new)
 
-  -- the input is at fault, and this is said of all bytes that came
-  abbrev pub Stops : (List ℕ → Type 0) → Input R read → Input R read → Type 0
-  Stops said old new = (bytes : List ℕ) × (rest : List ℕ) × StartsWith old bytes rest × Counts old bytes new × said bytes
+  -- the input is at fault, and this is said of all bytes that came, and of the rest
+  abbrev pub Stops : (List ℕ → List ℕ → Type 0) → Input R read → Input R read → Type 0
+  Stops said old new = (bytes : List ℕ) × (rest : List ℕ) × StartsWith old bytes rest × Counts old bytes new × said bytes rest

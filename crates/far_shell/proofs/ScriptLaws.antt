@@ -79,7 +79,7 @@ blank-more bytes raw (line ∷ lines) h e = (
   blank-more h.0 raw lines h.3 e,
 )
 
-either : {A B C D : Type 0} → (A → B) → (C → D) → A ⊎ C → B ⊎ D
+pub either : {A B C D : Type 0} → (A → B) → (C → D) → A ⊎ C → B ⊎ D
 either f g (inl x) = inl (f x)
 either f g (inr y) = inr (g y)
 

@@ -19,7 +19,7 @@ use Rattle.far_shell.specs.Scripts.{Begins}
 use Rattle.far_shell.specs.Sessions.{CutOutcome, IsAnswered, IsThreads, TellsOutcome, gauges_text, line_of, outcome_text}
 use Rattle.far_shell.proofs.BreakLaws.{Breaking}
 use Rattle.far_commands.proofs.RowLaws.{drop-past}
-use Rattle.far_shell.proofs.ScriptLaws.{begins-then}
+use Rattle.far_shell.proofs.ScriptLaws.{begins-then, either}
 
 -- a gauge line more
 pub gauges-more : (readings : List Reading) (i : ℕ) (told : Reading) (page after whole : List ℕ) → i < length readings → after ≡ page ++ line_of i (get_or readings i told)
@@ -52,10 +52,6 @@ pub cut-unwritten : (old new : Option (List ℕ)) (sessions edits : ℕ) (text p
 cut-unwritten old new sessions edits text page left told is p =
     (p.0, (left, subst (λ (z : List ℕ). TellsOutcome sessions edits z) (sym is ∙ sym (append-nil page) ∙ p.2) told), p.1)
 
-either : {A B C D : Type 0} → (A → B) → (C → D) → A ⊎ C → B ⊎ D
-either f g (inl x) = inl (f x)
-either f g (inr y) = inr (g y)
-
 -- nothing comes behind, in other words
 pub answered-then : {S K : Type 0} (tickets : Tickets S K) (bytes text : List ℕ) (P Q : Type 0) → (P → Q) → IsAnswered tickets bytes P text → IsAnswered tickets bytes Q text
 answered-then tickets bytes text P Q f a =
@@ -75,12 +71,12 @@ module _ {R : Type 0} (read : Ghosts R) {S K : Type 0} (tickets : Tickets S K) w
   )
 
   -- or they were stopped
-  pub sessions-stopped : (old mid : Input R read) (u w : Option (List ℕ)) (held l left first line : List ℕ) (sessions edits : ℕ) (why : ShellFault) (unseen : Type 0) → held ≡ []
+  pub sessions-stopped : (old mid : Input R read) (u w : Option (List ℕ)) (held l left first line : List ℕ) (sessions edits : ℕ) (why : ShellFault) (unseen : Type 0) (short : List ℕ → Type 0) → held ≡ []
       → Reads read old first mid → Begins first (IsSpent read mid) line → start_in line ≡ Some (Threads sessions edits) → Prints u held [] w l → left ≡ l → (why ≡ fault.Memory) ⊎ (why ≡ fault.Turns)
-      → Breaking read tickets unseen old mid u w left why
-  sessions-stopped old mid u w held l left first line sessions edits why unseen empty p b asks q e (inl memory) =
+      → Breaking read tickets unseen short old mid u w left why
+  sessions-stopped old mid u w held l left first line sessions edits why unseen short empty p b asks q e (inl memory) =
       rw (memory, e) (first, coming read mid, [], (starts read old mid first p, tt), subst (λ (z : List ℕ). Prints u z [] w l) empty q, inl refl)
-  sessions-stopped old mid u w held l left first line sessions edits why unseen empty p b asks q e (inr turns) =
+  sessions-stopped old mid u w held l left first line sessions edits why unseen short empty p b asks q e (inr turns) =
       rw (turns, e) (
         first,
         coming read mid,

@@ -6,6 +6,7 @@ use Rattle.far_types.specs.Bounds.{IsSchema, AreLimits}
 use Rattle.far_store.specs.declared.store.FarTickets.{Ghosts as Tickets}
 use Rattle.far_script.specs.declared.fault.ShellFault.{ShellFault}
 use Rattle.far_script.specs.declared.fault.ShellFault.TheVariants as fault
+use Rattle.far_script.specs.Faults.{IsCut}
 use Rattle.far_commands.specs.Cuts.{Fails, IsFront, Lists}
 use Rattle.far_script.specs.Openings.{Opened, Schema, start_in}
 use Rattle.far_script.specs.Printing.{refusal_text}
@@ -71,16 +72,17 @@ module _ {K : Type 0} where
   ListsNext at bytes text = Lists at bytes text ⊎ Lists at (without_return bytes) text
 
   -- what follows the lines that were answered, and what is printed for it. Of an input at fault it is all that came: no whole
-  -- turn. Else it is a line, and where it asks for a dump, a front of it may be printed
-  abbrev pub BreaksIn : Type 0 → ShellFault → At K → List ℕ → List ℕ → Type 0
-  BreaksIn unseen fault.BadStart at next front = ⊥
-  BreaksIn unseen fault.Input at next front = (front ≡ []) × HasNoTurn unseen (Fails at.world.state.table.schema) next
-  BreaksIn unseen fault.Output at next front = IsOneLine next × IsFront (ListsNext at next) front
-  BreaksIn unseen fault.Memory at next front = IsOneLine next × IsFront (ListsNext at next) front
-  BreaksIn unseen fault.Turns at next front = ⊥
+  -- turn. Else it is a line, and where it asks for a dump, a front of it may be printed. The first two arguments say why no more came, for
+  -- a line that lacks its end and for a load that lacks bytes
+  abbrev pub BreaksIn : Type 0 → Type 0 → ShellFault → At K → List ℕ → List ℕ → Type 0
+  BreaksIn unseen short fault.BadStart at next front = ⊥
+  BreaksIn unseen short fault.Input at next front = (front ≡ []) × HasNoTurn unseen (Fails short at.world.state.table.schema) next
+  BreaksIn unseen short fault.Output at next front = IsOneLine next × IsFront (ListsNext at next) front
+  BreaksIn unseen short fault.Memory at next front = IsOneLine next × IsFront (ListsNext at next) front
+  BreaksIn unseen short fault.Turns at next front = ⊥
 
--- the second argument tells why no more came of a script whose end was not seen
-module _ {S K : Type 0} (tickets : Tickets S K) (unseen : Type 0) where
+-- the second and the third argument say why no more came
+module _ {S K : Type 0} (tickets : Tickets S K) (unseen short : Type 0) where
   -- behind the first command a script breaks off: whole lines are answered, and then no more
   pub record BreaksOff (old : At K) (why : ShellFault) (bytes text : List ℕ) : Type 0 where
     pub before : List ℕ
@@ -89,7 +91,7 @@ module _ {S K : Type 0} (tickets : Tickets S K) (unseen : Type 0) where
     pub answered : Answers tickets old before printed mid
     pub next : List ℕ
     pub front : List ℕ
-    pub cut : BreaksIn unseen why mid next front
+    pub cut : BreaksIn unseen short why mid next front
     pub whole : bytes ≡ before ++ next
     pub said : text ≡ printed ++ front
 
@@ -104,12 +106,14 @@ module _ {S K : Type 0} (tickets : Tickets S K) (unseen : Type 0) where
     pub whole : bytes ≡ first ++ more
     pub said : text ≡ codes "ok\n" ++ tail
 
+-- of a load that lacks bytes it is said with the rest, which did not come
+module _ {S K : Type 0} (tickets : Tickets S K) (unseen : Type 0) (short : List ℕ → Type 0) where
   -- what these first bytes of a script, with the rest behind them, are answered up to a fault
   abbrev pub IsBroken : ShellFault → List ℕ → List ℕ → List ℕ → Type 0
   IsBroken fault.BadStart bytes rest text = HasNotBegun unseen fault.BadStart bytes rest text
-  IsBroken fault.Input bytes rest text = HasNotBegun unseen fault.Input bytes rest text ⊎ BreaksLater fault.Input bytes rest text
-  IsBroken fault.Output bytes rest text = HasNotBegun unseen fault.Output bytes rest text ⊎ BreaksLater fault.Output bytes rest text
-  IsBroken fault.Memory bytes rest text = HasNotBegun unseen fault.Memory bytes rest text ⊎ BreaksLater fault.Memory bytes rest text
+  IsBroken fault.Input bytes rest text = HasNotBegun unseen fault.Input bytes rest text ⊎ BreaksLater tickets unseen (short rest) fault.Input bytes rest text
+  IsBroken fault.Output bytes rest text = HasNotBegun unseen fault.Output bytes rest text ⊎ BreaksLater tickets unseen (short rest) fault.Output bytes rest text
+  IsBroken fault.Memory bytes rest text = HasNotBegun unseen fault.Memory bytes rest text ⊎ BreaksLater tickets unseen (short rest) fault.Memory bytes rest text
   IsBroken fault.Turns bytes rest text = (text ≡ []) × ((sessions : ℕ) × (edits : ℕ) × AsksSessions bytes (rest ≡ []) sessions edits)
 
   -- the same, with what the writer did not take: all was written, unless the fault is the writer's
@@ -120,8 +124,8 @@ module _ {S K : Type 0} (tickets : Tickets S K) (unseen : Type 0) where
   EndsBy fault.Turns bytes rest text lost = IsBroken fault.Turns bytes rest text × (lost ≡ [])
   EndsBy fault.Output bytes rest text lost = IsAnswered tickets bytes (rest ≡ []) text ⊎ ((why : ShellFault) × IsBroken why bytes rest text)
 
-  -- a script ends early: of what its first bytes are answered a front was written. How it is split is told by the first
-  -- argument
+  -- a script ends early: of what its first bytes are answered a front was written. How it is split is told by
+  -- `splits`
   pub record Breaks (splits : List ℕ → List ℕ → Type 0) (old new : Option (List ℕ)) (why : ShellFault) : Type 0 where
     pub bytes : List ℕ
     pub rest : List ℕ
@@ -132,3 +136,12 @@ module _ {S K : Type 0} (tickets : Tickets S K) (unseen : Type 0) where
     pub written : Appends old new sent
     pub said : text ≡ sent ++ lost
     pub ends : EndsBy why bytes rest text lost
+
+-- why no more came of a script, told of the reader as it was passed: it may fail, or its script, if it is known, has at least as many bytes
+-- as reads are made, or more than a script may have
+abbrev pub IsUnfinished : {R : Type 0} → (R → Type 0) → Option (List ℕ) → Type 0
+IsUnfinished may_fail script = IsCut may_fail 1048576 16777216 script
+
+-- why a load of such a script lacks bytes, with the rest of the script, which did not come: there is no rest, or no more came
+abbrev pub IsUnfinishedLoad : {R : Type 0} → (R → Type 0) → Option (List ℕ) → List ℕ → Type 0
+IsUnfinishedLoad may_fail script rest = (rest ≡ []) ⊎ IsUnfinished may_fail script

@@ -6,6 +6,6 @@
 mod script;
 mod threads;
 
-pub use far_script::{Input, ShellFault};
+pub use far_script::{Fallible, Input, ShellFault, Source};
 pub use script::{run_input, run_script};
 pub use threads::run_threads;

@@ -81,6 +81,13 @@ impl<S: FarTickets> LiveTable<S> {
         &self.rows
     }
 
+    /// Cells that are needed no more: a row to come may be made in their memory. Allocates nothing.
+    pub fn spare_cells(&mut self) -> Vec<Cell>
+        ensures { self.new ≡ self.old }
+    {
+        self.rows.spare_cells()
+    }
+
     /// Appends a row and gives its place. Refused as `TableRows::may_insert` says, else with `NoMemory` (1) alone; then nothing
     /// is changed.
     pub fn insert(&mut self, row: Row) -> Result<u32, Refusal>

@@ -14,6 +14,7 @@ pub use cells::{TextCell, TextCells};
 use far_reciprocal::Reciprocal;
 use std::alloc::Global;
 use std::marker::Model;
+use std::mem;
 pub use together::{fill_texts, may_push_texts, push_texts};
 
 /// A column of texts, each of which may be missing. The texts of a row group lie together as one far form, which is the
@@ -34,6 +35,8 @@ pub struct TextColumn {
     objects: Vec<u32>,
     // How many texts there are.
     len: usize,
+    // A form that is needed no more: the next one is made in its memory.
+    spare: Vec<u8>,
 }
 
 impl Model for TextColumn {
@@ -64,6 +67,7 @@ impl TextColumn {
             limit,
             objects: Vec::new(alloc),
             len: 0,
+            spare: Vec::new(alloc),
         }
     }
 
@@ -80,6 +84,21 @@ impl TextColumn {
         ensures { result ≡ slice_get self.now.objects group }
     {
         self.objects.get(group).copied()
+    }
+
+    // Takes the form that is needed no more.
+    fn take_spare(&mut self) -> Vec<u8>
+        ensures { self.new ≡ self.old }
+    {
+        let alloc = *self.spare.allocator();
+        mem::replace(&mut self.spare, Vec::new(alloc))
+    }
+
+    // Keeps a form that is needed no more.
+    fn keep_spare(&mut self, form: Vec<u8>)
+        ensures { self.new ≡ self.old }
+    {
+        self.spare = form;
     }
 
     // The row group of a place.

@@ -5,13 +5,13 @@
 //! 3 where a read or a write fails, or the script is too long or no UTF-8; 4 where memory is refused; 5 where sessions give up on an
 //! edit.
 
-use far_shell::run_script;
+use far_shell::{Fallible, run_script};
 use std::io;
 use std::process::ExitCode;
 
 fn main(rt: HostRuntime) -> ExitCode {
     let mut writer = io::writer(&rt);
-    match run_script(&rt, rt.reader(), &mut writer) {
+    match run_script(&rt, Fallible(rt.reader()), &mut writer) {
         Ok(()) => ExitCode::SUCCESS,
         Err(fault) => ExitCode::from(fault.status()),
     }

@@ -1,5 +1,5 @@
 // Which objects of a row group are local, and cells read in place.
-ghost use Rattle.std.specs.Prelude.{◌≡◌, ◌∷◌, ◌<◌, ◌/◌, [], length, false, slice_get, option_map, slice_index_or, Some, IfOk};
+ghost use Rattle.std.specs.Prelude.{◌≡◌, ℕ, ◌∷◌, ◌<◌, ◌/◌, [], length, false, slice_get, option_map, slice_index_or, Some, None, IsTrue, IfOk};
 ghost use Rattle.std.specs.Option.{option_copied, option_map_or};
 ghost use Rattle.far_types.specs.declared.cell.Cell.TheVariants.{Missing};
 ghost use Rattle.far_types.specs.FirstOf.{first_of};
@@ -33,10 +33,27 @@ impl<S: FarTickets> Rows<S> {
     {
         // It tells that each index is that of a column.
         let _len = self.len();
+        if self.are_all_local() {
+            return Ok(());
+        }
         for column_index in self.column_indexes() {
             self.is_here(*column_index, group)?;
         }
         Ok(())
+    }
+
+    // Whether every object of every column is local. It looks at no object, so that where none is away a row costs the same,
+    // however many columns it has.
+    fn are_all_local(&self) -> bool
+        ensures { IsTrue result → (g : ℕ) → first_of (absents self.now g) ≡ None }
+    {
+        // They tell what rows are, and of all objects that one with a list is in use.
+        let _len = self.len();
+        let _numbers = self.number_objects.number();
+        let _texts = self.text_objects.number();
+        let numbers = self.number_objects.are_all_local();
+        let texts = self.text_objects.are_all_local();
+        numbers && texts
     }
 
     // Whether the object of a row group of a column is local, where there is one.

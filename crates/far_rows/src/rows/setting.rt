@@ -101,9 +101,10 @@ impl<S: FarTickets> Rows<S> {
         ensures store { (name : List ℕ) → AreHere S.is_of name self.old.number_objects → AreHere S.is_of name self.new.number_objects }
         ensures versions { (o : ℕ) → version_of self.new.number_objects o ≤ version_of self.old.number_objects o + 1 }
     {
-        let Ok(()) = self.numbers[i].set(&mut self.number_objects, place, number) else {
-            unreachable!()
-        };
+        // It tells what rows are.
+        let _len = self.len();
+        let group = self.group_of(place);
+        self.numbers[i].set_in_group(&mut self.number_objects, group, place, number);
     }
 
     // Puts a text, which is not refused, at a place of a column of texts. Refused with `NoMemory` (1) alone.

@@ -10,6 +10,7 @@ use crate::bounded::Bounded;
 use crate::fault::ShellFault;
 use crate::lines::first_feed;
 use crate::page::Page;
+use crate::source::Source;
 use std::alloc::Global;
 use std::io::Read;
 
@@ -60,7 +61,9 @@ impl<R: Read + Drop> Input<R> {
         self.held.forget(self.start);
         self.start = 0;
     }
+}
 
+impl<R: Source + Drop> Input<R> {
     /// Reads once, and says whether bytes came. They stop at the end of the script alone. Nothing waits to be written
     /// then.
     pub fn read_more(&mut self, gathered: &Page) -> Result<bool, ShellFault>
@@ -70,7 +73,7 @@ impl<R: Read + Drop> Input<R> {
         ensures turns { IfErr result (λ fault. fault ≢ ShellFault.Turns) }
         ensures unwritten { IfErr result (λ fault. fault ≢ ShellFault.Output) }
         ensures stopped { IfErr result (λ fault. IfInput fault ((self.new.source.bytes ≡ self.old.source.bytes) × (unread R.Read self.new ≡ unread R.Read self.old))) }
-        ensures unseen { IfErr result (λ fault. IfInput fault (IsUnseen R.Read self.old self.new)) }
+        ensures unseen { IfErr result (λ fault. IfInput fault (IsUnseen R.Read R.may_fail self.old self.new)) }
         ensures asked { self.new.source.reads ≤ self.old.source.reads }
         ensures going { IfOk result (λ more. more ≡ true → self.new.source.ended ≡ false) }
         ensures taken { IfOk result (λ more. more ≡ true → self.new.source.reads < self.old.source.reads) }
@@ -87,7 +90,9 @@ impl<R: Read + Drop> Input<R> {
             Err(refusal) => Err(ShellFault::of_memory(refusal)),
         }
     }
+}
 
+impl<R: Read + Drop> Input<R> {
     /// Where the first line ends that is whole in the buffer.
     pub fn line_end(&mut self) -> Option<usize>
         ensures end { IfSome result (λ end. (self.new.start ≤ end) × (end < length self.new.held) × (slice_index self.new.held end ≡ 10) × (list_any (λ c. c == 10) (slice_range self.new.held self.new.start end) ≡ false)) }

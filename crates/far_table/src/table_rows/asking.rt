@@ -37,6 +37,13 @@ impl<S: FarTickets> TableRows<S> {
         self.may_count()
     }
 
+    /// Cells that are needed no more: a row to come may be made in their memory. Allocates nothing.
+    pub fn spare_cells(&mut self) -> Vec<Cell>
+        ensures { self.new ≡ self.old }
+    {
+        self.new_row.spare_cells()
+    }
+
     /// Whether a cell may be put in a column of a place, and the value that it is there. Allocates nothing.
     ///
     /// Refused with `NoColumn` (4), `WrongKind` (5), `TextTooLong` (7), `NoRow` (8), `RemovedRow` (9); `Absent` (16) if an

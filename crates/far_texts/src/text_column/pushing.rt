@@ -46,10 +46,10 @@ impl TextColumn {
         Ok(())
     }
 
-    // The form of the next place's row group once the place has this text.
+    // The form of the next place's row group once the place has this text, in the memory of a form that is needed no more.
     pub(crate) fn form_pushed<S: FarTickets>(
         &self,
-        alloc: Global,
+        spare: Vec<u8>,
         objects: &Objects<u8, S>,
         text: &Option<Text>,
     ) -> Result<Vec<u8>, Refusal>
@@ -63,10 +63,10 @@ impl TextColumn {
     {
         let groups = self.objects.len();
         if self.begins_group() {
-            return form_of(alloc, text);
+            return form_of(spare, text);
         }
         let form = self.form(objects, groups - 1)?;
-        form_with_next(alloc, form, text)
+        form_with_next(spare, form, text)
     }
 
     // What is known of the column and of the objects before a text is pushed: the next object's number has no list.
@@ -166,7 +166,7 @@ impl TextColumn {
     {
         self.may_push(objects, text)?;
         self.known_before_push(objects);
-        let form = self.form_pushed(alloc, objects, text)?;
+        let form = self.form_pushed(Vec::new(alloc), objects, text)?;
         if self.begins_group() {
             self.begin_group(objects, &form)
         } else {

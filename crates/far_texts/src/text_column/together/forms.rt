@@ -40,9 +40,9 @@ impl TextColumn {
     }
 }
 
-// The form for the next text of the one column, beside its object.
+// The form for the next text of the one column, beside its object, in the memory of a form that is needed no more.
 pub(super) fn next_form<S: FarTickets>(
-    alloc: Global,
+    spare: Vec<u8>,
     objects: &Objects<u8, S>,
     columns: &[TextColumn],
     texts: &[Option<Text>],
@@ -58,7 +58,7 @@ pub(super) fn next_form<S: FarTickets>(
     ensures memory { IfErr result (λ e. e ≡ Refusal.NoMemory) }
 {
     let column = &columns[0];
-    let list = column.form_pushed(alloc, objects, &texts[0])?;
+    let list = column.form_pushed(spare, objects, &texts[0])?;
     let object = column.object_for(objects.count(), 0);
     Ok(Replacement { object, list })
 }
@@ -83,7 +83,7 @@ pub(super) fn next_forms<S: FarTickets>(
     let mut forms = Vec::with_capacity(alloc, columns.len())?;
     for k in 0..columns.len() {
         let column = &columns[k];
-        let list = column.form_pushed(alloc, objects, &texts[k])?;
+        let list = column.form_pushed(Vec::new(alloc), objects, &texts[k])?;
         let object = column.object_for(count, k);
         forms.push_reserved(Replacement { object, list });
     }

@@ -56,6 +56,23 @@ pub(super) fn give_forms<S: FarTickets>(
     }
 }
 
+// Takes the form that the first column needs no more.
+fn take_spare(columns: &mut [TextColumn]) -> Vec<u8>
+    requires { 0 < length columns.old }
+    ensures { columns.new ≡ columns.old }
+{
+    columns[0].take_spare()
+}
+
+// Leaves the first column a form that is needed no more.
+fn keep_spare(columns: &mut [TextColumn], form: Vec<u8>)
+    ensures { columns.new ≡ columns.old }
+{
+    if let Some((column, _)) = columns.split_first_mut() {
+        column.keep_spare(form);
+    }
+}
+
 // Makes the form for each column's next text, where no first test refuses one, and gives them to the columns: all of them, or
 // none.
 pub(super) fn make_forms<S: FarTickets>(
@@ -85,9 +102,12 @@ pub(super) fn make_forms<S: FarTickets>(
 {
     known_together(objects, columns);
     if columns.len() == 1 {
-        // The one form needs no list of forms, which would be memory of its own.
-        let form = next_form(alloc, objects, columns, texts)?;
-        return give_forms(objects, columns, texts, from_ref(&form));
+        // The one form needs no list of forms, which would be memory of its own. It takes the memory of the form before.
+        let spare = take_spare(columns);
+        let form = next_form(spare, objects, columns, texts)?;
+        let given = give_forms(objects, columns, texts, from_ref(&form));
+        keep_spare(columns, form.list);
+        return given;
     }
     let forms = next_forms(alloc, objects, columns, texts)?;
     give_forms(objects, columns, texts, &forms)

@@ -1,65 +1,76 @@
-use Rattle.std.proofs.Common.{◌+◌, ◌<◌, [], ◌∷◌, ◌++◌, length, take, get_or, refl, sym, ap, ◌∙◌, arith, rules}
-use Rattle.std.proofs.lemmas.List.{length_push, take_all, map-id}
-use Rattle.std.proofs.lemmas.Iterator.Adapters.{YieldsList-from_vec}
-use Rattle.std.proofs.lemmas.Iterator.Consumers.{YieldsList-turn, YieldsList-end}
+use Rattle.std.proofs.Common.{◌≡◌, ◌+◌, ◌<◌, [], ◌∷◌, ◌++◌, length, take, get_or, refl, sym, ap, ◌∙◌, arith, rules}
+use Rattle.std.proofs.lemmas.List.{length-set, take_all}
 use Rattle.far_rows.specs.declared.column_index.ColumnIndex.TheVariants as column_index
 use Rattle.far_rows.specs.ColumnIndexes.{Values, row_of}
 use Rattle.far_types.specs.Cells.{is_too_long}
 use Rattle.far_rows.proofs.ShortRows.{short-at}
-use Rattle.far_rows.proofs.Filling.{kind-next, numbers-kept, texts-kept, row-more, within-still}
+use Rattle.far_rows.proofs.Filling.{kind-next, numbers-kept, texts-kept, row-more, within-still, same-next, same-later, taken-more}
 use Rattle.far_rows.proofs.new_row.NewRow.load.Goals as goal
 
-pub loop-cell-init : goal.loop-cell-init
-loop-cell-init c = record { column = refl; row = refl; numbers = refl; texts = refl }
-
-pub offset_bounds-column_indexes-column : goal.offset_bounds-column_indexes-column
-offset_bounds-column_indexes-column c =
-    let turn = YieldsList-turn (YieldsList-from_vec c.args.row (cc) (cc)) c.loop-cell.yielded c.loop-cell.cell-iterator c.loop-cell.yielded_by c.next.result c.next.new.self c.in-Some.cell c.in-Some.is c.next.ensures.steps in
-    let within : c.loop-cell.column < length c.args.column_indexes.now = omega (arith, turn.0, c.loop-cell.invariant.column, c.requires.width) in
-    search rules
-
-pub bounds-column_indexes-column : goal.bounds-column_indexes-column
-bounds-column_indexes-column c =
-    let turn = YieldsList-turn (YieldsList-from_vec c.args.row (cc) (cc)) c.loop-cell.yielded c.loop-cell.cell-iterator c.loop-cell.yielded_by c.next.result c.next.new.self c.in-Some.cell c.in-Some.is c.next.ensures.steps in
-    omega (arith, turn.0, c.loop-cell.invariant.column, c.requires.width)
+pub loop-column-init : goal.loop-column-init
+loop-column-init c = record { row = refl; rest = refl; long = refl; numbers = refl; texts = refl }
 
 pub put-requires-clause-within : goal.put-requires-clause-within
 put-requires-clause-within c =
-    let turn = YieldsList-turn (YieldsList-from_vec c.args.row (cc) (cc)) c.loop-cell.yielded c.loop-cell.cell-iterator c.loop-cell.yielded_by c.next.result c.next.new.self c.in-Some.cell c.in-Some.is c.next.ensures.steps in
-    let within : c.loop-cell.column < length c.args.column_indexes.now = omega (arith, turn.0, c.loop-cell.invariant.column, c.requires.width) in
-    within-still c.loop-cell.self c.args.self.now c.args.column_indexes.now c.loop-cell.column (column_index.Number 0) c.requires.column_indexes.within within c.loop-cell.invariant.numbers c.loop-cell.invariant.texts
+    let row = c.into_cells-cells.result.items in
+    let is : row ≡ c.args.row = c.into_cells-cells.ensures.cells in
+    let n = c.loop-column.column in
+    let cell = c.replace-cell.result in
+    let below : n < length row = omega (arith, c.loop-column-test.true, c.len.ensures) in
+    let within : n < length c.args.column_indexes.now = omega (arith, below, ap length is, c.requires.width) in
+    let read : cell ≡ get_or row n cell = c.replace-cell.ensures.value ∙ same-next c.loop-column.cells.items row n cell c.loop-column.invariant.rest in
+    within-still c.loop-column.self c.args.self.now c.args.column_indexes.now n (column_index.Number 0) c.requires.column_indexes.within within c.loop-column.invariant.numbers c.loop-column.invariant.texts
 
 pub put-requires-clause-of_kind : goal.put-requires-clause-of_kind
 put-requires-clause-of_kind c =
-    let turn = YieldsList-turn (YieldsList-from_vec c.args.row (cc) (cc)) c.loop-cell.yielded c.loop-cell.cell-iterator c.loop-cell.yielded_by c.next.result c.next.new.self c.in-Some.cell c.in-Some.is c.next.ensures.steps in
-    let within : c.loop-cell.column < length c.args.column_indexes.now = omega (arith, turn.0, c.loop-cell.invariant.column, c.requires.width) in
-    kind-next c.args.column_indexes.now c.args.row c.loop-cell.column (length c.loop-cell.yielded) (column_index.Number 0) c.in-Some.cell c.requires.of_kinds c.loop-cell.invariant.column within turn
+    let row = c.into_cells-cells.result.items in
+    let is : row ≡ c.args.row = c.into_cells-cells.ensures.cells in
+    let n = c.loop-column.column in
+    let cell = c.replace-cell.result in
+    let below : n < length row = omega (arith, c.loop-column-test.true, c.len.ensures) in
+    let within : n < length c.args.column_indexes.now = omega (arith, below, ap length is, c.requires.width) in
+    let read : cell ≡ get_or row n cell = c.replace-cell.ensures.value ∙ same-next c.loop-column.cells.items row n cell c.loop-column.invariant.rest in
+    kind-next c.args.column_indexes.now row n n (column_index.Number 0) cell (rw is c.requires.of_kinds) refl within (below, read)
 
 pub put-requires-clause-short : goal.put-requires-clause-short
 put-requires-clause-short c =
-    let turn = YieldsList-turn (YieldsList-from_vec c.args.row (cc) (cc)) c.loop-cell.yielded c.loop-cell.cell-iterator c.loop-cell.yielded_by c.next.result c.next.new.self c.in-Some.cell c.in-Some.is c.next.ensures.steps in
-    ap is_too_long turn.1 ∙ short-at c.args.row (length c.loop-cell.yielded) c.in-Some.cell c.requires.short turn.0
+    let row = c.into_cells-cells.result.items in
+    let is : row ≡ c.args.row = c.into_cells-cells.ensures.cells in
+    let n = c.loop-column.column in
+    let cell = c.replace-cell.result in
+    let below : n < length row = omega (arith, c.loop-column-test.true, c.len.ensures) in
+    let within : n < length c.args.column_indexes.now = omega (arith, below, ap length is, c.requires.width) in
+    let read : cell ≡ get_or row n cell = c.replace-cell.ensures.value ∙ same-next c.loop-column.cells.items row n cell c.loop-column.invariant.rest in
+    ap is_too_long read ∙ short-at row n cell (rw is c.requires.short) below
 
-pub loop-cell-preserved : goal.loop-cell-preserved
-loop-cell-preserved c =
-    let turn = YieldsList-turn (YieldsList-from_vec c.args.row (cc) (cc)) c.loop-cell.yielded c.loop-cell.cell-iterator c.loop-cell.yielded_by c.next.result c.next.new.self c.in-Some.cell c.in-Some.is c.next.ensures.steps in
-    let within : c.loop-cell.column < length c.args.column_indexes.now = omega (arith, turn.0, c.loop-cell.invariant.column, c.requires.width) in
-    let values = c.loop-cell.self in
-    let cell = c.in-Some.cell in
-    let s = get_or c.args.column_indexes.now c.loop-cell.column (column_index.Number 0) in
-    let there = within-still c.loop-cell.self c.args.self.now c.args.column_indexes.now c.loop-cell.column (column_index.Number 0) c.requires.column_indexes.within within c.loop-cell.invariant.numbers c.loop-cell.invariant.texts in
-    let of_kind = kind-next c.args.column_indexes.now c.args.row c.loop-cell.column (length c.loop-cell.yielded) (column_index.Number 0) c.in-Some.cell c.requires.of_kinds c.loop-cell.invariant.column within turn in
+pub loop-column-preserved : goal.loop-column-preserved
+loop-column-preserved c =
+    let row = c.into_cells-cells.result.items in
+    let is : row ≡ c.args.row = c.into_cells-cells.ensures.cells in
+    let n = c.loop-column.column in
+    let cell = c.replace-cell.result in
+    let below : n < length row = omega (arith, c.loop-column-test.true, c.len.ensures) in
+    let within : n < length c.args.column_indexes.now = omega (arith, below, ap length is, c.requires.width) in
+    let read : cell ≡ get_or row n cell = c.replace-cell.ensures.value ∙ same-next c.loop-column.cells.items row n cell c.loop-column.invariant.rest in
+    let values = c.loop-column.self in
+    let s = get_or c.args.column_indexes.now n (column_index.Number 0) in
+    let there = within-still values c.args.self.now c.args.column_indexes.now n (column_index.Number 0) c.requires.column_indexes.within within c.loop-column.invariant.numbers c.loop-column.invariant.texts in
+    let of_kind = kind-next c.args.column_indexes.now row n n (column_index.Number 0) cell (rw is c.requires.of_kinds) refl within (below, read) in
     record {
-      column = omega (arith, length_push c.loop-cell.yielded cell);
-      row = ap (row_of (take (c.loop-cell.column + 1) c.args.column_indexes.now)) c.put.ensures
-          ∙ row-more values c.args.column_indexes.now c.loop-cell.column (column_index.Number 0) cell c.requires.column_indexes.once within there of_kind
-          ∙ ap (λ cells. cells ++ cell ∷ []) c.loop-cell.invariant.row;
-      numbers = ap (λ (v : Values). length v.numbers) c.put.ensures ∙ numbers-kept values s cell ∙ c.loop-cell.invariant.numbers;
-      texts = ap (λ (v : Values). length v.texts) c.put.ensures ∙ texts-kept values s cell ∙ c.loop-cell.invariant.texts;
+      row = ap (row_of (take (n + 1) c.args.column_indexes.now)) c.put.ensures
+          ∙ row-more values c.args.column_indexes.now n (column_index.Number 0) cell c.requires.column_indexes.once within there of_kind
+          ∙ taken-more row _ n cell below read c.loop-column.invariant.row;
+      rest = same-later c.loop-column.cells.items row n _ _ c.loop-column.invariant.rest;
+      long = length-set _ n _ ∙ length-set c.loop-column.cells.items n _ ∙ c.loop-column.invariant.long;
+      numbers = ap (λ (v : Values). length v.numbers) c.put.ensures ∙ numbers-kept values s cell ∙ c.loop-column.invariant.numbers;
+      texts = ap (λ (v : Values). length v.texts) c.put.ensures ∙ texts-kept values s cell ∙ c.loop-column.invariant.texts;
     }
 
 pub returns-clause-row : goal.returns-clause-row
 returns-clause-row c =
-    let done = YieldsList-end (YieldsList-from_vec c.args.row (cc) (cc)) c.loop-cell.yielded c.loop-cell.cell-iterator c.loop-cell.yielded_by c.next.result c.next.new.self c.in-None.is c.next.ensures.steps in
-    let all = take_all c.loop-cell.column c.args.column_indexes.now (omega (arith, done.1)) in
-    ap (λ ts. row_of ts c.loop-cell.self) (sym all) ∙ c.loop-cell.invariant.row ∙ sym (map-id c.loop-cell.yielded) ∙ done.0
+    let row = c.into_cells-cells.result.items in
+    let is : row ≡ c.args.row = c.into_cells-cells.ensures.cells in
+    let n = c.loop-column.column in
+    let all = take_all n c.args.column_indexes.now (omega (arith, c.loop-column-test.false, c.len.ensures, ap length is, c.requires.width)) in
+    let whole = take_all n row (omega (arith, c.loop-column-test.false, c.len.ensures)) in
+    ap (λ ts. row_of ts c.loop-column.self) (sym all) ∙ c.loop-column.invariant.row ∙ whole ∙ is
